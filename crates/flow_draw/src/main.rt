@@ -1,5 +1,5 @@
-//! Draws a flow script from standard input to standard output: `flow_draw [--text | --explain]`. Why one is refused is told on
-//! standard error, too.
+//! Draws a flow script from standard input to standard output: `flow_draw [--text | --explain]`. Explains on standard
+//! error why a script is refused.
 #![tactic(auto)]
 
 use flow_script::Watched;
@@ -8,7 +8,7 @@ use std::env::args;
 use std::io;
 use std::process::ExitCode;
 
-/// The arguments without the program's name.
+/// Returns the arguments without the program's name.
 fn arguments(rt: &HostRuntime) -> io::Result<Vec<String>> {
     let words = args(rt)?.skip(1).collect(rt.alloc())?;
     Ok(words)

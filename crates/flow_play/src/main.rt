@@ -1,4 +1,4 @@
-//! Plays a flow script from standard input to standard output, or lets threads run: `flow_play [crowd E S N | count T N]`.
+//! Plays a flow script from standard input to standard output, or runs threads: `flow_play [crowd E S N | count T N]`.
 #![tactic(auto)]
 
 use flow_program::{refuse_arguments, run};
@@ -7,7 +7,7 @@ use std::env::args;
 use std::io;
 use std::process::ExitCode;
 
-/// The arguments without the program's name.
+/// Returns the arguments without the program's name.
 fn arguments(rt: &HostRuntime) -> io::Result<Vec<String>> {
     let words = args(rt)?.skip(1).collect(rt.alloc())?;
     Ok(words)

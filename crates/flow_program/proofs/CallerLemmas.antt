@@ -27,7 +27,7 @@ flat-append : {X Y : Type 0} (f : X → List Y) (xs ys : List X) → flat_map f 
 flat-append f [] ys = refl
 flat-append f (x ∷ xs) ys = ap (λ l. f x ++ l) (flat-append f xs ys) ∙ sym (append_assoc (f x) (flat_map f xs) (flat_map f ys))
 
--- one number more in a row
+-- one more number in a row
 pub numbers_more : (first n : ℕ) → numbers_from first (n + 1) ≡ numbers_from first n ++ (first + n) ∷ []
 numbers_more first n = let e : n + 1 ≡ suc n = omega arith in ap (numbers_from first) e
 
@@ -84,7 +84,7 @@ module _ {T : Type 0} where
     pub reads_empty : AddsOne IsHistory before (call.TakeNext u) (reply.Received Empty) after → Reads u [] before after
     reads_empty a = (said (call.TakeNext u) (reply.Received Empty) ∷ [], made_one IsHistory before after (call.TakeNext u) (reply.Received Empty) a, (refl, tt), refl)
 
-  -- ---- what such calls are not
+  -- ---- what these calls do not do
 
   ends_nothing : (c : SharedCall T) → IsEmitting c → EndsNothing c
   ends_nothing (call.TryEmit v) is = absurd is

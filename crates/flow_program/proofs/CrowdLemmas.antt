@@ -73,7 +73,7 @@ subscribing_gives_nothing call.ReplayCache r is = absurd is
 subscribing_gives_nothing call.ResetReplayCache r is = absurd is
 subscribing_gives_nothing call.SubscriptionCount r is = absurd is
 
--- what an emitter did, of its i-th place and with so many values
+-- the calls and the name of the i-th emitter, which emits n values
 emitter_did : (i n : ℕ) (k : Knowledge (Says ℕ)) (e : HasEmitted n i k) → done_by k ≡ e.0
 emitter_did i n k e = e.1.done
 
@@ -83,7 +83,7 @@ emitter_name i n k e = e.1.name ∙ ap (child_name []) (let z : 0 + i + 1 ≡ su
 emitter_gave : (i n : ℕ) (k : Knowledge (Says ℕ)) → HasEmitted n i k → accepted (done_by k) ≡ numbers_from (i * n) n
 emitter_gave i n k e = ap accepted (emitter_did i n k e) ∙ e.3
 
--- what is within the values of one of the emitters
+-- the values that an event gives to the flow, as far as they are those of the i-th emitter
 abbrev gives_within : ℕ → ℕ → Says ℕ → List ℕ
 gives_within i n e = filter (is_within (i * n) n) (gives e)
 

@@ -67,7 +67,7 @@ module _ {Z : Type 0} (size : CrowdSize) (flow : Origin (SharedFlowState ℕ)) (
   read n i d v e l = subst (λ m. HasRead (done_by now) (m + i) (get_or rs i d).subscription.number (got_at i v) (get_or rs-after i d).subscription.token.knows) (sym e)
       (has_read (done_by now) (size.emitters + i) (get_or rs i d).subscription (got_at i v) (get_or rs-after i d).subscription.token.knows (made.subscriber i d l).1 (taken i d v l).2)
 
-  -- what the callers of a crowd show once they have met
+  -- what each subscriber got, once all callers of a crowd have met
   pub each_got_all : flow.first.config.overflow ≡ Suspend → 0 < flow.first.config.replay + flow.first.config.extra
       → HasClosedHistory shared_flow flow.first (now ∷ (map (λ (c : Caller). c.token.knows) es-after ++ map (λ (r : Subscriber). r.subscription.token.knows) rs-after))
       → (i : ℕ) (v : Vec ℕ Z) → i < size.subscribers → GotAll size (got_at i v)

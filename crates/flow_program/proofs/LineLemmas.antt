@@ -1,4 +1,4 @@
--- The values that a flow accepted, in a closed history: what each subscriber received of them, and what each emitter gave.
+-- The values that a flow accepted, in a closed history: which of them each subscriber received, and which each emitter gave.
 use Rattle.std.proofs.Common.{inl, inr, ◌≡◌, ◌⊎◌, ⊎_elim, ℕ, ◌+◌, ◌<◌, ◌≤◌, List, [], ◌∷◌, length, map, refl, sym, ap, ◌∙◌, subst, arith, length-append}
 use Rattle.std.specs.Prelude.{flat_map}
 use Rattle.std.specs.List.{AllByRecursion}
@@ -33,18 +33,18 @@ module _ {T : Type 0} where
   abbrev accepted_in : Says T → List T
   accepted_in e = accepted_by e.call e.reply
 
-  -- none of the tokens has ended anything
+  -- no token has ended a subscription or an emission
   abbrev pub NoneEnded : List (Knowledge (Says T)) → Type 0
   NoneEnded = AllByRecursion (λ (k : Knowledge (Says T)). AllByRecursion (λ (e : Says T). EndsNothing e.call) (done_by k))
 
   module _ (ks : List (Knowledge (Says T))) (h : History T) (all : AreAll ks) (closed : IsClosed h ks) where
-    -- as many values as the tokens gave
+    -- the flow accepted as many values as the tokens gave
     pub line_length : length (line h) ≡ total (λ (k : Knowledge (Says T)). length (accepted (done_by k))) ks
     line_length = flat_length accepted_in (map (λ e. e.what) h) ∙ total_map (λ (e : Says T). length (accepted_in e)) (λ (e : HistoryEvent (Says T)). e.what) h
         ∙ (all_done ks h all closed).sums (λ (e : Says T). length (accepted_in e))
         ∙ total_by (λ (k : Knowledge (Says T)). total (λ (e : Says T). length (accepted_in e)) (done_by k)) (λ (k : Knowledge (Says T)). length (accepted (done_by k))) (λ k. sym (flat_length accepted_in (done_by k))) ks
 
-    -- where all that the others did gives nothing, all that was done gives what this token did
+    -- if what the other tokens did gives nothing, all that was done gives what this token did
     pub from_one : (f : Says T → List T) (k : Knowledge (Says T)) → Accounts h k
         → AllByRecursion (λ (j : Knowledge (Says T)). (j.name ≡ k.name) ⊎ AllByRecursion (λ (e : Says T). f e ≡ []) (done_by j)) ks
         → flat_map f (map (λ e. e.what) h) ≡ flat_map f (done_by k)
@@ -58,7 +58,7 @@ module _ {T : Type 0} where
         every_same n [] same = tt
         every_same n (x ∷ xs) same = (inl same, every_same n xs same)
 
-    -- a subscriber that received as many values as the tokens gave received just these
+    -- a subscriber that received as many values as the tokens gave received exactly these
     pub got_all : (first : SharedFlowState T) → IsHistory shared_flow first h → first.config.overflow ≡ Suspend → 0 < first.config.replay + first.config.extra → NoneEnded ks
         → (maker reader : Knowledge (Says T)) (u : ℕ) → Accounts h maker → Accounts h reader → HasSubscribed reader.name u (done_by maker)
         → total (λ (k : Knowledge (Says T)). length (accepted (done_by k))) ks ≤ length (taken_by u (done_by reader)) → taken_by u (done_by reader) ≡ line h

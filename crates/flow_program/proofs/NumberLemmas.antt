@@ -1,4 +1,4 @@
--- Numbers in a row, and those of a list that are within a row.
+-- Numbers in a row, and the numbers of a list that are in a row.
 use Rattle.std.proofs.Common.{◌≡◌, ◌≢◌, ℕ, zero, suc, ◌+◌, ◌*◌, ◌<◌, ◌≤◌, leb, ltb, Bool, true, false, cond, arith, List, [], ◌∷◌, ◌++◌, refl, sym, ap, ◌∙◌}
 use Rattle.std.specs.Prelude.{flat_map, filter}
 use Rattle.std.specs.List.{AllByRecursion}
@@ -16,7 +16,7 @@ filter_yes p x e = ap (λ b. cond b (x ∷ []) []) e
 filter_no : {X : Type 0} (p : X → Bool) (x : X) → p x ≡ false → filter p (x ∷ []) ≡ []
 filter_no p x e = ap (λ b. cond b (x ∷ []) []) e
 
--- numbers that all pass, or none of them
+-- all numbers of a row pass a test, or none does
 all_pass : (p : ℕ → Bool) (a n : ℕ) → ((j : ℕ) → j < n → p (a + j) ≡ true) → filter p (numbers_from a n) ≡ numbers_from a n
 all_pass p a zero h = refl
 all_pass p a (suc n) h =
@@ -31,7 +31,7 @@ none_passes p a (suc n) h =
     ∙ ap (λ l. l ++ filter p ((a + n) ∷ [])) (none_passes p a n (λ j l. h j (omega arith)))
     ∙ filter_no p (a + n) (h n (omega arith))
 
--- a row is within itself
+-- all numbers of a row are in it
 pub own_row : (a n : ℕ) → filter (is_within a n) (numbers_from a n) ≡ numbers_from a n
 own_row a n = all_pass (is_within a n) a n (λ j l. and_from (leb a (a + j)) (ltb (a + j) (a + n)) (le-leb a (a + j) (omega arith)) (lt-ltb (a + j) (a + n) (omega arith)))
 
@@ -56,7 +56,7 @@ row_next k n = let z : suc k ≡ k + 1 = omega arith in let e : k * n + n ≡ su
 pub row_fits : (k n : ℕ) → k + 1 < 4294967296 → n < 4294967296 → k * n + n ≤ 18446744065119617025
 row_fits k n a b = let m : suc k * n ≤ 4294967295 * 4294967295 = mul-le (suc k) n 4294967295 4294967295 (omega arith) (omega arith) in let e : suc k * n ≡ n + k * n = omega arith in omega arith
 
--- what passes of lists that are joined
+-- what passes a test in lists that are joined
 pub filter_flat : {X Y : Type 0} (p : Y → Bool) (f : X → List Y) (xs : List X) → filter p (flat_map f xs) ≡ flat_map (λ x. filter p (f x)) xs
 filter_flat p f [] = refl
 filter_flat p f (x ∷ xs) = filter-append p (f x) (flat_map f xs) ∙ ap (λ l. filter p (f x) ++ l) (filter_flat p f xs)
@@ -65,7 +65,7 @@ left_empty : {X : Type 0} (xs ys : List X) → xs ++ ys ≡ [] → xs ≡ []
 left_empty [] ys e = refl
 left_empty (x ∷ xs) ys e = cc
 
--- where the whole is empty, so is each part
+-- if the whole is empty, so is each part
 pub each_empty : {X Y : Type 0} (f : X → List Y) (xs : List X) → flat_map f xs ≡ [] → AllByRecursion (λ x. f x ≡ []) xs
 each_empty f [] e = tt
 each_empty f (x ∷ xs) e = let h : f x ≡ [] = left_empty (f x) (flat_map f xs) e in

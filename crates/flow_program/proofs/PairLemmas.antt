@@ -22,7 +22,7 @@ use Rattle.flow_program.proofs.CallerLemmas.{emitting_ends_nothing, reading_ends
 use Rattle.flow_program.proofs.LineLemmas.{NoneEnded, from_one, got_all}
 
 module _ {T : Type 0} (first : SharedFlowState T) (suspends : first.config.overflow ≡ Suspend) (room : 0 < first.config.replay + first.config.extra) where
-  -- the emitter subscribed for the reader, and then sent xs; the reader got as many values
+  -- the emitter subscribed for the reader, and then sent xs; the reader, which got as many values, got these
   pub got_what_was_sent : (start between sender reader : Knowledge (Says T)) (u : ℕ) (xs got : List T) → start ≡ first_knowledge
       → AddsOne (IsHistory shared_flow first) start (call.Subscribe (child_name start.name (start.made + 1)) []) (reply.Subscribed u) between
       → Emits xs (makes between) sender → Reads u got (child between) reader → length got ≡ length xs → HasClosedHistory shared_flow first (sender ∷ reader ∷ []) → got ≡ xs

@@ -1,4 +1,4 @@
--- Lists by place: what holds at each place, of a list to which an element is added, and of what is left of one.
+-- Lists by place: what holds at each place after an element is added, and what is left after one is taken.
 use Rattle.std.proofs.Common.{◌≡◌, ℕ, zero, suc, ◌+◌, ◌*◌, ◌<◌, List, [], ◌∷◌, ◌++◌, length, get_or, map, refl, sym, ap, ◌∙◌, subst, arith, below_more}
 use Rattle.std.specs.List.{AllByRecursion}
 use Rattle.std.proofs.Math.ListN.{get_or-append}

@@ -1,5 +1,5 @@
--- In a history of a flow that suspends and has a buffer, in which no emission and no subscription was ended: a subscriber that
--- received as many values as the flow accepted received just these, in order.
+-- In a history of a flow that suspends and has a buffer, in which no emission and no subscription was ended, a subscriber that received as
+-- many values as the flow accepted received exactly these, in order.
 use Rattle.std.proofs.Common.{inl, inr, ◌≡◌, ◌≢◌, ◌⊎◌, ⊎_elim, ℕ, zero, suc, ◌+◌, ◌-◌, ◌<◌, ◌≤◌, false, ◌==◌, cond, List, [], ◌∷◌, ◌++◌, length, map, drop, Option, Some, None, refl, sym, ap, ◌∙◌, subst, arith, append-nil, length-append}
 use Rattle.std.specs.Prelude.{IsSome}
 use Rattle.std.specs.List.{AllByRecursion}
@@ -38,7 +38,7 @@ nothing : {A : Type 0} (xs : List A) → length xs ≡ 0 → xs ≡ []
 nothing [] e = refl
 nothing (x ∷ xs) e = absurd (omega arith)
 
--- what was received begins what is left of the emitted values, of which no more were accepted than received
+-- a subscriber received just the accepted values, if it received at least as many, and these begin the emitted values from k on
 whole_list : {T : Type 0} (got rest vs qs xs : List T) (k : ℕ) → got ++ rest ≡ drop k vs → vs ++ qs ≡ xs → length xs ≤ length got → got ≡ xs
 whole_list got rest vs qs xs k e f l =
     let a : length got + length rest ≡ length vs - k = sym (length-append got rest) ∙ ap length e ∙ length-drop k vs in
@@ -110,7 +110,7 @@ module _ {T : Type 0} where
   began_empty u s [] b ended is = is
   began_empty u s (e ∷ es) b ended is = began_empty u (after s e.what.call e.what.reply) es (began_by u s e.what.call e.what.reply b) ended.1 (began_step u s e.what.call e.what.reply b ended.0 is)
 
-  -- ---- a subscriber stays
+  -- ---- a subscriber stays subscribed
 
   abbrev Has : ℕ → SharedFlowState T → Type 0
   Has u s = IsSome (position_of u s.subscribers)
@@ -119,12 +119,12 @@ module _ {T : Type 0} where
   stays u s [] ended has = has
   stays u s (e ∷ es) ended has = stays u (after s e.what.call e.what.reply) es ended.1 (event_has u s e.what.call e.what.reply (λ is. subst EndsNothing is ended.0) has)
 
-  -- ---- who subscribed, and whose `next` it is
+  -- ---- which token subscribed, and which one calls `next`
 
   abbrev Found : List ℕ → List ℕ → ℕ → History T → Type 0
   Found k name u h = (before : History T) × (more : History T) × (h ≡ (before ++ event k (said (call.Subscribe name []) (reply.Subscribed u)) ∷ []) ++ more)
 
-  -- a call of a token is an event of the history
+  -- a `subscribe` of a token is an event of the history
   found : (k name : List ℕ) (u : ℕ) (h : History T) → HasSubscribed name u (said_by k h) → Found k name u h
   found k name u [] has = absurd has
   found k name u (e ∷ es) has = split (is_same_name k e.name) (λ b. HasSubscribed name u (cond b (e.what ∷ said_by k es) (said_by k es)) → Found k name u (e ∷ es))
@@ -153,7 +153,7 @@ module _ {T : Type 0} where
           subst (Has u) (sym (after_all-append shared_flow first begun f.1)) (stays u (after_all first begun) f.1 rest there),
         )
 
-  -- who calls `next` of a subscriber has its number
+  -- the token that calls `next` of a subscriber owns the subscriber's number
   speakers : (u : ℕ) (s : SharedFlowState T) (owners : List Owner) (h : History T) → UpTo ((shared_lawful {T = T}).issued s) owners → IsLegalFrom s h → IsOwned shared_flow owners h
       → AllByRecursion (λ (e : HistoryEvent (Says T)). e.what.call ≡ call.TakeNext u → owner_of (subscriber u) (owners_all shared_flow owners h) ≡ Some e.name) h
   speakers u s owners [] up legal owned = tt
@@ -197,7 +197,7 @@ module _ {T : Type 0} where
   abbrev pub line : History T → List T
   line h = accepted (map (λ e. e.what) h)
 
-  -- a subscriber that received as many values as the flow accepted received just these
+  -- a subscriber that received as many values as the flow accepted received exactly these
   module _ (first : SharedFlowState T) (h : History T) (is : IsHistory shared_flow first h) (suspends : first.config.overflow ≡ Suspend) (room : 0 < first.config.replay + first.config.extra) (ended : NothingEnded h) where
     pub received_all : (k name : List ℕ) (u : ℕ) → HasSubscribed name u (said_by k h) → length (line h) ≤ length (taken_by u (said_by name h)) → taken_by u (said_by name h) ≡ line h
     received_all k name u has enough =

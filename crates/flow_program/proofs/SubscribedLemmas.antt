@@ -27,7 +27,7 @@ module _ {T : Type 0} where
   subscribed_right name u [] ys has = has
   subscribed_right name u (x ∷ xs) ys has = inr (subscribed_right name u xs ys has)
 
-  -- the first seat, through which others were made before it did anything
+  -- a seat through which others were made before it did anything is the first seat, which has only subscribed
   pub begins_maker : (n : ℕ) (k : Knowledge (Says T)) → k ≡ makes_many n first_knowledge → IsMaker k
   begins_maker n k e = record { name = ap (λ (x : Knowledge (Says T)). x.name) e; did = subst (λ (x : Knowledge (Says T)). AllByRecursion (λ (e : Says T). IsSubscribing e.call) (done_by x)) (sym e) tt }
 
@@ -58,7 +58,7 @@ module _ {T : Type 0} where
           (inl (sym (λ i. said (call.Subscribe (child_name (subscribes.name i) (subscribes.made i + 1)) []) (reply.Subscribed u)))));
     }
 
-    -- what was subscribed before still is
+    -- a token that was subscribed before still is
     pub subscribed_still : {Id : Type 0} (n : ℕ) (s : NumberedToken Id (Says T)) → IsSubscribed (done_by k) n s → IsSubscribed (done_by (makes between)) n s
     subscribed_still n s is = record {
       name = is.name;
@@ -67,7 +67,7 @@ module _ {T : Type 0} where
       subscribed = subst (HasSubscribed s.token.knows.name s.number) (sym did_more) (subscribed_left s.token.knows.name s.number (done_by k) (sub ∷ []) is.subscribed);
     }
 
-  -- one more subscription, as the seat's call tells of it
+  -- one more subscription, by the contract of `subscribe`
   pub subscribed_next : {Id : Type 0} (first : SharedFlowState T) (before after : Token Id (Says T)) (s : NumberedToken Id (Says T)) → IsMaker before.knows
       → SubscribesIn shared_flow first shared_flow.subscribe before (Ok s) after
       → IsMaker after.knows × (after.knows.made ≡ before.knows.made + 1) × IsSubscribed (done_by after.knows) before.knows.made s

@@ -49,7 +49,7 @@ module _ {T : Type 0} (flow : Origin (SharedFlowState T)) where
   pub value_received : (v : T) (old new : Reader) → Receives shared_flow flow old (Ok v) new → Reads old.number (v ∷ []) old.token.knows new.token.knows × (new.number ≡ old.number)
   value_received v old new r = nexts_read r.0 v old new r.1
 
-  -- a seat that subscribed and then sent, and its subscription, which got as much
+  -- a seat that subscribed and then sent, and its subscription, which got as many values: it got what was sent
   pub handed_over : flow.first.config.overflow ≡ Suspend → 0 < flow.first.config.replay + flow.first.config.extra → (seat after : SharedToken T) (s : Reader) → seat.knows ≡ first_knowledge
       → Subscribes shared_flow flow shared_flow.subscribe seat (Ok s) after → (xs got : List T) (sender reader : Knowledge (Says T)) → Emits xs after.knows sender → Reads s.number got s.token.knows reader
       → length got ≡ length xs → HasClosedHistory shared_flow flow.first (sender ∷ reader ∷ []) → got ≡ xs

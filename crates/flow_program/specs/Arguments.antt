@@ -11,7 +11,7 @@ use Rattle.flow_program.specs.declared.crowd.size.CrowdSize.{CrowdSize}
 abbrev pub number_in : List ℕ → Option ℕ
 number_in text = cond (leb 1 (length text) && (leb (length text) 5 && all_ascii_digits text)) (Some (digits_value 10 text)) None
 
--- what the program is to do in place of playing a script
+-- what the program does instead of playing a script
 pub data Command : Type 0 where
   Crowd : CrowdSize → Command
   Count : Counting → Command
@@ -27,14 +27,14 @@ count_sized (Some threads) (Some updates) = count_size threads updates
 count_sized _ _ = None
 
 module _ {A : Type 0} where
-  -- `crowd` and three numbers
+  -- the crowd of the word `crowd` and three numbers
   abbrev pub crowd_of : List (String A) → Option CrowdSize
   crowd_of (command ∷ emitters ∷ subscribers ∷ values ∷ []) =
       cond (bytes_eq (string_bytes command) (codes "crowd"))
       (crowd_sized (number_in (string_bytes emitters)) (number_in (string_bytes subscribers)) (number_in (string_bytes values))) None
   crowd_of _ = None
 
-  -- `count` and two numbers
+  -- the count of the word `count` and two numbers
   abbrev pub count_of : List (String A) → Option Counting
   count_of (command ∷ threads ∷ updates ∷ []) =
       cond (bytes_eq (string_bytes command) (codes "count"))

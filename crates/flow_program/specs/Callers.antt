@@ -17,7 +17,7 @@ abbrev pub Says : Type 0 → Type 0
 Says T = Said (SharedCall T) (SharedReply T)
 
 module _ {T : Type 0} where
-  -- an emission, or a poll of one
+  -- the call is an emission, or a poll of one
   abbrev pub IsEmitting : SharedCall T → Type 0
   IsEmitting (call.Emit v) = Unit {0}
   IsEmitting (call.Poll e) = Unit {0}
@@ -27,19 +27,19 @@ module _ {T : Type 0} where
   abbrev pub taken_by : ℕ → List (Says T) → List T
   taken_by u = flat_map (λ (e : Says T). received_by u e.call e.reply)
 
-  -- the token has only emitted since: the flow accepted these values of it, in this order
+  -- from `before` to `after` the token has only emitted, and the flow accepted these values of it, in this order
   abbrev pub Emits : List T → Knowledge (Says T) → Knowledge (Says T) → Type 0
   Emits values before after =
       (added : List (Says T)) × Made added before after
       × AllByRecursion (λ (e : Says T). IsEmitting e.call) added × (accepted added ≡ values)
 
-  -- the token has only called `next` of the subscriber u since, which gave these values, in this order
+  -- from `before` to `after` the token has only called `next` of the subscriber u, which gave these values, in this order
   abbrev pub Reads : ℕ → List T → Knowledge (Says T) → Knowledge (Says T) → Type 0
   Reads u values before after =
       (added : List (Says T)) × Made added before after
       × AllByRecursion (λ (e : Says T). e.call ≡ call.TakeNext u) added × (taken_by u added ≡ values)
 
-  -- the calls have a `subscribe` for the token of this name, which got this number
+  -- the calls contain a `subscribe` for the token of this name, which got this number
   abbrev pub HasSubscribed : List ℕ → ℕ → List (Says T) → Type 0
   HasSubscribed name u [] = ⊥
   HasSubscribed name u (e ∷ es) =

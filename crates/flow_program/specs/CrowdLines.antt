@@ -7,16 +7,16 @@ use Rattle.flow_script.specs.Lines.{lined}
 use Rattle.flow_script.specs.Telling.{Tells, memory_line}
 use Rattle.flow_program.specs.Arguments.{Command, Crowd, Count}
 
--- the subscriber of this number got so many values, each emitter's in its order
+-- the line of a subscriber: its number, and how many values it got, each emitter's in its order
 abbrev pub subscriber_line : ℕ → ℕ → List ℕ
 subscriber_line number count = codes "subscriber " ++ (decimal number ++ (codes " got " ++ (decimal count ++ lined (codes " in order"))))
 
--- the lines of so many subscribers, of which the first has this number, and which got so many values each
+-- the lines of several subscribers, numbered from `number` on, each of which got `count` values
 abbrev pub subscriber_lines : ℕ → ℕ → ℕ → List ℕ
 subscriber_lines number zero count = []
 subscriber_lines number (suc n) count = subscriber_line number count ++ subscriber_lines (number + 1) n count
 
--- each subscriber, from 1, got all values in order; and how many values were emitted
+-- the lines of a crowd: each subscriber, from 1, got all values in order; and how many values were emitted
 abbrev pub crowd_lines : CrowdSize → List ℕ
 crowd_lines size =
     subscriber_lines 1 size.subscribers (size.emitters * size.values)
@@ -35,7 +35,7 @@ value_line value = lined (codes "value " ++ signed_decimal value)
 abbrev pub count_line : Counting → List ℕ
 count_line size = value_line (pos (size.threads * size.updates))
 
--- The line of the count was printed, with status 0; or the line of a refused allocation.
+-- The line of the count was printed, with status 0; or `out of memory` was printed.
 abbrev pub RunsCount : Counting → Bool → Option (List ℕ) → Option (List ℕ) → ℕ → Type 0
 RunsCount size failed old new answered =
     Tells failed old new (count_line size) 0 answered ⊎ Tells failed old new memory_line 4 answered

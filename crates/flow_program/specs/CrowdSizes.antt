@@ -2,7 +2,7 @@
 use Rattle.std.specs.Prelude.{ℕ, leb, ◌&&◌, cond, Option, Some, None}
 use Rattle.flow_program.specs.declared.crowd.size.CrowdSize.{CrowdSize}
 
--- 1 to 8 emitters, at most 8 subscribers, at most 10,000 values of each emitter
+-- the size of a crowd, if it has 1 to 8 emitters, at most 8 subscribers, and at most 10,000 values of each emitter
 abbrev pub crowd_size : ℕ → ℕ → ℕ → Option CrowdSize
 crowd_size emitters subscribers values =
     cond (leb 1 emitters && leb emitters 8 && leb subscribers 8 && leb values 10000)

@@ -21,18 +21,18 @@ use Rattle.flow_program.specs.Numbers.{numbers_from}
 
 -- ---- what a subscriber gets
 
--- the number is one of so many, from the first one on
+-- the number is one of the n numbers from the first one on
 abbrev pub is_within : ℕ → ℕ → ℕ → Bool
 is_within first n v = leb first v && ltb v (first + n)
 
--- as many values as all emitters emit, and of each emitter all that it emits, in its order
+-- the subscriber got as many values as all emitters emit, and of each emitter all that it emits, in its order
 pub record GotAll (size : CrowdSize) (got : List ℕ) : Type 0 where
   pub count : length got ≡ size.emitters * size.values
   -- of the j-th emitter, from 0
   pub in_order : (j : ℕ) → j < size.emitters →
       filter (is_within (j * size.values) size.values) got ≡ numbers_from (j * size.values) size.values
 
--- all of so many subscribers did
+-- each subscriber of the crowd got all values
 pub record EachGotAll {Z : Type 0} (size : CrowdSize) (got : Vec (Vec ℕ Z) Z) : Type 0 where
   pub count : vec_len got ≡ size.subscribers
   pub each : All (λ (list : Vec ℕ Z). GotAll size list.items) got.items
@@ -55,7 +55,7 @@ Caller = CallerOf TableId (SharedFlowState ℕ) (Says ℕ)
 abbrev pub Subscriber : Type 0
 Subscriber = ReaderOf TableId (SharedFlowState ℕ) (Says ℕ)
 
--- a subscription without first values
+-- the call is a subscription without first values
 abbrev pub IsSubscribing : {T : Type 0} → SharedCall T → Type 0
 IsSubscribing (call.Subscribe name first) = first ≡ []
 IsSubscribing _ = ⊥
@@ -86,11 +86,11 @@ module _ {T : Type 0} where
 abbrev pub HasEmitted : ℕ → ℕ → Knowledge (Says ℕ) → Type 0
 HasEmitted values i k = Emits (numbers_from (i * values) values) (nth_child i first_knowledge) k
 
--- the emitter is of this flow, and has emitted so many numbers, from the first one on, since its token knew this
+-- the emitter is one of this flow, and has emitted `count` numbers, from `first` on, since its token knew `before`
 abbrev pub HasSent : Origin (SharedFlowState ℕ) → ℕ → ℕ → Knowledge (Says ℕ) → Caller → Type 0
 HasSent flow first count before c = (c.flow ≡ flow) × Emits (numbers_from first count) before c.token.knows
 
--- the subscriber is of this flow, was this subscription, and has only read since, and got so many values: these
+-- the subscriber is one of this flow, has this subscription, and has only read since: it got these `count` values
 abbrev pub HasTaken : Origin (SharedFlowState ℕ) → ℕ → NumberedToken TableId (Says ℕ) → Subscriber → List ℕ → Type 0
 HasTaken flow count before r got =
     (r.flow ≡ flow) × (r.subscription.number ≡ before.number)
@@ -124,12 +124,12 @@ pub record HaveRun {Z : Type 0} (size : CrowdSize) (flow : Origin (SharedFlowSta
 
 -- ---- what the threads promise
 
--- to emit so many numbers, from the first one on, through this seat of the flow
+-- a promise to emit `count` numbers, from `first` on, through this seat of the flow
 abbrev pub WillEmit : TableId → Token TableId (Says ℕ) → ℕ → ℕ → EmitsAll → Type 0
 WillEmit flow seat first count p =
     (seat.table_id ≡ flow) × (p.seat.value ≡ seat) × (p.first ≡ first) × (p.count ≡ count)
 
--- to read so many values by this subscription of the flow
+-- a promise to read `count` values by this subscription of the flow
 abbrev pub WillRead : TableId → NumberedToken TableId (Says ℕ) → ℕ → ReadsAll → Type 0
 WillRead flow subscription count p =
     (subscription.token.table_id ≡ flow) × (p.subscription.value ≡ subscription) × (p.count ≡ count)

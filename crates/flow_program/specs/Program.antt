@@ -9,8 +9,8 @@ use Rattle.flow_script.specs.Telling.{Ends}
 abbrev pub usage_line : List ℕ
 usage_line = lined (codes "usage: flow_play [crowd E S N | count T N]")
 
--- A run without arguments: what `play` answered to the bytes that the reader had, and how the program then ends. Whether
--- the reader and the writer failed is known of both.
+-- A run without arguments: the outcome of `play` for the bytes of the reader, and how the program then ends. `read_failed` and
+-- `write_failed` say whether the reader and the writer failed.
 abbrev pub RunsScript : Option (List ℕ) → Bool → Bool → Option (List ℕ) → Option (List ℕ) → ℕ → Type 0
 RunsScript known read_failed write_failed old new answered =
     (outcome : Result (Unit {0}) ScriptFault) × (played : Option (List ℕ)) × Plays known old played outcome

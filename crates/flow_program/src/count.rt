@@ -1,4 +1,4 @@
-//! Threads that count by one state flow without a lock.
+//! Threads that count with one state flow, without a lock.
 ghost use Rattle.std.specs.Prelude.{◌≡◌, ◌*◌, pos, IfOk, IfErr};
 ghost use Rattle.flow_word.specs.Updating.{HasUpdated, plus_one};
 
@@ -11,7 +11,7 @@ use std::alloc::Global;
 use std::sync::Wait;
 use std::thread::{Threads, for_each_mut};
 
-/// Makes so many updates by one.
+/// Adds one to the value, `updates` times.
 fn count_up<R: Wait>(rt: &R, caller: &mut WordSetter<'_, i64>, updates: u32)
     ensures { HasUpdated plus_one updates caller.old caller.new }
 {
@@ -20,8 +20,8 @@ fn count_up<R: Wait>(rt: &R, caller: &mut WordSetter<'_, i64>, updates: u32)
     }
 }
 
-/// Lets threads update a new state flow by one, all at once (`MutableStateFlow.update`), and returns the value once they have
-/// ended: no update is lost. Another thread does the part of one that cannot be made. `OutOfMemory` comes before they begin.
+/// Runs threads that add one to a new state flow, all at once (`MutableStateFlow.update`), and returns the final value:
+/// no update is lost. If a thread cannot be made, another does its part. If memory is refused, no thread has begun.
 pub fn run_count<R: Threads + Wait + Sync>(
     rt: &R,
     alloc: Global,

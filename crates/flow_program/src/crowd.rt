@@ -1,17 +1,18 @@
-//! Threads at one shared flow: several emit into it, and several subscribers, each in a thread of its own, read all that was
-//! emitted. The callers are made, then their threads, and in the end all callers meet.
+//! Threads at one shared flow: several emit into it, and several subscribers, each in a thread of its own, read all
+//! that was emitted. The callers are made first, then their threads; at the end all callers meet.
 //!
 //! # What is proved
-//! If `run_crowd` returns what its subscribers got, each of them got all values of all emitters, each emitter's in its order,
-//! whatever the schedule was. Nothing is said of the order between two emitters. If `run_pair` returns what one thread received
-//! of another, that is what was sent, whole and in order.
+//! If `run_crowd` returns what its subscribers got, each of them got all values of all emitters, each emitter's in its
+//! order, for every schedule. Nothing is said of the order between two emitters. If `run_pair` returns what one thread
+//! received from another, that is what was sent, whole and in order.
 //!
-//! Under `BufferOverflow.SUSPEND` no subscriber loses a value. Each thread proves what it did itself; once all callers have
-//! met twice, that is all that was done, and the laws of the flow give the rest.
+//! Under `BufferOverflow.SUSPEND` no subscriber loses a value. Each thread proves what it did itself. After all callers
+//! have met twice, that is all that was done, and the laws of the flow give the rest.
 //!
 //! # Stopping
-//! All subscribe before a thread starts, and those that emit start first. If a thread cannot be made, the subscribers without
-//! one are dropped: no emitter waits for them, the threads that were made end, and the answer is out of memory.
+//! All subscribe before a thread starts, and the threads that emit start first. If a thread cannot be made, the
+//! subscribers without one are dropped: no emitter waits for them, the threads that were made end, and the call returns
+//! `OutOfMemory`.
 ghost use Rattle.std.specs.Prelude.{◌≡◌, All, IfErr, IfOk, IfSome, vec_len};
 ghost use Rattle.flow_program.specs.Crowds.{EachGotAll, GotAll, IsNewFlow};
 
@@ -36,7 +37,7 @@ use std::thread;
 use std::thread::{Scope, Threads};
 
 /// Runs a crowd in a scope, through the first seat of its flow. All subscribe before any thread starts, and all callers
-/// meet once their threads have ended.
+/// meet after their threads have ended.
 fn run_in<'s, E, R: Threads + Wait + Sync>(
     rt: &'s R,
     alloc: Global,
@@ -96,10 +97,11 @@ fn at_new_flow<R: Threads + Wait + Sync>(
 /// Runs a crowd at a new shared flow with no replay and room for 16 values, whose emitters wait for the slowest
 /// subscriber (`BufferOverflow.SUSPEND`). Returns what each subscriber got.
 ///
-/// The subscriptions are made before any emitter emits. Emitter i, from 0, emits `values` numbers, from `i * values` on,
-/// in order; each subscriber reads until it has as many values as all emit. The call waits until all threads have ended.
+/// The subscriptions are made before any emitter emits. Emitter i, from 0, emits `values` numbers, from `i * values`
+/// on, in order. Each subscriber reads until it has as many values as all emit. The call waits until all threads have
+/// ended.
 ///
-/// Each subscriber got all values of all emitters, each emitter's in its order, whatever the schedule was.
+/// Each subscriber got all values of all emitters, each emitter's in its order, for every schedule.
 ///
 /// # Errors
 /// `OutOfMemory` if there is no memory, or a thread could not be made. What was emitted by then is lost.

@@ -6,7 +6,7 @@ ghost use Rattle.flow_program.specs.CrowdLines.{crowd_lines, subscriber_line, su
 use crate::crowd::CrowdSize;
 use std::alloc::{AllocError, Global};
 
-/// Returns what each subscriber got, by its number from 1, and how many values were emitted.
+/// Returns the lines of a crowd: what each subscriber got, numbered from 1, and how many values were emitted.
 pub fn crowd_text(alloc: Global, got: &[Vec<u64>], size: CrowdSize) -> Result<String, AllocError>
     requires subscribers { length got.now ≡ size.subscribers }
     requires got { All (λ list. GotAll size list.items) got.now }
@@ -19,7 +19,8 @@ pub fn crowd_text(alloc: Global, got: &[Vec<u64>], size: CrowdSize) -> Result<St
     Ok(text)
 }
 
-/// Adds a line for each subscriber, from number 1 on. Each line ends with `in order`: `run_crowd` returns no other lists.
+/// Adds a line for each subscriber, from number 1 on. Each line ends with `in order`, since `run_crowd` returns no
+/// other lists.
 fn add_subscribers(text: &mut String, got: &[Vec<u64>], size: CrowdSize) -> Result<(), AllocError>
     requires { All (λ list. GotAll size list.items) got.now }
     ensures { OnOk result (string_bytes text.new

@@ -1,19 +1,19 @@
 //! The program `flow_play` over any reader and writer: its arguments, what it prints, and its status.
 //!
-//! `run` plays the script that is read, or lets threads run where the arguments say so. Another
-//! program, or a test, calls it with a reader and a writer of its own.
+//! `run` reads and plays a script, or runs threads if the arguments say so. Another program, or a test, calls it with a
+//! reader and a writer of its own.
 //!
-//! The threads are those of `run_crowd`, which emit and read through one shared flow, and those of `run_count`, which count
-//! by one state flow without a lock.
+//! The threads are those of `run_crowd`, which emit and read through one shared flow, and those of `run_count`, which
+//! count with one state flow, without a lock.
 //!
 //! # What is proved of the threads
 //! `run_crowd` and `run_pair`: each subscriber got what all emitters sent, each emitter's values in their order.
 //!
-//! `run_count`: no update is lost. If it returns a value, that is the number of updates that all threads made. The proof uses
-//! the contracts of `WordSetter` alone: each thread proves what it did itself, and because all seats are known, what they did
-//! is all that was done.
+//! `run_count`: no update is lost. If it returns a value, that is the number of updates that all threads made. The
+//! proof uses only the contracts of `WordSetter`: each thread proves what it did itself, and because all seats are
+//! known, what they did is all that was done.
 //!
-//! All of this holds whatever the schedule was.
+//! All of this holds for every schedule.
 #![tactic(auto)]
 
 mod command;

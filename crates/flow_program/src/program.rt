@@ -1,4 +1,4 @@
-//! The program over any reader and writer: what it prints beside a script's lines, and its status.
+//! The program over any reader and writer: what it prints apart from a script's lines, and its status.
 ghost use Rattle.std.specs.Prelude.{◌≡◌, ◌≢◌, false, IfOk, IfSome, None, length, string_bytes};
 ghost use Rattle.flow_script.specs.Telling.{Tells, memory_line};
 ghost use Rattle.flow_script.specs.Watching.{inner_of, has_failed};
@@ -16,13 +16,14 @@ use std::io::{ErrorKind, Read, Write};
 use std::sync::Wait;
 use std::thread::Threads;
 
-/// The script was played.
+/// The status if the script was played.
 const PLAYED: u8 = 0;
 
 /// How the program is called.
 const USAGE: &str = "usage: flow_play [crowd E S N | count T N]\n";
 
-/// Says why the arguments were not read: out of memory, or else that they are wrong.
+/// Reports that the arguments were not read: prints `out of memory`, or else how the program is called, and returns the
+/// status.
 pub fn refuse_arguments<W: Write>(output: &mut Watched<W>, kind: ErrorKind) -> u8
     requires { has_failed output.old ≡ false }
     ensures memory { kind ≡ ErrorKind.OutOfMemory → Tells (has_failed output.new)
@@ -33,7 +34,7 @@ pub fn refuse_arguments<W: Write>(output: &mut Watched<W>, kind: ErrorKind) -> u
     tell_arguments(output, kind, USAGE)
 }
 
-/// Returns the lines of a crowd that has run. `None` if memory or a thread is refused.
+/// Runs a crowd, and returns its lines. `None` if memory or a thread is refused.
 fn crowd_lines<H: Threads + Wait + Sync>(rt: &H, alloc: Global, size: CrowdSize) -> Option<String>
     ensures { IfSome result (λ lines. string_bytes lines ≡ crowd_lines size) }
 {
@@ -58,7 +59,7 @@ fn tell_crowd<H: Threads + Wait + Sync, W: Write>(
     }
 }
 
-/// Returns the line of a count that has run. `None` if memory is refused.
+/// Runs a count, and returns its line. `None` if memory is refused.
 fn count_line<H: Threads + Wait + Sync>(rt: &H, alloc: Global, size: CountSize) -> Option<String>
     ensures { IfSome result (λ line. string_bytes line ≡ count_line size) }
 {
@@ -74,7 +75,7 @@ fn value_line(alloc: Global, value: i64) -> Result<String, AllocError>
     Ok(line)
 }
 
-/// Lets threads count, and prints the value that they left.
+/// Runs a count, and prints the value after the threads have ended.
 fn tell_count<H: Threads + Wait + Sync, W: Write>(
     rt: &H,
     alloc: Global,
@@ -91,7 +92,7 @@ fn tell_count<H: Threads + Wait + Sync, W: Write>(
     }
 }
 
-/// Plays the script that is read, and answers the program's status.
+/// Reads a script and plays it, and returns the program's status.
 fn play_script<R: Read, W: Write>(
     alloc: Global,
     input: &mut Watched<R>,
@@ -109,11 +110,12 @@ fn play_script<R: Read, W: Write>(
     }
 }
 
-/// Plays the script that is read, or runs the crowd or the count that the arguments name, and answers the program's
-/// status. The arguments, without the program's name, are looked at before anything is read.
+/// Reads and plays a script, or runs the crowd or the count that the arguments name, and returns the program's status.
+/// The arguments do not include the program's name. If there are any, nothing is read.
 ///
 /// 0: the script was played, or the threads ran; 2: the script or the arguments were refused; 3: a read or a write
-/// failed; 4: out of memory or of threads. Every line goes to `output`. After a write that failed no line is printed.
+/// failed; 4: out of memory or of threads. Every line is written to `output`. After a write that failed no line is
+/// printed.
 pub fn run<H: Threads + Wait + Sync + AllocGlobal, R: Read, W: Write>(
     rt: &H,
     args: &[String],

@@ -1,4 +1,4 @@
--- What holds of shared flows and of state flows, so that scripts play on them alike.
+-- What holds of both shared flows and state flows, so that scripts play on them in the same way.
 use Rattle.std.proofs.Common.{◌≡◌, ℕ, ℤ, List, [], Bool, true, false, None, refl}
 use Rattle.flow_law.specs.declared.fault.FlowFault.{FlowFault}
 use Rattle.flow_law.specs.declared.fault.FlowFault.TheVariants.{OutOfMemory}

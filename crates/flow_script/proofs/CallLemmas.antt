@@ -11,7 +11,7 @@ use Rattle.flow_script.specs.Numbers.{Numbers}
 use Rattle.flow_script.specs.Refusals.{AnswersRefusal}
 
 module _ {K S C R : Type 0} (kind : Kind ℤ S C R) (played : Played S C R) (Stands : K → S → Type 0) (answers : HasAnswers kind played) where
-  -- a call that was told is the documented one
+  -- a call whose reply a line reports is the documented one
   pub tells : (step : FlowStep) (o : Option C) (call : C) (reply : R) (old new : K) (n m : Numbers) (answer : Answer) → o ≡ Some call
       → Documents kind Stands old call reply new → IsAnswer kind played answers.is_told call reply answer → m ≡ with_number step (given kind played call reply) n
       → (s : S) → Stands old s →
@@ -26,7 +26,7 @@ module _ {K S C R : Type 0} (kind : Kind ℤ S C R) (played : Played S C R) (Sta
         sym is.1 ∙ ap (played.answer call) same,
       )
 
-  -- the answer of a refused call is its documented one
+  -- the answer of a call that is refused is the documented one
   pub refuses : (call : C) (fault : FlowFault) (answer : Given) → AnswersRefusal fault answer → IsAnswer kind played answers.is_told call (kind.refused fault) (answer_of answer)
   refuses call fault answer is =
       let told = answers.refused call fault is.0 in

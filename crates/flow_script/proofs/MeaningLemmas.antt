@@ -1,4 +1,4 @@
--- What was read is what the reader had, as far as the meaning goes.
+-- The bytes that were read have the meaning of all that the reader had.
 use Rattle.std.proofs.Common.{◌≡◌, ℕ, ◌<◌, ◌≤◌, true, false, nat_lt, if◌then◌else◌, List, [], ◌++◌, length, take, Option, Some, None, Result, Ok, Err, refl, sym, ap, subst, ◌∙◌, append-nil, length-append, arith}
 use Rattle.std.specs.Prelude.{IfSome, IfErr, OnOk, OnErr}
 use Rattle.std.specs.Io.KnownBytes.{Consumes, Appends, Keeps, IsAtEnd}
@@ -16,7 +16,7 @@ below n lt = grind (arith, nat_tests)
 too_long : (bytes : List ℕ) → most_bytes < length bytes → read_script bytes ≡ Err (TooLarge 0)
 too_long bytes long = ap (λ t. if t then Err (TooLarge 0) else result_then script_of (json_of bytes)) (below (length bytes) long)
 
--- either all was read, or both are too long
+-- either all bytes were read, or both are too long
 same_script : (input bytes rest : List ℕ) → input ≡ bytes ++ rest → (length bytes ≤ most_bytes → rest ≡ []) → read_script input ≡ read_script bytes
 same_script input bytes rest whole end =
     elim (nat_lt most_bytes (length bytes)) as (λ t. nat_lt most_bytes (length bytes) ≡ t → read_script input ≡ read_script bytes) [
@@ -68,7 +68,7 @@ plays_refused known left old bytes (UnknownName at) taken end is = (meant known 
 plays_refused known left old bytes (DuplicateName at) taken end is = (meant known left bytes _ taken end is, keeps_same old)
 plays_refused known left old bytes (TooLarge at) taken end is = (meant known left bytes _ taken end is, keeps_same old)
 
--- all of the text was written, or its front
+-- all of the text was written, or a first part of it
 pub plays_written : (known left old new : Option (List ℕ)) (bytes text : List ℕ) (r : Result (Unit {0}) ScriptFault) → Consumes known left bytes → (length bytes ≤ most_bytes → IsAtEnd left)
     → meaning bytes ≡ Ok text → OnOk r (Appends old new text) → OnErr r ((count : ℕ) × Appends old new (take count text)) → IfErr r (λ fault. fault ≡ WriteFailed) → Plays known old new r
 plays_written known left old new bytes text (Ok u) taken end is whole front fault = plays_ok known left old new bytes text taken end is whole

@@ -51,7 +51,7 @@ hub-follows step old new n m answer follows same p shows =
       did.2,
     )
 
--- a subscription with own first values that the flow does not have: nothing changes
+-- a subscription with first values on a flow that does not allow it changes nothing
 pub others-follow : (first : List ℤ) (player : KeptPlayer) (n : Kept) (answer : Given) → ((core : SharedCore ℤ Global) → player ≡ Shared core → ⊥)
     → answer_of answer ≡ not_allowed → Follows Shows (player_subscribes_with first) player player n n answer
 others-follow first (Shared core) n answer other is p shows = absurd (other core refl)

@@ -66,7 +66,7 @@ follows-past play i kept answer past is row shows =
     let over = λ (p : Option PlayedFlow). ShowsRow kept (set row i (place_turn play p).after) × (answer_of answer ≡ (place_turn play p).answer) in
     subst over (sym (none-past kept row i shows past)) (subst (λ r. ShowsRow kept r) (sym (set-past kept row i None shows past)) shows, is)
 
--- where what was answered so far and what the rest will answer is all, so it is one step later
+-- if the answers so far and those of the rest are all answers, so are they after one more step
 pub next_answers : (row : List (Option PlayedFlow)) (step : Step) (before after : List Step) (old new : List Told) (told : Told) (all : List Answer) → before ≡ step ∷ after → new ≡ old ++ told ∷ []
     → answer_of told.answer ≡ (turn (action_of step) row).answer → map said_of old ++ answers_from row (actions_of before) ≡ all
     → map said_of new ++ answers_from (turn (action_of step) row).after (actions_of after) ≡ all
@@ -88,7 +88,7 @@ adds-made name head kept new player k before made begins pushed row shows =
       λ rest. ap (λ r. after_refusals before (with_flow name r rest row)) made.1,
     )
 
--- refusals that come one after the other
+-- refusals before further refusals
 refusals-assoc : (before more : List NotMade) (rest : Answers) → after_refusals before (after_refusals more rest) ≡ after_refusals (before ++ more) rest
 refusals-assoc before more rest = ap (λ l. record rest { not_made = l }) (sym (append_assoc before more rest.not_made))
 

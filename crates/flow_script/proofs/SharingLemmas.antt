@@ -48,7 +48,7 @@ abbrev pub chained : {H : Type 0} → ChainRun ℤ → ChainRun ℤ → H → Ch
 chained whole rest hub = record { whole = whole; rest = rest; hub = hub }
 
 module _ {H F : Type 0} (Stands : H → F → Type 0) where
-  -- a sharing that was just made is the documented one before any turn
+  -- a sharing that was just made stands for the documented one before any turn
   pub begun : (sharing : Sharing ScriptChain H ℤ) (started : Started) (run : ChainRun ℤ) (f : F) → HasObserved started sharing [] → state_of sharing ≡ at_rest
       → both_of sharing ≡ record { whole = run; rest = run; hub = sharing.hub } → Stands sharing.hub f → ShowsSharing Stands sharing (first_sharing run started f)
   begun sharing started run f nothing rests is stands = record {
@@ -61,7 +61,7 @@ module _ {H F : Type 0} (Stands : H → F → Type 0) where
 -- ---- a turn
 
 module _ {H F : Type 0} (does : (c : HubCall ℤ) → H → HubAnswer c → H → Type 0) (waits : H → Bool) (Stands : H → F → Type 0) (reply : (c : HubCall ℤ) → F → After (HubAnswer c) F) where
-  -- a turn of a sharing that is shown is the documented turn
+  -- a turn of a sharing that stands for a documented one is the documented turn
   pub turned : (now : ℕ) (n : Numbers) (result : Result Report ShareFault) (old new : Sharing ScriptChain H ℤ) (p : SharingPlay F)
       → ShowsSharing Stands old p → TurnsAsDocumented does waits Stands reply
       → ((started : Started) (seen : List SharingObservation) → HasObserved started old seen

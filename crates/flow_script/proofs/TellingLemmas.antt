@@ -1,18 +1,18 @@
--- How a fault is told.
+-- How a program reports a fault.
 use Rattle.std.proofs.Common.{◌≡◌, ◌≢◌, ◌⊎◌, ℕ, Bool, false, List, Option, Err, refl, inl, inr}
 use Rattle.script_chain_format.specs.declared.reading.fault.ScriptFault.{ScriptFault}
 use Rattle.script_chain_format.specs.declared.reading.fault.ScriptFault.TheVariants.{OutOfMemory, ReadFailed, WriteFailed, NotJson, BadVersion, BadShape, UnknownName, DuplicateName, TooLarge}
 use Rattle.flow_script.specs.Playing.{Plays, read_failed}
 use Rattle.flow_script.specs.Telling.{IsRefusal, Tells, TellsFault, fault_line, memory_line}
 
--- a fault that is none of three refuses the script
+-- a fault that is none of these three refuses the script
 pub refusal-is : (fault : ScriptFault) → fault ≢ OutOfMemory → fault ≢ ReadFailed → fault ≢ WriteFailed → IsRefusal fault
 refusal-is OutOfMemory memory read write = absurd (memory refl)
 refusal-is ReadFailed memory read write = absurd (read refl)
 refusal-is WriteFailed memory read write = absurd (write refl)
 refusal-is _ memory read write = tt
 
--- the refusal is reported, or out of memory in its place
+-- the refusal is reported, or out of memory instead
 pub tells-refusal : (fault : ScriptFault) (failed : Bool) (old new : Option (List ℕ)) (answered : ℕ) → IsRefusal fault
     → (Tells failed old new (fault_line fault) 2 answered ⊎ Tells failed old new memory_line 4 answered)
     → (told : ScriptFault) × ((told ≡ fault) ⊎ (IsRefusal fault × (told ≡ OutOfMemory))) × TellsFault told failed old new answered

@@ -1,4 +1,4 @@
--- The lines of one answer more.
+-- The lines after one more answer.
 use Rattle.std.proofs.Common.{◌≡◌, ℕ, zero, suc, ◌+◌, ◌<◌, List, [], ◌∷◌, ◌++◌, length, map, take, get_or, sym, ap, ◌∙◌, append_assoc, append-nil, add-one, arith}
 use Rattle.flow_script.specs.declared.answer.NotMade.{NotMade}
 use Rattle.flow_script.specs.declared.answer.Told.{Told}

@@ -1,4 +1,5 @@
--- What four worked scripts mean, computed from their text: one that plays, a sharing, one of version 2, and a refused one.
+-- What four worked scripts mean, computed from their text: a script that plays, one with a sharing, one of version 2, and one that is
+-- refused.
 use Rattle.std.proofs.Common.{◌≡◌, codes, refl}
 use Rattle.std.specs.Prelude.{Ok, Err}
 use Rattle.std.specs.Str.{is_utf8, chars}
@@ -8,7 +9,7 @@ use Rattle.script_chain_format.specs.ChainFormat.{most_levels}
 use Rattle.script_chain_format.specs.declared.reading.fault.ScriptFault.TheVariants.{UnknownName}
 use Rattle.flow_script.specs.ScriptMeaning.{meaning}
 
--- a late subscriber gets what is replayed
+-- a late subscriber receives the replayed values
 pub replay : meaning (codes "{\"version\":1,\"flow\":{\"kind\":\"shared\",\"replay\":2,\"extra\":0,\"overflow\":\"suspend\"},\"steps\":[{\"do\":\"try_emit\",\"value\":1},{\"do\":\"try_emit\",\"value\":2},{\"do\":\"try_emit\",\"value\":3},{\"do\":\"cache\"},{\"do\":\"subscribe\",\"name\":\"a\"},{\"do\":\"next\",\"name\":\"a\"},{\"do\":\"next\",\"name\":\"a\"},{\"do\":\"next\",\"name\":\"a\"}]}") ≡ Ok (codes "true\ntrue\ntrue\n[2, 3]\nsubscribed\nvalue 2\nvalue 3\nempty\n")
 unfolding serde_json_on_literals is_utf8 chars digits
 replay = refl
@@ -18,7 +19,7 @@ pub share-and-stop : meaning (codes "{\"version\":1,\"flow\":{\"kind\":\"share\"
 unfolding serde_json_on_literals is_utf8 chars digits most_levels
 share-and-stop = refl
 
--- a subscriber gets its own first values, and then what is replayed
+-- a subscriber receives its own first values, and then the replayed ones
 pub own-first-values : meaning (codes "{\"version\":2,\"flows\":{\"p\":{\"kind\":\"shared\",\"replay\":1,\"extra\":1,\"overflow\":\"drop_oldest\"}},\"steps\":[{\"do\":\"try_emit\",\"flow\":\"p\",\"value\":1},{\"do\":\"subscribe\",\"flow\":\"p\",\"name\":\"a\",\"first\":[8,9]},{\"do\":\"emit\",\"flow\":\"p\",\"name\":\"e2\",\"value\":2},{\"do\":\"emit\",\"flow\":\"p\",\"name\":\"e3\",\"value\":3},{\"do\":\"emit\",\"flow\":\"p\",\"name\":\"e4\",\"value\":4},{\"do\":\"cache\",\"flow\":\"p\"},{\"do\":\"next\",\"flow\":\"p\",\"name\":\"a\"},{\"do\":\"next\",\"flow\":\"p\",\"name\":\"a\"},{\"do\":\"next\",\"flow\":\"p\",\"name\":\"a\"},{\"do\":\"next\",\"flow\":\"p\",\"name\":\"a\"},{\"do\":\"next\",\"flow\":\"p\",\"name\":\"a\"},{\"do\":\"subscribe\",\"flow\":\"p\",\"name\":\"b\"},{\"do\":\"next\",\"flow\":\"p\",\"name\":\"b\"}]}") ≡ Ok (codes "true\nsubscribed\ndone\ndone\ndone\n[4]\nvalue 8\nvalue 9\nvalue 3\nvalue 4\nempty\nsubscribed\nvalue 4\n")
 unfolding serde_json_on_literals is_utf8 chars digits
 own-first-values = refl

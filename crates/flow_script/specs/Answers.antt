@@ -1,4 +1,4 @@
--- What a script answers: each step has one answer, and so has each flow that was refused when it was made.
+-- The answers of a script: one for each step, and one for each flow that was refused when it was made.
 -- Begin with `Answer`. The line of an answer is `line_of` in Lines.
 use Rattle.std.specs.Prelude.{ℕ, ℤ, Bool, List, Result, Ok, Err}
 use Rattle.flow_law.specs.ChainRun.{items, ending}
@@ -22,7 +22,7 @@ use Rattle.flow_script.specs.declared.answer.Answer.TheVariants as given
 
 -- the answer of one step
 pub data Answer : Type 0 where
-  -- of a value that is tried, of a cancellation, of an `unsubscribe`, and of a comparison
+  -- the result of a `try_emit`, a `cancel`, an `unsubscribe` or a `compare_and_set`
   tested : Bool → Answer
   -- whether an emission still waits
   waits : Bool → Answer
@@ -38,7 +38,7 @@ pub data Answer : Type 0 where
   reset : Answer
   refused : FlowFault → Answer
   turned : Report → Answer
-  -- of a turn, or of a chain that was to be shared
+  -- why a turn was refused, or a chain was not shared
   turn_refused : ShareFault → Answer
   -- the items of a chain, and how it ended
   collected : List ℤ → End → Answer
@@ -48,7 +48,7 @@ pub data Answer : Type 0 where
   -- the flow does not allow the step. No script that is read has such a step
   not_allowed : Answer
 
--- to a call of a shared flow, by its reply
+-- the answer to a call of a shared flow, by its reply
 abbrev pub shared_answer : SharedCall ℤ → SharedReply ℤ → Answer
 shared_answer call (Refused fault) = refused fault
 shared_answer (Poll e) (Tested test) = waits test
@@ -61,7 +61,7 @@ shared_answer call (Cached values) = cached values
 shared_answer call Reset = reset
 shared_answer call (Counted count) = counted count
 
--- to a call of a state flow, by its reply
+-- the answer to a call of a state flow, by its reply
 abbrev pub state_answer : StateCall ℤ → StateReply ℤ → Answer
 state_answer call (state.Refused fault) = refused fault
 state_answer call state.Done = set
@@ -72,17 +72,17 @@ state_answer call (state.Received next) = received next
 state_answer call (state.Counted count) = counted count
 state_answer call (state.Cached values) = cached values
 
--- to a turn of a sharing
+-- the answer to a turn of a sharing
 abbrev pub turn_answer : Result Report ShareFault → Answer
 turn_answer (Ok report) = turned report
 turn_answer (Err fault) = turn_refused fault
 
--- what a collection gives, or why the chain could not be built
+-- the answer of a collection: what the chain gives, or why it could not be built
 abbrev pub collection_answer : Build → Answer
 collection_answer (Ok chain) = collected (items chain.run) (ending chain.run)
 collection_answer (Err fault) = not_built fault
 
--- what the player's answer says
+-- the player's answer, as the definitions have it
 abbrev pub answer_of : Given → Answer
 answer_of (given.Tested test) = tested test
 answer_of (given.Waits test) = waits test

@@ -1,5 +1,6 @@
--- The steps of a script on a documented flow, said once for every kind of flow.
--- Begin with `flow_turn`. What is said of one kind is a `Played`: of shared flows in SharedMeaning, of state flows in StateMeaning.
+-- The steps of a script on a documented flow, defined once for every kind of flow.
+-- Begin with `flow_turn`. A `Played` has what differs between kinds: that of shared flows is in SharedMeaning, that of state flows in
+-- StateMeaning.
 use Rattle.std.specs.Prelude.{◌≡◌, ℕ, ℤ, Bool, true, false, List, [], Option, Some, None, option_map}
 use Rattle.std.specs.Option.{option_map_or}
 use Rattle.flow_law.specs.declared.fault.FlowFault.{FlowFault}
@@ -14,13 +15,13 @@ use Rattle.flow_script.specs.Answers as told
 use Rattle.flow_script.specs.Memory.{IsToldFlowFault}
 use Rattle.flow_script.specs.Numbers.{Numbers, number_at, with_emission, with_subscriber}
 
--- a step's answer, and what is played on after it, with what the names stand for then
+-- a step's answer, and the flow and what the names stand for after the step
 pub record Turn (P : Type 0) : Type 0 where
   pub answer : Answer
   pub after : P
   pub numbers : Numbers
 
--- An emission that was done at once, or refused, waits for nobody. A subscription that was refused is gone
+-- The answer of a step that makes no call. An emission that was done at once or refused does not wait; a refused subscription is gone
 abbrev pub answer_without_call : FlowStep → Answer
 answer_without_call (step.Poll place) = waits false
 answer_without_call (step.Next place) = received Gone
@@ -28,20 +29,20 @@ answer_without_call (step.Cancel place) = tested false
 answer_without_call (step.Unsubscribe place) = tested false
 answer_without_call _ = not_allowed
 
--- a step that makes no call
+-- a step that makes no call, and changes nothing
 abbrev pub without_call : {P : Type 0} → FlowStep → P → Numbers → Turn P
 without_call step p n = record { answer = answer_without_call step; after = p; numbers = n }
 
--- a step that introduces a name gives it this number
+-- the numbers after a step: the name that it introduces stands for this number
 abbrev pub with_number : FlowStep → Option ℕ → Numbers → Numbers
 with_number (step.Emit value) number n = with_emission number n
 with_number step.Subscribe number n = with_subscriber number n
 with_number _ number n = n
 
--- what a script says of one kind of flow
+-- how scripts play on one kind of flow
 pub record Played (S C R : Type 0) : Type 0 where
   pub try_emit : ℤ → C
-  -- the call of a step that not every kind has, by the numbers of emissions. A name that stands for no number makes none
+  -- the call of a step that not every kind has, by the numbers of emissions; none if its name stands for no number
   pub own_call : FlowStep → List (Option ℕ) → Option C
   -- the documented reply, unless memory is refused
   pub reply_to : C → S → R
@@ -52,11 +53,11 @@ module _ {S C R : Type 0} (kind : Kind ℤ S C R) (played : Played S C R) where
   abbrev pub after : C → S → S
   after call s = kind.after s call (played.reply_to call s)
 
-  -- the number that a call gives
+  -- the number that a call issues, if any
   abbrev pub given : C → R → Option ℕ
   given call reply = option_map (λ owner. number_in owner.number) (kind.gives [] call reply)
 
-  -- the call that a step makes. A name that stands for no number makes none
+  -- the call that a step makes; none if its name stands for no number
   abbrev pub call_of : FlowStep → Numbers → Option C
   call_of (step.TryEmit value) n = Some (played.try_emit value)
   call_of step.Subscribe n = Some (kind.subscribe [])
@@ -78,23 +79,23 @@ module _ {S C R : Type 0} (kind : Kind ℤ S C R) (played : Played S C R) where
   abbrev pub turn_by : Option C → FlowStep → S → Numbers → Turn S
   turn_by call step s n = option_map_or (called step s n) call (without_call step s n)
 
-  -- a step
+  -- a step on a flow
   abbrev pub flow_turn : FlowStep → S → Numbers → Turn S
   flow_turn step s n = turn_by (call_of step n) step s n
 
-  -- a step that not every kind has
+  -- a step that not every kind of flow has
   abbrev pub own_turn : FlowStep → S → Numbers → Turn S
   own_turn step s n = turn_by (played.own_call step n.emissions) step s n
 
-  -- this is the answer of a reply that a line reports
+  -- a line reports this reply, and this is its answer
   abbrev pub IsAnswer : (R → Bool) → C → R → Answer → Type 0
   IsAnswer is_told call reply answer = (is_told reply ≡ true) × (played.answer call reply ≡ answer)
 
-  -- What holds of each kind that scripts play on. No clause but the law of a core cites this.
+  -- What holds of each kind that scripts play on. No clause except the law of a core cites this.
   pub record HasAnswers : Type 0 where
-    -- it is not `OutOfMemory`
+    -- whether a line reports the reply: it is not `OutOfMemory`
     pub is_told : R → Bool
-    -- a reply that is told is the documented one
+    -- a reply that a line reports is the documented one
     pub documented : (s : S) (call : C) (reply : R) → kind.Replies s call reply → is_told reply ≡ true → reply ≡ played.reply_to call s
     pub tried : (value : ℤ) (test : Bool) → IsAnswer is_told (played.try_emit value) (kind.tested test) (told.tested test)
     pub welcomed : (u : ℕ) → IsAnswer is_told (kind.subscribe []) (kind.subscribed u) subscribed
@@ -103,6 +104,6 @@ module _ {S C R : Type 0} (kind : Kind ℤ S C R) (played : Played S C R) where
     pub cached : (values : List ℤ) → IsAnswer is_told kind.replay_cache (kind.cached values) (told.cached values)
     pub counted : (count : ℕ) → IsAnswer is_told kind.count (kind.counted count) (told.counted count)
     pub refused : (call : C) (fault : FlowFault) → IsToldFlowFault fault → IsAnswer is_told call (kind.refused fault) (told.refused fault)
-    -- a subscription gives its number, and a refusal gives none
+    -- a subscription issues its number, and a refusal issues none
     pub gives : (u : ℕ) → given (kind.subscribe []) (kind.subscribed u) ≡ Some u
     pub refused_gives : (call : C) (fault : FlowFault) → given call (kind.refused fault) ≡ None

@@ -21,11 +21,11 @@ use Rattle.flow_law.specs.declared.outcome.Next.TheVariants.{Value, Empty, Gone}
 use Rattle.flow_script.specs.Answers.{Answer}
 use Rattle.flow_script.specs.Answers as answer
 
--- each line ends with one line feed
+-- a line: a text and one line feed
 abbrev pub lined : List ℕ → List ℕ
 lined text = text ++ 10 ∷ []
 
--- what a call adds to the text of the lines
+-- a call adds this text
 abbrev pub Adds : {Z : Type 0} → List ℕ → String Z → String Z → Type 0
 Adds text old new = string_bytes new ≡ string_bytes old ++ text
 
@@ -55,7 +55,7 @@ flow_fault_text Busy = codes "6 Busy"
 abbrev pub refusal_text : FlowFault → List ℕ
 refusal_text fault = codes "refused " ++ flow_fault_text fault
 
--- the answer of a test
+-- the result of a test
 abbrev pub test_text : Bool → List ℕ
 test_text test = if test then codes "true" else codes "false"
 
@@ -79,14 +79,14 @@ chain_fault_text chain_fault.NotPositive = codes "3 NotPositive"
 chain_fault_text (chain_fault.Source number) = codes "4 Source " ++ decimal number
 chain_fault_text chain_fault.TooDeep = codes "5 TooDeep"
 
--- how a collection ended, behind the items
+-- how a collection ended, after the items
 abbrev pub end_text : End → List ℕ
 end_text Completed = codes " completed"
 end_text (Failed fault) = codes " failed " ++ chain_fault_text fault
 
 -- ---- turns of a sharing
 
--- what a turn told the chain
+-- the command of a turn
 abbrev pub command_text : Command → List ℕ
 command_text command.Start = codes "start"
 command_text command.Stop = codes "stop"

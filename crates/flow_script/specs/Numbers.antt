@@ -1,7 +1,7 @@
 -- The numbers that the names of a script stand for.
 use Rattle.std.specs.Prelude.{ℕ, List, [], ◌∷◌, ◌++◌, slice_get, Option, option_and_then}
 
--- in the order of introduction, and none where a name stands for none
+-- the numbers of the names in the order of introduction; none for a name that stands for no number
 pub record Numbers : Type 0 where
   pub emissions : List (Option ℕ)
   pub subscribers : List (Option ℕ)
@@ -14,10 +14,10 @@ no_numbers = record { emissions = []; subscribers = [] }
 abbrev pub number_at : ℕ → List (Option ℕ) → Option ℕ
 number_at place numbers = option_and_then (λ number. number) (slice_get numbers place)
 
--- one emission more
+-- the numbers with one more emission
 abbrev pub with_emission : Option ℕ → Numbers → Numbers
 with_emission number n = record n { emissions = n.emissions ++ number ∷ [] }
 
--- one subscriber more
+-- the numbers with one more subscriber
 abbrev pub with_subscriber : Option ℕ → Numbers → Numbers
 with_subscriber number n = record n { subscribers = n.subscribers ++ number ∷ [] }

@@ -21,7 +21,7 @@ use Rattle.flow_script.specs.ScriptMeaning.{player_of}
 use Rattle.flow_script.specs.ScriptMeaning as player
 use Rattle.flow_script.specs.Sharings.{ShowsSharing}
 
--- a player stands for one of the definitions
+-- the player stands for this player of the definitions
 abbrev pub Shows : Player → player.Player → Type 0
 Shows (Shared core) (player.shared s) = StandsFor core s
 Shows (State core) (player.state s) = core ≡ s
@@ -29,12 +29,12 @@ Shows (Share sharing) (player.share p) = ShowsSharing Emits sharing p
 Shows (StateIn sharing) (player.state_in p) = ShowsSharing (λ hub s. state_flow_of hub ≡ s) sharing p
 Shows _ _ = ⊥
 
--- the player before the first step, or why no sharing is made: out of memory is no fault of the script
+-- what was made stands for the documented sharing before its first step; a refusal is the documented one, or out of memory
 abbrev pub MakesSharing : Head → Result Player ShareFault → Type 0
 MakesSharing head (Ok made) = (p : player.Player) × (player_of head ≡ Ok p) × Shows made p
 MakesSharing head (Err fault) = (player_of head ≡ Err (turn_refused fault)) ⊎ (fault ≡ Flow OutOfMemory)
 
--- the player before the first step, or why the flow was not made
+-- what was made stands for the documented flow before its first step; a refusal that a line reports is the documented one
 abbrev pub Makes : Head → Result Player Refusal → Type 0
 Makes head (Ok made) = (p : player.Player) × (player_of head ≡ Ok p) × Shows made p
 Makes head (Err refused) = IsTold refused → player_of head ≡ Err (refused_answer refused)

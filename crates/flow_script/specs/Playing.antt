@@ -1,4 +1,4 @@
--- What a run over a reader and a writer tells of a script's meaning.
+-- How the bytes that a run reads and writes relate to a script's meaning.
 -- Begin with `Plays`.
 use Rattle.std.specs.Prelude.{◌≡◌, ◌⊎◌, ◌≤◌, ◌+◌, ℕ, Bool, true, false, not, ◌&&◌, ◌==◌, List, length, take, Option, Result, Ok, Err, IfSome, String, string_bytes}
 use Rattle.std.specs.declared.alloc.Global.{Global}
@@ -13,7 +13,7 @@ use Rattle.flow_script.specs.ScriptMeaning.{Answers, meaning}
 
 -- ---- readers and writers that failed
 
--- a write that failed, or that took none of some bytes
+-- whether a write failed, or took none of some bytes
 abbrev pub took_none : {E : Type 0} → Result ℕ E → List ℕ → Bool
 took_none (Ok count) bytes = (count == 0) && not (length bytes == 0)
 took_none (Err e) bytes = true
@@ -22,22 +22,22 @@ took_none (Err e) bytes = true
 abbrev pub IsReadFault : ScriptFault → Type 0
 IsReadFault fault = (fault ≡ OutOfMemory) ⊎ (fault ≡ ReadFailed)
 
--- the reader failed
+-- whether the fault is that the reader failed
 abbrev pub read_failed : ScriptFault → Bool
 read_failed ReadFailed = true
 read_failed _ = false
 
--- the result tells that the reader failed
+-- whether the result is that the reader failed
 abbrev pub is_read_failed : {A : Type 0} → Result A ScriptFault → Bool
 is_read_failed (Ok a) = false
 is_read_failed (Err fault) = read_failed fault
 
--- the writer failed
+-- whether the fault is that the writer failed
 abbrev pub write_failed : ScriptFault → Bool
 write_failed WriteFailed = true
 write_failed _ = false
 
--- the result tells that the writer failed
+-- whether the result is that the writer failed
 abbrev pub is_write_failed : {A : Type 0} → Result A ScriptFault → Bool
 is_write_failed (Ok a) = false
 is_write_failed (Err fault) = write_failed fault
@@ -48,20 +48,20 @@ is_write_failed (Err fault) = write_failed fault
 abbrev pub text_result : Result (String Global) ScriptFault → Result (List ℕ) ScriptFault
 text_result r = result_map string_bytes r
 
--- what the answers that were kept say, or the fault
+-- the answers as the definitions have them, or the fault
 abbrev pub answers_result : Result Kept ScriptFault → Result Answers ScriptFault
 answers_result r = result_map said r
 
--- the bytes that were taken off a reader are at most one more than a script may have
+-- the bytes taken from the reader are at most one more than a script may have
 abbrev pub TakesWithin : Option (List ℕ) → Option (List ℕ) → Type 0
 TakesWithin old new = (taken : List ℕ) × Consumes old new taken × (length taken ≤ most_bytes + 1)
 
--- the reader's bytes, if it tells them, are refused by this fault
+-- this fault refuses the reader's bytes, if they are known
 abbrev pub Refuses : Option (List ℕ) → ScriptFault → Type 0
 Refuses known fault = IfSome known (λ bytes. meaning bytes ≡ Err fault)
 
--- Where the reader tells its bytes, a run that ends well wrote what they mean, and a script is refused as they say.
--- After a write that failed, the front of that text was written; after any other fault nothing.
+-- If the reader's bytes are known, a run that ends well has written their meaning, and a fault of the script is that of their meaning.
+-- After a write that failed, a first part of that text is written; after any other fault nothing is.
 abbrev pub Plays : Option (List ℕ) → Option (List ℕ) → Option (List ℕ) → Result (Unit {0}) ScriptFault → Type 0
 Plays known old new (Ok u) = IfSome known (λ bytes. (text : List ℕ) × (meaning bytes ≡ Ok text) × Appends old new text)
 Plays known old new (Err WriteFailed) =

@@ -8,24 +8,24 @@ use Rattle.flow_script.specs.declared.answer.Answer.{Answer as Given}
 use Rattle.flow_script.specs.Answers.{Answer, answer_of, refused, turn_refused}
 use Rattle.flow_script.specs.Memory.{IsToldFlowFault, IsToldFault}
 
--- why a flow was not made
+-- the answer that says why a flow was not made
 abbrev pub refused_answer : Refusal → Answer
 refused_answer (refusal.Flow fault) = refused fault
 refused_answer (refusal.Sharing fault) = turn_refused fault
 
--- a reason that a line reports
+-- a line reports why the flow was not made
 abbrev pub IsTold : Refusal → Type 0
 IsTold (refusal.Flow fault) = IsToldFlowFault fault
 IsTold (refusal.Sharing fault) = IsToldFault fault
 
--- this answer says why, and the reason is not OutOfMemory
+-- the answer gives this fault of a flow, which is not OutOfMemory
 abbrev pub AnswersRefusal : FlowFault → Given → Type 0
 AnswersRefusal fault answer = IsToldFlowFault fault × (answer_of answer ≡ refused fault)
 
--- the same of a sharing that was not made
+-- the answer gives this fault of a sharing, which is not OutOfMemory
 abbrev pub AnswersTurn : ShareFault → Given → Type 0
 AnswersTurn fault answer = IsToldFault fault × (answer_of answer ≡ turn_refused fault)
 
--- the answer gives this reason
+-- the answer says why the flow was not made, and a line reports that
 abbrev pub Answers : Refusal → Given → Type 0
 Answers why answer = IsTold why × (answer_of answer ≡ refused_answer why)

@@ -1,4 +1,4 @@
--- What a row of flows stands for, and what it answers while it is made and played. No public clause cites this module.
+-- What the player's row of flows stands for, and how it is made and played. No public clause cites this module.
 use Rattle.std.specs.Prelude.{◌≡◌, Bool, true, false, List, [], map, Option, Some, None, Vec}
 use Rattle.std.specs.List.{AllZip}
 use Rattle.std.specs.declared.alloc.Global.{Global}
@@ -13,17 +13,17 @@ use Rattle.flow_script.specs.ScriptMeaning.{Answers, NotMade, Play, PlayedFlow, 
 use Rattle.flow_script.specs.Said.{said_of}
 use Rattle.flow_script.specs.Shown.{numbers_of}
 
--- a flow that is kept, and its names, are as the definitions have them
+-- a flow of the player, with its names, stands for one of the definitions
 abbrev pub ShowsFlow : Kept → PlayedFlow → Type 0
 ShowsFlow kept flow = Shows kept.player flow.player × (numbers_of kept.numbers ≡ flow.numbers)
 
--- so is what is at a place: a flow, or none
+-- a place of the player, with a flow or none, stands for one of the definitions
 abbrev pub ShowsPlace : Option Kept → Option PlayedFlow → Type 0
 ShowsPlace (Some kept) (Some flow) = ShowsFlow kept flow
 ShowsPlace None None = Unit {0}
 ShowsPlace _ _ = ⊥
 
--- so is a whole row
+-- a row of the player stands for one of the definitions, place by place
 abbrev pub ShowsRow : List (Option Kept) → List (Option PlayedFlow) → Type 0
 ShowsRow kept row = AllZip ShowsPlace kept row
 
@@ -44,7 +44,7 @@ abbrev pub FollowsSteps : List Action → List (Option Kept) → List Told → T
 FollowsSteps actions old told =
     (row : List (Option PlayedFlow)) → ShowsRow old row → map said_of told ≡ answers_from row actions
 
--- One flow more is made. Where the script goes on, what its rest answers follows the refusals so far; else these are all
+-- One more flow is made. If the script continues, the answers of its rest follow the refusals so far; otherwise these are all answers
 abbrev pub AddsFlow : NamedHead → Bool → List (Option Kept) → List (Option Kept) → List NotMade → List NotMade → Type 0
 AddsFlow named true old new before after =
     (row : List (Option PlayedFlow)) → ShowsRow old row →
@@ -54,7 +54,7 @@ AddsFlow named false old new before after =
     (row : List (Option PlayedFlow)) (rest : List (Option PlayedFlow) → Answers)
     → after_refusals before (with_flow named.name (player_of named.flow) rest row) ≡ after_refusals after (only_steps [])
 
--- the flows before the first step, or none where a refusal ends the script
+-- the flows before the first step, or none if a refusal ends the script
 abbrev pub Begins : List NamedHead → List NotMade → List NotMade → Option (Vec (Option Kept) Global) → Type 0
 Begins flows before after (Some made) =
     (row : List (Option PlayedFlow)) × ShowsRow made.items row

@@ -1,4 +1,4 @@
--- What a played script says, in the definitions' terms. Begin with `said`.
+-- The answers of a played script, as the definitions have them. Begin with `said`.
 use Rattle.std.specs.Prelude.{List, map, option_map, string_bytes}
 use Rattle.flow_script.specs.Answers.{Answer, answer_of}
 use Rattle.flow_script.specs.ScriptMeaning.{Answers, NotMade}
@@ -18,6 +18,6 @@ all_not_made flows = map not_made_of flows
 abbrev pub said_of : Told → Answer
 said_of told = answer_of told.answer
 
--- all that a script answers
+-- all answers of a script
 abbrev pub said : Kept → Answers
 said answers = record { not_made = all_not_made answers.not_made.items; steps = map said_of answers.steps.items }

@@ -1,4 +1,4 @@
--- What a script means: what it answers, and the text of that, or the fault that it is refused by.
+-- What a script means: its answers and their text, or the fault that refuses it.
 -- Begin with `meaning`: the checks of Checks, then the steps over the documented flows, each with its answer.
 use Rattle.std.specs.Prelude.{ℕ, ℤ, List, [], ◌∷◌, ◌++◌, slice_get, slice_set, Option, Some, None, option_and_then, Result, Ok, Err, codes}
 use Rattle.std.specs.Option.{option_map_or}
@@ -58,7 +58,7 @@ player_turn step (state s) n = played_as state (state_turn step s n)
 player_turn step (share p) n = played_as share (sharing_step (beside_emission shared_turn) shared_reply step p n)
 player_turn step (state_in p) n = played_as state_in (sharing_step (beside_initial state_turn) state_reply step p n)
 
--- a subscription with first values of its own; only a shared flow that is no chain's has it
+-- a subscription with first values of its own; only a shared flow into which no chain is shared allows it
 abbrev pub player_subscribes_with : List ℤ → Player → Numbers → Turn Player
 player_subscribes_with first (shared s) n = played_as shared (subscribes_with first s n)
 player_subscribes_with first (state s) n = without_call step.Subscribe (state s) n
@@ -72,7 +72,7 @@ pub record PlayedFlow : Type 0 where
   pub player : Player
   pub numbers : Numbers
 
--- before the first step on it
+-- a flow before its first step
 abbrev pub first_played : Player → PlayedFlow
 first_played p = record { player = p; numbers = no_numbers }
 
@@ -80,7 +80,7 @@ first_played p = record { player = p; numbers = no_numbers }
 abbrev pub Play : Type 0
 Play = Player → Numbers → Turn Player
 
--- a step's answer, and what is at its place afterwards. A flow that was refused when it was made has left its place empty
+-- a step's answer, and what is at its place afterwards: nothing if the flow was refused when it was made
 pub record PlaceTurn : Type 0 where
   pub answer : Answer
   pub after : Option PlayedFlow
@@ -101,13 +101,13 @@ pub record RowTurn : Type 0 where
 abbrev pub flow_at : ℕ → List (Option PlayedFlow) → Option PlayedFlow
 flow_at place row = option_and_then (λ flow. flow) (slice_get row place)
 
--- a step at a place leaves all others as they were
+-- a step on the flow at a place; it leaves all other places as they were
 abbrev pub turn_at : ℕ → Play → List (Option PlayedFlow) → RowTurn
 turn_at place play row =
     let t = place_turn play (flow_at place row) in
     record { answer = t.answer; after = slice_set row place t.after }
 
--- a collection is about no flow
+-- a step of a script; a collection acts on no flow
 abbrev pub turn : Action → List (Option PlayedFlow) → RowTurn
 turn (on_flow place step) row = turn_at place (player_turn step) row
 turn (subscribe_with place first) row = turn_at place (player_subscribes_with first) row
@@ -132,12 +132,12 @@ player_of (state_chain (Err fault) started initial limit) = Err (turn_refused (C
 player_of (state_chain (Ok chain) started initial limit) =
     Ok (state_in (first_sharing chain.run started (record { flow = first_state_flow limit initial; initial = initial })))
 
--- a flow that was refused when it was made: its name, where it has one, and why
+-- a flow that was refused when it was made: its name, if it has one, and why
 pub record NotMade : Type 0 where
   pub name : Option (List ℕ)
   pub answer : Answer
 
--- all that a script answers: first of the flows that were refused when they were made, then of its steps
+-- all answers of a script: first those of the flows that were refused when they were made, then those of its steps
 pub record Answers : Type 0 where
   pub not_made : List NotMade
   pub steps : List Answer
@@ -146,33 +146,33 @@ pub record Answers : Type 0 where
 abbrev pub not_made_flow : Option (List ℕ) → Answer → NotMade
 not_made_flow name answer = record { name = name; answer = answer }
 
--- flows that were refused before the others
+-- the answers with these refusals before their own
 abbrev pub after_refusals : List NotMade → Answers → Answers
 after_refusals before rest = record rest { not_made = before ++ rest.not_made }
 
--- the answers of the steps alone
+-- the answers of the steps, without any refused flow
 abbrev pub only_steps : List Answer → Answers
 only_steps steps = record { not_made = []; steps = steps }
 
--- One flow more is made, and the rest of the script follows. A refused flow that has a name leaves its place empty; without a
--- name, its answer is all of the rest.
+-- One more flow is made, and the rest of the script follows. A refused flow with a name leaves its place empty; a refused flow without a
+-- name ends the script with its answer.
 abbrev pub with_flow : Option (List ℕ) → Result Player Answer → (List (Option PlayedFlow) → Answers) → List (Option PlayedFlow) → Answers
 with_flow name (Ok p) rest row = rest (row ++ Some (first_played p) ∷ [])
 with_flow None (Err answer) rest row = after_refusals (not_made_flow None answer ∷ []) (only_steps [])
 with_flow (Some name) (Err answer) rest row = after_refusals (not_made_flow (Some name) answer ∷ []) (rest (row ++ None ∷ []))
 
--- the flows are made in their order, and then the steps are played
+-- the flows are made in order, and then the steps are played
 abbrev pub script_from : List NamedHead → List Action → List (Option PlayedFlow) → Answers
 script_from [] steps row = only_steps (answers_from row steps)
 script_from (named ∷ more) steps row = with_flow named.name (player_of named.flow) (script_from more steps) row
 
--- all that a script answers
+-- all answers of a script
 abbrev pub answers_of : List NamedHead → List Action → Answers
 answers_of flows steps = script_from flows steps []
 
 -- ---- texts
 
--- the line of a flow that was refused: its name, where it has one, comes first
+-- the line of a flow that was refused: it begins with the flow's name, if it has one
 abbrev pub not_made_line : NotMade → List ℕ
 not_made_line flow = option_map_or (λ name. name ++ codes " ") flow.name [] ++ line_of flow.answer
 
@@ -181,11 +181,11 @@ abbrev pub not_made_lines : List NotMade → List ℕ
 not_made_lines [] = []
 not_made_lines (flow ∷ more) = lined (not_made_line flow) ++ not_made_lines more
 
--- the text of what a script answers: a line for each answer
+-- the text of a script's answers: a line for each answer
 abbrev pub text_of : Answers → List ℕ
 text_of answers = not_made_lines answers.not_made ++ lines_of answers.steps
 
--- what a script answers, or why it is refused
+-- the answers of a script, or why it is refused
 abbrev pub answered : List ℕ → Result Answers ScriptFault
 answered bytes = result_map (λ script. answers_of script.flows script.steps) (read_script bytes)
 

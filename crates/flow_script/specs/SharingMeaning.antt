@@ -1,5 +1,5 @@
--- The steps of a script on a chain that is shared (`shareIn`, `stateIn`), by whichever kind of flow.
--- Begin with `sharing_step`. A turn is the one of flow_law's SharingFlows, any other step one on the flow that reads it.
+-- The steps of a script on a shared chain (`shareIn`, `stateIn`), for both kinds of flow.
+-- Begin with `sharing_step`. A turn is that of SharingFlows in flow_law. Any other step is one on the flow, and only reads it.
 use Rattle.std.specs.Prelude.{ℕ, ℤ, Bool, true, false, if◌then◌else◌, List, []}
 use Rattle.flow_law.specs.declared.sharing.Started.{Started}
 use Rattle.flow_law.specs.declared.sharing.SharingObservation.{SharingObservation}
@@ -27,23 +27,23 @@ pub record SharingPlay (F : Type 0) : Type 0 where
   -- the chain, and the flow into which it is shared
   pub both : ChainAndHub ℤ F
 
--- before any turn
+-- a sharing before its first turn
 abbrev pub first_sharing : {F : Type 0} → ChainRun ℤ → Started → F → SharingPlay F
 first_sharing whole started f = record { started = started; seen = []; state = at_rest; both = record { whole = whole; rest = whole; hub = f } }
 
--- a step on a shared flow into which a chain is shared: the sharing's own emission is none of the script's
+-- a step on a shared flow into which a chain is shared; it leaves the sharing's own emission as it is
 abbrev pub beside_emission : (FlowStep → SharedFlowState ℤ → Numbers → Turn (SharedFlowState ℤ)) → FlowStep → EmittingFlow ℤ → Numbers → Turn (EmittingFlow ℤ)
 beside_emission flow step f n =
     let t = flow step f.flow n in
     record { answer = t.answer; after = record f { flow = t.after }; numbers = t.numbers }
 
--- a step on a state flow into which a chain is shared: no step changes its initial value
+-- a step on a state flow into which a chain is shared; it leaves the initial value as it is
 abbrev pub beside_initial : (FlowStep → StateFlowState ℤ → Numbers → Turn (StateFlowState ℤ)) → FlowStep → StateAndInitial ℤ → Numbers → Turn (StateAndInitial ℤ)
 beside_initial flow step f n =
     let t = flow step f.flow n in
     record { answer = t.answer; after = record f { flow = t.after }; numbers = t.numbers }
 
--- who shares a chain only reads its flow
+-- whether a step only reads the flow
 abbrev pub is_reading : FlowStep → Bool
 is_reading step.Subscribe = true
 is_reading (step.Next place) = true
@@ -59,11 +59,11 @@ module _ {F : Type 0} (flow : FlowStep → F → Numbers → Turn F) where
   abbrev pub on_flow : Turn F → SharingPlay F → Turn (SharingPlay F)
   on_flow t p = record { answer = t.answer; after = record p { both = with_hub p.both t.after }; numbers = t.numbers }
 
-  -- a step that only reads the flow is played on it; no other one is allowed
+  -- a step that only reads the flow is played on it; no other step is allowed
   abbrev pub reading : FlowStep → SharingPlay F → Numbers → Turn (SharingPlay F)
   reading step p n = if is_reading step then on_flow (flow step p.both.hub n) p else without_call step p n
 
--- `reply` says what the flow answers the sharing
+-- `reply` says what the flow replies to the sharing
 module _ {F : Type 0} (reply : (c : HubCall ℤ) → F → After (HubAnswer c) F) where
   -- a turn at this moment
   abbrev pub turn_at : ℕ → SharingPlay F → Numbers → Turn (SharingPlay F)

@@ -12,20 +12,20 @@ use Rattle.flow_turns.specs.declared.sharing.Sharing.{Sharing}
 use Rattle.flow_turns.specs.SharingViews.{state_of, chain_and_hub, HasObserved}
 use Rattle.flow_script.specs.SharingMeaning.{SharingPlay}
 
--- what contracts see of the chain and the hub of a sharing of a script's chain
+-- the chain and the hub of a sharing, as contracts see them
 abbrev pub both_of : {H : Type 0} → Sharing ScriptChain H ℤ → ChainAndHub ℤ H
 both_of sharing = chain_and_hub (λ chain. node_whole chain.node) (λ chain. node_rest chain.node) sharing
 
--- `Stands` says for which flows a hub stands
+-- `Stands` says which flows a hub stands for
 module _ {H F : Type 0} (Stands : H → F → Type 0) where
-  -- a sharing stands for one of the definitions
+  -- the sharing stands for this one of the definitions
   pub record ShowsSharing (sharing : Sharing ScriptChain H ℤ) (p : SharingPlay F) : Type 0 where
     pub observed : HasObserved p.started sharing p.seen
     pub state : state_of sharing ≡ p.state
     pub both : with_hub (both_of sharing) p.both.hub ≡ p.both
     pub flow : Stands sharing.hub p.both.hub
 
--- out of memory aside, a turn over a hub that stands for a flow is the documented turn with it
+-- unless memory is refused, a turn over a hub that stands for a flow is the documented turn with that flow
 abbrev pub TurnsAsDocumented : {H F : Type 0} → ((c : HubCall ℤ) → H → HubAnswer c → H → Type 0) → (H → Bool) → (H → F → Type 0) → ((c : HubCall ℤ) → F → After (HubAnswer c) F) → Type 0
 TurnsAsDocumented {H} {F} does waits Stands reply =
     (started : Started) (now : ℕ) (seen : List SharingObservation) (s : SharingState ℤ) (f : F) (old new : ChainAndHub ℤ H) (turned : Turned ℤ) →

@@ -8,12 +8,12 @@ use Rattle.flow_script.specs.Answers.{answer_of}
 use Rattle.flow_script.specs.declared.answer.Answer.{Answer as Given}
 use Rattle.flow_script.specs.Numbers.{Numbers}
 
--- what the player keeps of names
+-- the numbers that the player keeps, as the definitions have them
 abbrev pub numbers_of : Kept → Numbers
 numbers_of kept = record { emissions = kept.emissions.items; subscribers = map (option_map number_of) kept.subscribers.items }
 
--- The step is played: after what shows p comes what shows p after the documented step, the names stand for what they then
--- should, and this is its answer.
+-- The step is played. If the old state stands for p, the new one stands for p after the documented step, the names stand for the numbers of
+-- that step, and the answer is its answer.
 abbrev pub Follows : {K P : Type 0} → (K → P → Type 0) → (P → Numbers → Turn P) → K → K → Kept → Kept → Given → Type 0
 Follows {P = P} Shows step old new names names_after answer =
     (p : P) → Shows old p →

@@ -15,12 +15,12 @@ use Rattle.script_format.specs.declared.script.FlowStep.TheVariants as step
 use Rattle.flow_script.specs.FlowMeaning.{Played}
 use Rattle.flow_script.specs.Answers.{state_answer}
 
--- the value is the last one that a subscriber got
+-- whether the value is the last one that a subscriber received
 abbrev pub is_last : ℤ → Option ℤ → Bool
 is_last value None = false
 is_last value (Some last) = int_eq last value
 
--- what a subscriber gets, by the last value that it got
+-- what a subscriber receives, by the last value that it received
 abbrev pub received : ℤ → Option (Option ℤ) → StateReply ℤ
 received value None = reply.Received Gone
 received value (Some last) = if is_last value last then reply.Received Empty else reply.Received (Value value)
@@ -38,7 +38,7 @@ state_reply call.SubscriptionCount s = reply.Counted (length s.subscribers)
 state_reply call.ReplayCache s = reply.Cached (s.value ∷ [])
 state_reply call.ResetReplayCache s = reply.Refused Unsupported
 
--- the steps that state flows alone have
+-- the calls of the steps that only state flows have
 abbrev pub state_own_call : FlowStep → List (Option ℕ) → Option (StateCall ℤ)
 state_own_call step.Reset emissions = Some call.ResetReplayCache
 state_own_call step.Value emissions = Some call.GetValue
@@ -50,6 +50,6 @@ state_own_call _ emissions = None
 abbrev pub plays_state : Played (StateFlowState ℤ) (StateCall ℤ) (StateReply ℤ)
 plays_state = record { try_emit = call.TryEmit; own_call = state_own_call; reply_to = state_reply; answer = state_answer }
 
--- a state core keeps the state itself
+-- a state core is the documented state itself
 abbrev pub IsState : StateFlowState ℤ → StateFlowState ℤ → Type 0
 IsState core s = core ≡ s

@@ -1,4 +1,4 @@
--- The lines by which a program tells why a script was not played, and its statuses. Begin with `TellsFault`.
+-- The lines in which a program reports why a script was not played, and its exit statuses. Begin with `TellsFault`.
 use Rattle.std.specs.Prelude.{◌≡◌, ◌++◌, ℕ, Bool, true, false, List, take, Option, Result, Ok, Err, codes, decimal}
 use Rattle.std.specs.Io.KnownBytes.{Appends}
 use Rattle.script_chain_format.specs.declared.reading.fault.ScriptFault.{ScriptFault}
@@ -9,7 +9,7 @@ use Rattle.flow_script.specs.Lines.{lined}
 abbrev pub memory_line : List ℕ
 memory_line = lined (codes "out of memory")
 
--- the line of a fault. No line tells a write that failed
+-- the line of a fault. A program prints no line for a write that failed
 abbrev pub fault_line : ScriptFault → List ℕ
 fault_line OutOfMemory = memory_line
 fault_line ReadFailed = lined (codes "read failed")
@@ -28,7 +28,7 @@ fault_status ReadFailed = 3
 fault_status WriteFailed = 3
 fault_status _ = 2
 
--- what is told of the script itself
+-- the fault refuses the script itself
 abbrev pub IsRefusal : ScriptFault → Type 0
 IsRefusal OutOfMemory = ⊥
 IsRefusal ReadFailed = ⊥
@@ -40,12 +40,12 @@ abbrev pub Tells : Bool → Option (List ℕ) → Option (List ℕ) → List ℕ
 Tells false old new line status answered = Appends old new line × (answered ≡ status)
 Tells true old new line status answered = ((count : ℕ) × Appends old new (take count line)) × (answered ≡ 3)
 
--- A fault is told by its line and its status. After a write that failed nothing more is written.
+-- A program reports a fault by its line and its status. After a write that failed nothing more is written.
 abbrev pub TellsFault : ScriptFault → Bool → Option (List ℕ) → Option (List ℕ) → ℕ → Type 0
 TellsFault WriteFailed failed old new answered = (failed ≡ true) × (new ≡ old) × (answered ≡ 3)
 TellsFault fault failed old new answered = Tells failed old new (fault_line fault) (fault_status fault) answered
 
--- how a program ends by what it answers to a script
+-- how a program ends, by the result of its script
 abbrev pub Ends : Result (Unit {0}) ScriptFault → Bool → Option (List ℕ) → Option (List ℕ) → ℕ → Type 0
 Ends (Ok u) failed old new answered = (failed ≡ false) × (new ≡ old) × (answered ≡ 0)
 Ends (Err fault) failed old new answered = TellsFault fault failed old new answered

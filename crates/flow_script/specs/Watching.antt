@@ -6,6 +6,6 @@ use Rattle.flow_script.specs.declared.watched.Watched.{Watched}
 abbrev pub inner_of : {I : Type 0} → Watched I → I
 inner_of w = w.inner
 
--- a call of it failed, or a write of some bytes took none
+-- whether a call of it failed, or a write of some bytes took none
 abbrev pub has_failed : {I : Type 0} → Watched I → Bool
 has_failed w = w.failed

@@ -1,15 +1,15 @@
-//! What a script answers, and what is seen beside it.
+//! The answers of a script, and what is observed with them.
 
 use flow_law::{ChainFault, End, FlowFault, Next, Report, ShareFault};
 
-/// The answer of a step, or of a flow that was refused when it was made. Its line is that of `add_answer`.
+/// The answer of a step, or of a flow that was refused when it was made. `add_answer` writes its line.
 #[derive(Drop)]
 pub enum Answer {
-    /// Of a value that is tried, of a cancellation, of an `unsubscribe`, and of a comparison.
+    /// The result of a `try_emit`, a `cancel`, an `unsubscribe` or a `compare_and_set`.
     Tested(bool),
     /// Whether an emission still waits.
     Waits(bool),
-    /// The emission was made at once.
+    /// The value was emitted at once.
     Done,
     /// The emission waits.
     Queued,
@@ -45,19 +45,19 @@ pub struct NotMade {
     pub answer: Answer,
 }
 
-/// What is seen of the flow and the subscriber of a step beside its answer.
+/// What is observed of a step's flow and subscriber, beside the answer.
 #[derive(Clone, Copy)]
 pub struct Seen {
-    /// How many values the step emitted, and `None` where its flow is no shared flow. A step that makes room emits
-    /// values that waited.
+    /// How many values the step emitted, or `None` if its flow is not a shared flow. A step that makes room emits
+    /// values that were waiting.
     pub emitted: Option<u64>,
-    /// How many values the subscriber of the step has still to receive after it.
+    /// The lag of the step's subscriber after the step: how many values it has yet to receive.
     pub lag: Option<u64>,
     /// The moment of a turn.
     pub at: Option<u64>,
 }
 
-/// The subscriber of a step: the place of its flow, and that of its name there.
+/// The subscriber of a step: the place of its flow, and the place of its name in that flow.
 #[derive(Clone, Copy)]
 pub struct Subscriber {
     pub flow: usize,
@@ -66,7 +66,7 @@ pub struct Subscriber {
     pub is_new: bool,
 }
 
-/// A step's answer, and what is seen beside it.
+/// A step's answer, and what was observed with it.
 #[derive(Drop)]
 pub struct Told {
     pub answer: Answer,
@@ -75,13 +75,13 @@ pub struct Told {
     pub subscriber: Option<Subscriber>,
 }
 
-/// All that a script answers.
+/// All answers of a script.
 #[derive(Drop)]
 pub struct Answers {
     /// The flows that were refused when they were made.
     pub not_made: Vec<NotMade>,
     /// The answers of the steps that were played, in order.
     pub steps: Vec<Told>,
-    /// For each of these steps, how many values the subscriber that it introduced has still to receive in the end.
+    /// For each of these steps, the final lag of the subscriber that it introduced.
     pub last_lags: Vec<Option<u64>>,
 }

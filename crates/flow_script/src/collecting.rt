@@ -9,7 +9,7 @@ use flow_cold::{Collected, ScriptChain, collect_all};
 use script_chain_format::{Build, ScriptFault};
 use std::alloc::Global;
 
-/// Collects a chain. A chain that was out of memory ends the script.
+/// Collects a chain. A chain that runs out of memory ends the script.
 fn collected(alloc: Global, mut chain: ScriptChain) -> Result<Answer, ScriptFault>
     ensures answer { IfOk result (λ answer.
         answer_of answer ≡ collection_answer (Ok (built_of chain))) }

@@ -1,26 +1,26 @@
-//! JSON flow scripts: what one says, and the lines that it writes.
+//! Plays JSON flow scripts, and writes their lines.
 //!
-//! `play` reads a whole script, checks it, plays it over flows for one thread, and only then writes the lines. A script
+//! `play` reads a whole script, checks it, plays it on flows for one thread, and only then writes the lines. A script
 //! that is refused writes nothing, and the refusal names the step.
 //!
 //! # What `play` promises
-//! `Plays` ties what was written to the `meaning` of the bytes that the reader had: that text at `Ok`; nothing at a
-//! refusal, which is the meaning's own fault; a first part of the text after a write that failed.
+//! `Plays` relates what was written to the `meaning` of the bytes that were read. At `Ok` that text was written; at a
+//! refusal nothing was, and the fault is that of the meaning; after a write that failed, a first part of the text was.
 //!
 //! # Playing
 //! A `Player` is what the steps on one flow are played on: `flow_steps` has the steps that every kind of flow has,
 //! `shared_calls`, `state_calls` and `sharing_steps` those of one kind. `row` plays a step on the flow at its place,
 //! `collecting` collects a chain.
 //!
-//! Each step has one `Answer`, and beside it what is seen of its flow (`Seen`). A call that was out of memory has none:
-//! it ends the script as `ScriptFault::OutOfMemory`.
+//! Each step has one `Answer`, and with it what is observed of its flow (`Seen`). A call that runs out of memory has no
+//! answer: it ends the script with `ScriptFault::OutOfMemory`.
 //!
 //! # Lines
-//! The text of a script has a line for each answer (`text_of`): `lines` has those of flows, `chain_lines` those of
+//! The text of a script has a line for each answer (`text_of`): `lines` has the lines of flows, `chain_lines` those of
 //! collections, `share_lines` those of turns.
 //!
 //! # Losses
-//! `Losses` finds the values that subscribers lose in a flow that drops its oldest values, for those that show it.
+//! `Losses` finds the values that subscribers lose in a flow that drops its oldest values, for programs that show them.
 #![tactic(auto)]
 
 mod answer;

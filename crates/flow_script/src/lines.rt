@@ -6,7 +6,7 @@ ghost use Rattle.flow_script.specs.Lines as lines;
 use flow_law::{FlowFault, Next};
 use std::alloc::AllocError;
 
-/// Adds a line that says just this.
+/// Adds this line.
 pub fn add_line(text: &mut String, line: &str) -> Result<(), AllocError>
     ensures { OnOk result (lines.AddsLine line.now text.old text.new) }
 {
@@ -23,7 +23,7 @@ fn add_more_items(text: &mut String, values: &[i64]) -> Result<(), AllocError>
     Ok(())
 }
 
-/// Adds a list, in a line that is not ended.
+/// Adds a list, without ending its line.
 pub fn add_items(text: &mut String, values: &[i64]) -> Result<(), AllocError>
     ensures { OnOk result (lines.Adds (lines.list_text values.now) text.old text.new) }
 {

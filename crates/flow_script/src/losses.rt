@@ -1,39 +1,39 @@
-//! What subscribers lose in a flow that drops its oldest values. No answer says it: it follows from how far behind each
-//! subscriber is.
+//! The values that subscribers lose in a flow that drops its oldest values. No answer reports them: they follow from
+//! the lag of each subscriber.
 
 use crate::answer::{Answer, Told};
 use crate::members::{number_at, text_at};
 use serde_json::Value;
 use std::alloc::{AllocError, Global};
 
-/// A subscriber, and how many values it has still to receive.
+/// A subscriber, and how many values it has yet to receive.
 #[derive(Clone, Copy)]
 struct Behind<K> {
     subscriber: K,
     lag: u64,
 }
 
-/// A value that an emission pushed out of the buffer, and the subscribers that had it still to receive.
+/// A value that an emission dropped from the buffer, and the subscribers that had yet to receive it.
 #[derive(Clone, Copy)]
 pub struct Loss<'a, K> {
     pub value: i64,
     pub losers: &'a [K],
 }
 
-/// The values that a flow has emitted, and how far behind its subscribers are. A subscriber goes by a key of any type,
+/// The values that a flow has emitted, and the lags of its subscribers. A key of any type identifies a subscriber, such
 /// as its name or its place.
 #[derive(Drop)]
 pub struct Losses<K: Copy + PartialEq> {
-    /// How many values a subscriber can have still to receive.
+    /// The greatest lag that a subscriber can have.
     window: u64,
     values: Vec<i64>,
     subscribers: Vec<Behind<K>>,
-    /// The subscribers that the last emission took a value from.
+    /// The subscribers that lost a value by the last emission.
     losers: Vec<K>,
 }
 
 impl<K: Copy + PartialEq> Losses<K> {
-    /// Returns what is known of a flow before its first step, or `None` if the flow does not drop its oldest values.
+    /// Returns the losses of a flow before its first step, or `None` if the flow does not drop its oldest values.
     pub fn new(alloc: Global, flow: &Value) -> Option<Self> {
         if text_at(flow, "overflow") != "drop_oldest" {
             return None;
@@ -47,7 +47,7 @@ impl<K: Copy + PartialEq> Losses<K> {
         })
     }
 
-    /// Remembers how many values a subscriber has still to receive.
+    /// Records the lag of a subscriber.
     fn receive(&mut self, subscriber: K, lag: u64) {
         for behind in &mut self.subscribers {
             if behind.subscriber == subscriber {
@@ -56,13 +56,13 @@ impl<K: Copy + PartialEq> Losses<K> {
         }
     }
 
-    /// Returns the value that the next one pushes out.
+    /// Returns the value that the next emission drops.
     fn oldest(&self) -> Option<i64> {
         let place = self.values.len().checked_sub(self.window as usize)?;
         self.values.get(place).copied()
     }
 
-    /// Emits a value, and remembers the subscribers that had the value which it pushes out still to receive.
+    /// Adds an emitted value, and records the subscribers that had yet to receive the value that it drops.
     fn emit(&mut self, value: i64) -> Result<(), AllocError> {
         for behind in &mut self.subscribers {
             if behind.lag < self.window {
@@ -75,7 +75,7 @@ impl<K: Copy + PartialEq> Losses<K> {
         Ok(())
     }
 
-    /// Takes the next step on the flow, which is about this subscriber, if about any, and returns what subscribers lose by
+    /// Adds the next step on the flow, with the step's subscriber, if it has one, and returns what subscribers lose by
     /// it, if anything.
     ///
     /// # Errors
@@ -106,7 +106,7 @@ impl<K: Copy + PartialEq> Losses<K> {
         Ok(self.loss(oldest))
     }
 
-    /// Returns the value that was pushed out, if a subscriber had it still to receive.
+    /// Returns the value that was dropped, if a subscriber had yet to receive it.
     fn loss(&self, oldest: Option<i64>) -> Option<Loss<'_, K>> {
         let value = oldest?;
         let losers = self.losers.as_slice();

@@ -1,4 +1,4 @@
-//! Which faults are out of memory. No line tells those: they end the script.
+//! Which faults are out of memory. No line reports them: they end the script.
 ghost use Rattle.std.specs.Prelude.{◌≡◌, ◌↔◌, false, true};
 ghost use Rattle.flow_script.specs.Memory.{IsToldFlowFault, IsToldChainFault, IsToldFault, IsToldEnd};
 
@@ -33,7 +33,7 @@ pub fn is_memory(fault: ShareFault) -> bool
     }
 }
 
-/// Returns whether a collection ended because memory was refused.
+/// Returns whether a collection ended because it was out of memory.
 pub fn ends_for_memory(end: End) -> bool
     ensures { (result ≡ false) ↔ IsToldEnd end }
 {

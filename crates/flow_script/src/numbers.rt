@@ -8,12 +8,12 @@ use flow_core::SubId;
 use script_format::ScriptFault;
 use std::alloc::Global;
 
-/// What the names of a script stand for, each kind in the order of introduction.
+/// The numbers that the names of a script stand for, each kind in the order of introduction.
 #[derive(Drop)]
 pub struct Numbers {
-    /// The number of each emission that waited at first.
+    /// The number of each emission, or `None` if it did not have to wait.
     emissions: Vec<Option<u64>>,
-    /// Each subscription that was not refused.
+    /// Each subscription, or `None` if it was refused.
     subscribers: Vec<Option<SubId>>,
 }
 
@@ -44,7 +44,7 @@ impl Numbers {
         self.subscribers.len()
     }
 
-    /// Adds the next name of an emission, and its number where it waits.
+    /// Adds the next name of an emission, with its number if the emission waits.
     pub fn add_emission(&mut self, number: Option<u64>) -> Result<(), ScriptFault>
         ensures added { OnOk result
             (numbers_of self.new ≡ with_emission number (numbers_of self.old)) }
@@ -55,7 +55,7 @@ impl Numbers {
             .map_err(|_| ScriptFault::OutOfMemory)
     }
 
-    /// Adds the next name of a subscriber, unless its subscription was refused.
+    /// Adds the next name of a subscriber, with its subscription unless that was refused.
     pub fn add_subscriber(&mut self, id: Option<SubId>) -> Result<(), ScriptFault>
         ensures added { OnOk result (
             numbers_of self.new ≡ with_subscriber (option_map number_of id) (numbers_of self.old)) }

@@ -1,4 +1,4 @@
-//! What is seen of the flows of a script beside its answers.
+//! What is observed of the flows of a script, beside the answers.
 ghost use Rattle.std.specs.Prelude.{◌≡◌, IfOk, IfErr};
 ghost use Rattle.script_format.specs.Actions.{action_of};
 ghost use Rattle.flow_script.specs.Rows.{FollowsRow};
@@ -35,7 +35,7 @@ fn lag_of(row: &[Option<PlayedFlow>], named: Option<Subscriber>) -> Option<u64> 
     flow_at(row, named.flow)?.lag(named.place)
 }
 
-/// Returns the place of the flow that a step is about.
+/// Returns the place of the flow that a step acts on.
 fn place_of(step: &Step) -> Option<usize> {
     match step {
         Step::Flow(place, _) | Step::SubscribeWith(place, _) => Some(*place),
@@ -43,7 +43,7 @@ fn place_of(step: &Step) -> Option<usize> {
     }
 }
 
-/// Returns how many values the flow at a place has emitted, where it is a shared flow.
+/// Returns how many values the flow at a place has emitted, if it is a shared flow.
 fn emission_count(row: &[Option<PlayedFlow>], place: Option<usize>) -> Option<u64> {
     flow_at(row, place?)?.emission_count()
 }
@@ -56,7 +56,7 @@ fn moment_of(step: &Step) -> Option<u64> {
     }
 }
 
-/// Plays a step, and adds to its answer what is seen then.
+/// Plays a step, and returns its answer with what was observed.
 pub fn seen_step(
     alloc: Global,
     row: &mut Vec<Option<PlayedFlow>>,
@@ -83,7 +83,7 @@ pub fn seen_step(
     })
 }
 
-/// Returns how many values the subscribers that steps introduced have still to receive.
+/// Returns, for each step, the lag of the subscriber that it introduced.
 pub fn last_lags(
     alloc: Global,
     row: &[Option<PlayedFlow>],

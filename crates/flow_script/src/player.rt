@@ -29,7 +29,7 @@ pub enum Player {
     StateIn(Sharing<ScriptChain, StateHub<i64>>),
 }
 
-/// A flow into which a chain is shared, or why there is none.
+/// A flow into which a chain is shared, or why it was not made.
 type Made = Result<Player, ShareFault>;
 
 /// Returns the chain from its beginning, unless it could not be built.
@@ -62,7 +62,7 @@ impl Player {
         Ok(Player::StateIn(sharing))
     }
 
-    /// Returns a flow before the first step.
+    /// Returns a flow before its first step, or why it was not made.
     pub fn new(alloc: Global, flow: ScriptFlow) -> Result<Self, Refusal>
         ensures { Makes (head_of_flow flow) result }
     {
@@ -86,7 +86,7 @@ impl Player {
         }
     }
 
-    /// Returns the shared flow that the steps are played on, where it is one.
+    /// Returns the shared flow that the steps are played on, if it is one.
     pub fn shared_core(&self) -> Option<&SharedCore<i64>> {
         match self {
             Player::Shared(core) => Some(core),
@@ -95,7 +95,8 @@ impl Player {
         }
     }
 
-    /// Returns a subscription with first values of its own. Only a shared flow that is not a chain's has it.
+    /// Subscribes with first values of the subscriber's own. Only a shared flow into which no chain is shared allows
+    /// this.
     pub fn subscribe_with(
         &mut self,
         numbers: &mut Numbers,

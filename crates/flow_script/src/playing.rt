@@ -35,7 +35,7 @@ fn play_steps(
     Ok(told)
 }
 
-/// Plays a script that was read: its flows are made, and then its steps are played on them.
+/// Plays a script that was read: makes its flows, and then plays its steps on them.
 pub fn played(alloc: Global, script: Script) -> Result<Answers, ScriptFault>
     ensures answers { IfOk result (λ answers.
         said answers ≡ answers_of (heads_of script.flows.items) (actions_of script.steps.items)) }
@@ -87,9 +87,9 @@ pub fn lines_of(alloc: Global, bytes: &[u8]) -> Result<String, ScriptFault>
     }
 }
 
-/// Plays the script that is read, and writes its lines once the last step was played.
+/// Reads a script, plays it, and writes its lines after the last step.
 ///
-/// At most 1,048,577 bytes are asked for.
+/// Takes at most 1,048,577 bytes from the reader.
 pub fn play<R: Read, W: Write>(
     alloc: Global,
     input: &mut Watched<R>,

@@ -10,9 +10,9 @@ use script_chain_format::ScriptFault;
 /// Why a flow of a script was not made.
 #[derive(Clone, Copy)]
 pub enum Refusal {
-    /// Of a flow that was to be made by itself.
+    /// Why a flow without a chain was not made.
     Flow(FlowFault),
-    /// Of a chain that was to be shared.
+    /// Why a chain was not shared.
     Sharing(ShareFault),
 }
 
@@ -36,7 +36,7 @@ impl From<ShareFault> for Refusal {
     }
 }
 
-/// Returns the answer of a call that a flow refused. A call that was out of memory has none: it ends the script.
+/// Returns the answer of a call that a flow refused. Out of memory has no answer: it ends the script.
 pub fn call_refusal(fault: FlowFault) -> Result<Answer, ScriptFault>
     ensures answer { IfOk result (AnswersRefusal fault) }
     ensures memory { IfErr result (λ fault. fault ≡ ScriptFault.OutOfMemory) }
@@ -47,8 +47,8 @@ pub fn call_refusal(fault: FlowFault) -> Result<Answer, ScriptFault>
     Ok(Answer::Refused(fault))
 }
 
-/// Returns the answer of a turn that was refused, or of a chain that was not shared. Out of memory has none: it ends
-/// the script.
+/// Returns the answer of a turn that was refused, or of a chain that was not shared. Out of memory has no answer: it
+/// ends the script.
 pub fn turn_refusal(fault: ShareFault) -> Result<Answer, ScriptFault>
     ensures answer { IfOk result (AnswersTurn fault) }
     ensures memory { IfErr result (λ fault. fault ≡ ScriptFault.OutOfMemory) }
@@ -60,7 +60,7 @@ pub fn turn_refusal(fault: ShareFault) -> Result<Answer, ScriptFault>
 }
 
 impl Refusal {
-    /// Returns the answer of a flow that was not made. Out of memory has none: it ends the script.
+    /// Returns the answer of a flow that was not made. Out of memory has no answer: it ends the script.
     pub fn answer(self) -> Result<Answer, ScriptFault>
         ensures answer { IfOk result (Answers self) }
         ensures memory { IfErr result (λ fault. fault ≡ ScriptFault.OutOfMemory) }

@@ -1,4 +1,4 @@
-//! The flows of a script in a row, as its steps are played on them.
+//! The flows of a script, in a row on which its steps are played.
 ghost use Rattle.std.specs.Prelude.{◌≡◌, ◌++◌, [], ◌∷◌, List, Option, Some, None, Ok, Err, OnOk, IfOk, IfErr, option_map, string_bytes};
 ghost use Rattle.script_format.specs.Actions.{action_of, heads_of, named_head};
 ghost use Rattle.script_format.specs.Heads.{NamedHead};
@@ -25,7 +25,7 @@ pub struct PlayedFlow {
 }
 
 impl PlayedFlow {
-    /// Before the first step on it.
+    /// Returns a flow before its first step.
     fn new(alloc: Global, player: Player) -> Self
         ensures { (p : meaning.Player) → Shows player p →
             ShowsFlow result (meaning.first_played p) }
@@ -36,7 +36,7 @@ impl PlayedFlow {
         }
     }
 
-    /// Returns how many values it has emitted, where it is a shared flow.
+    /// Returns how many values the flow has emitted, if it is a shared flow.
     pub fn emission_count(&self) -> Option<u64> {
         Some(self.player.shared_core()?.emission_count())
     }
@@ -46,7 +46,7 @@ impl PlayedFlow {
         self.numbers.subscribers()
     }
 
-    /// Returns how many values the subscriber of the name at a place has still to receive.
+    /// Returns the lag of the subscriber whose name has this place, if the flow is a shared flow.
     pub fn lag(&self, place: usize) -> Option<u64> {
         let id = self.numbers.subscriber_at(place)?;
         self.player.shared_core()?.lag(id)
@@ -79,7 +79,7 @@ fn add_refused(
     Ok(())
 }
 
-/// Adds a flow that was made, before the first step, and the script goes on.
+/// Adds a flow that was made, and returns that the script continues.
 fn add_made(
     alloc: Global,
     row: &mut Vec<Option<PlayedFlow>>,
@@ -95,7 +95,7 @@ fn add_made(
     Ok(true)
 }
 
-/// Adds a flow with a name that was not made: its place stays empty, and the script goes on.
+/// Adds an empty place for a flow with a name that was not made, and returns that the script continues.
 fn add_not_made(
     row: &mut Vec<Option<PlayedFlow>>,
     not_made: &mut Vec<NotMade>,
@@ -125,7 +125,7 @@ fn end_not_made(not_made: &mut Vec<NotMade>, refused: Refusal) -> Result<bool, S
     Ok(false)
 }
 
-/// Makes one flow more, and returns whether the script goes on: it ends if a flow without a name is refused.
+/// Makes one more flow, and returns whether the script continues: it ends if a flow without a name is refused.
 fn add_flow(
     alloc: Global,
     row: &mut Vec<Option<PlayedFlow>>,

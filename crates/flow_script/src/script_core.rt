@@ -1,4 +1,4 @@
-//! Flows for one thread of any kind, as the steps of scripts call them.
+//! The calls that the steps of scripts make on flows for one thread, of any kind.
 ghost use Rattle.std.specs.Prelude.{◌≡◌, IfOk, IfErr};
 ghost use Rattle.flow_law.specs.History.{replied};
 ghost use Rattle.flow_law.specs.Standing.{Documents};
@@ -13,7 +13,7 @@ use script_format::{FlowStep, ScriptFault};
 
 /// A flow for one thread that scripts play on.
 pub trait ScriptCore: FlowCore<Item = i64> {
-    /// Which calls the steps make, what is replied to them, and the answers by that.
+    /// Which calls the steps make, the replies to them, and the answers for those replies.
     ghost played: { Played Self.State Self.Call Self.Reply };
 
     fn try_emit_value(&mut self, value: i64) -> Result<bool, FlowFault>

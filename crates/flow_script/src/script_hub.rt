@@ -22,13 +22,13 @@ pub trait ScriptHub: Hub<Item = i64> {
     /// The states of the documented flow.
     type State;
 
-    /// For which states the hub's flow stands.
+    /// The states that the hub's flow stands for.
     ghost stands: { Self → Self.State → Type 0 };
 
     /// What a step does on the documented flow.
     ghost flow: { FlowStep → Self.State → Numbers → Turn Self.State };
 
-    /// What the documented flow answers the sharing, unless memory is refused.
+    /// What the documented flow replies to the sharing, unless memory is refused.
     ghost reply: { (c : HubCall ℤ) → Self.State → After (HubAnswer c) Self.State };
 
     /// Plays a step on the hub's flow.

@@ -1,4 +1,4 @@
-//! The text of what a script answers: a line for each answer.
+//! The text of a script's answers: a line for each answer.
 ghost use Rattle.std.specs.Prelude.{◌≡◌, ◌++◌, OnOk, IfOk, codes, map, string_bytes};
 ghost use Rattle.flow_script.specs.Answers.{answer_of};
 ghost use Rattle.flow_script.specs.Lines as lines;
@@ -40,7 +40,7 @@ pub fn add_answer(text: &mut String, answer: &Answer) -> Result<(), AllocError>
     }
 }
 
-/// Adds the name of a flow, before the answer of the flow.
+/// Adds the name of a flow, which precedes the answer of the flow.
 fn add_name(text: &mut String, name: &str) -> Result<(), AllocError>
     ensures { OnOk result (lines.Adds (name.now ++ codes " ") text.old text.new) }
 {
@@ -78,7 +78,7 @@ fn add_steps(text: &mut String, steps: &[Told]) -> Result<(), AllocError>
     Ok(())
 }
 
-/// Returns the text of what a script answers: a line for each answer, which ends with a line feed.
+/// Returns the text of a script's answers: a line for each answer, ended by a line feed.
 pub fn text_of(alloc: Global, answers: &Answers) -> Result<String, AllocError>
     ensures { IfOk result (λ text. string_bytes text ≡ meaning.text_of (said answers.now)) }
 {

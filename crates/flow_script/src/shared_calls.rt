@@ -1,4 +1,4 @@
-//! The steps that shared flows alone have, each with its answer.
+//! The steps that only shared flows have, each with its answer.
 ghost use Rattle.std.specs.Prelude.{◌≡◌, IfOk, IfErr};
 ghost use Rattle.flow_law.specs.Standing.{StandsFor};
 ghost use Rattle.flow_law.specs.SharedHistory.{shared_flow};
@@ -79,7 +79,7 @@ fn reset(core: &mut SharedCore<i64>, numbers: &Numbers) -> Result<Answer, Script
     Ok(Answer::Reset)
 }
 
-/// Returns a subscription with first values of its own.
+/// Subscribes with first values of the subscriber's own.
 pub fn subscribe_with(
     core: &mut SharedCore<i64>,
     numbers: &mut Numbers,

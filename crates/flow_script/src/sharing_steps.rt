@@ -1,4 +1,4 @@
-//! The steps of a script on a chain that is shared, by whichever kind of flow.
+//! The steps of a script on a shared chain, for both kinds of flow.
 ghost use Rattle.std.specs.Prelude.{◌≡◌, IfOk, IfErr};
 ghost use Rattle.flow_script.specs.SharingMeaning.{turn_at, sharing_step as documented_step};
 ghost use Rattle.flow_script.specs.SharingMeaning as meaning;
@@ -30,7 +30,7 @@ fn turn<H: ScriptHub>(
     }
 }
 
-/// Returns whether a step only reads the flow, as those may who share a chain.
+/// Returns whether a step only reads the flow. A flow into which a chain is shared allows no other steps, except turns.
 fn is_reading(step: FlowStep) -> bool
     ensures { result ≡ meaning.is_reading step }
 {
@@ -45,7 +45,7 @@ fn is_reading(step: FlowStep) -> bool
     }
 }
 
-/// Plays a step that is no turn.
+/// Plays a step other than a turn.
 fn read<H: ScriptHub>(
     sharing: &mut Sharing<ScriptChain, H>,
     numbers: &mut Numbers,

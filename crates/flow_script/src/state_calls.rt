@@ -1,4 +1,4 @@
-//! The steps that state flows alone have, each with its answer.
+//! The steps that only state flows have, each with its answer.
 ghost use Rattle.std.specs.Prelude.{◌≡◌, IfOk, IfErr};
 ghost use Rattle.flow_law.specs.StateFlow.{state_flow};
 ghost use Rattle.flow_script.specs.FlowMeaning.{own_turn};

@@ -1,4 +1,4 @@
-//! The lines by which a program tells why a script was not played, and its statuses.
+//! The lines in which a program reports why a script was not played, and its exit statuses.
 ghost use Rattle.std.specs.Prelude.{◌≡◌, ◌≢◌, ◌⊎◌, ◌++◌, false, OnOk, IfOk, string_bytes};
 ghost use Rattle.flow_script.specs.Playing.{write_failed};
 ghost use Rattle.flow_script.specs.Watching.{inner_of, has_failed};
@@ -10,14 +10,14 @@ use script_format::ScriptFault;
 use std::alloc::{AllocError, Global};
 use std::io::{ErrorKind, Write};
 
-/// The script or the arguments were refused.
+/// The status if the script or the arguments were refused.
 pub const REFUSED: u8 = 2;
-/// A read or a write failed.
+/// The status if a read or a write failed.
 pub const TRANSFER_FAILED: u8 = 3;
 
 pub const OUT_OF_MEMORY: u8 = 4;
 
-/// Prints a line, and answers this status, or that of a write that failed.
+/// Prints a line, and returns this status, or `TRANSFER_FAILED` if a write failed.
 pub fn tell<W: Write>(output: &mut Watched<W>, line: &str, status: u8) -> u8
     requires { has_failed output.old ≡ false }
     ensures { Tells (has_failed output.new)
@@ -30,7 +30,7 @@ pub fn tell<W: Write>(output: &mut Watched<W>, line: &str, status: u8) -> u8
     }
 }
 
-/// Says that memory was refused.
+/// Prints that the program is out of memory, and returns the status.
 pub fn tell_memory<W: Write>(output: &mut Watched<W>) -> u8
     requires { has_failed output.old ≡ false }
     ensures { Tells (has_failed output.new)
@@ -39,7 +39,8 @@ pub fn tell_memory<W: Write>(output: &mut Watched<W>) -> u8
     tell(output, "out of memory\n", OUT_OF_MEMORY)
 }
 
-/// Says why the arguments of a program were not read: out of memory, or else, in this line, how it is called.
+/// Prints why the arguments of a program were not read, and returns the status. The line is `usage`, unless memory was
+/// refused.
 pub fn tell_arguments<W: Write>(output: &mut Watched<W>, kind: ErrorKind, usage: &str) -> u8
     requires { has_failed output.old ≡ false }
     ensures memory { kind ≡ ErrorKind.OutOfMemory → Tells (has_failed output.new)
@@ -53,7 +54,7 @@ pub fn tell_arguments<W: Write>(output: &mut Watched<W>, kind: ErrorKind, usage:
     }
 }
 
-/// Returns the line by which a program reports a fault.
+/// Returns the line in which a program reports a fault.
 pub fn line_of(alloc: Global, fault: ScriptFault) -> Result<String, AllocError>
     ensures { IfOk result (λ line. string_bytes line ≡ fault_line fault) }
 {
@@ -82,7 +83,8 @@ fn add_fault(line: &mut String, fault: ScriptFault) -> Result<(), AllocError>
     }
 }
 
-/// Prints the refusal of a script. Where there is no memory for its line, that is told.
+/// Prints the refusal of a script, or that the program is out of memory if there is no memory for the line. Returns the
+/// status.
 fn refuse<W: Write>(alloc: Global, output: &mut Watched<W>, fault: ScriptFault) -> u8
     requires { has_failed output.old ≡ false }
     ensures { Tells (has_failed output.new) (W.contents (inner_of output.old))
@@ -98,8 +100,7 @@ fn refuse<W: Write>(alloc: Global, output: &mut Watched<W>, fault: ScriptFault) 
     }
 }
 
-/// Says why a script was not played, and answers the status of that. After a write that failed nothing more is
-/// printed.
+/// Prints why a script was not played, and returns the status. Prints nothing after a write that failed.
 pub fn tell_fault<W: Write>(alloc: Global, output: &mut Watched<W>, fault: ScriptFault) -> u8
     requires { has_failed output.old ≡ write_failed fault }
     ensures { (told : ScriptFault) ×

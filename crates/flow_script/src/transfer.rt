@@ -10,10 +10,10 @@ use script_format::{MOST_BYTES, ScriptFault};
 use std::alloc::Global;
 use std::io::{Read, Write};
 
-/// The most bytes that are asked for at once.
+/// The most bytes that one read asks for.
 const CHUNK: usize = 4096;
 
-/// Reads some bytes, and none only at the end.
+/// Reads some bytes, and returns how many: 0 only at the end of the input.
 fn read_some<R: Read>(input: &mut Watched<R>, bytes: &mut Vec<u8>) -> Result<usize, ScriptFault>
     requires { vec_len bytes.old ≤ most_bytes }
     ensures grows { IfOk result (λ count. (vec_len bytes.new ≡ vec_len bytes.old + count)
@@ -40,7 +40,7 @@ fn read_some<R: Read>(input: &mut Watched<R>, bytes: &mut Vec<u8>) -> Result<usi
     }
 }
 
-/// Reads to the end, or one byte past the most that a script may have.
+/// Reads to the end of the input, or to one byte more than a script may have.
 pub fn read_all<R: Read>(alloc: Global, input: &mut Watched<R>) -> Result<Vec<u8>, ScriptFault>
     ensures bytes { IfOk result (λ bytes. Consumes (R.remaining (inner_of input.old))
         (R.remaining (inner_of input.new)) bytes.items) }
@@ -60,7 +60,8 @@ pub fn read_all<R: Read>(alloc: Global, input: &mut Watched<R>) -> Result<Vec<u8
     Ok(bytes)
 }
 
-/// Writes all the bytes, or the first of them. A write that takes none is a fault.
+/// Writes all the bytes. If a write fails or takes none of its bytes, returns `WriteFailed`; then only the first bytes
+/// were written.
 pub fn write_all<W: Write>(output: &mut Watched<W>, text: &[u8]) -> Result<(), ScriptFault>
     ensures ok { OnOk result (Appends (W.contents (inner_of output.old))
         (W.contents (inner_of output.new)) text.now) }

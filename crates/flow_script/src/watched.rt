@@ -1,4 +1,4 @@
-//! A reader or a writer that remembers whether it failed.
+//! A reader or a writer that records whether it failed.
 ghost use Rattle.std.specs.Prelude.{◌≡◌, ◌||◌, Bool, true, false, is_err};
 ghost use Rattle.std.specs.Io.{ReadsAtMost, WritesAtMost};
 ghost use Rattle.std.specs.Io.KnownBytes.{Keeps, ReadConsumes, WriteAppends};
@@ -8,8 +8,8 @@ ghost use Rattle.flow_script.specs.Watching.{inner_of, has_failed};
 use std::io;
 use std::io::{Read, Write};
 
-/// A reader or a writer that remembers whether it failed. A caller that gives one to `play` can tell by it whose fault
-/// an error was.
+/// A reader or a writer that records whether it failed. After a call of `play`, `failed` says whether the reader or the
+/// writer caused a fault.
 #[derive(Drop)]
 pub struct Watched<I> {
     inner: I,
@@ -17,7 +17,7 @@ pub struct Watched<I> {
 }
 
 impl<I> Watched<I> {
-    /// Nothing has failed yet.
+    /// Wraps a reader or a writer, which has not failed yet.
     pub fn new(inner: I) -> Self
         ensures inner { inner_of result ≡ inner }
         ensures failed { has_failed result ≡ false }
@@ -28,7 +28,7 @@ impl<I> Watched<I> {
         }
     }
 
-    /// Returns whether a call failed so far, or a write of some bytes took none.
+    /// Returns whether a call has failed so far, or a write of some bytes took none of them.
     pub fn failed(&self) -> bool
         ensures { result ≡ has_failed self.now }
     {

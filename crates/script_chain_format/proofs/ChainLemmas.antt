@@ -1,4 +1,4 @@
--- Chains as the reader builds them, and as the definitions have them.
+-- Chains of the reader, and those of the definitions that they stand for.
 use Rattle.std.proofs.Common.{◌≡◌, ◌≢◌, ℕ, zero, suc, ◌+◌, ◌-◌, ◌<◌, ◌≤◌, nat_lt, if◌then◌else◌, arith, Result, Ok, Err, List, [], ◌∷◌, ◌++◌, length, drop, get_or, Bool, true, false, Option, Some, None, refl, sym, ap, ◌∙◌, append_assoc, append-nil}
 use Rattle.std.specs.Prelude.{option_map, option_and_then, is_some}
 use Rattle.std.specs.Option.{option_map_or}
@@ -29,7 +29,7 @@ joined : {X : Type 0} (done : List X) (x : X) (o : Option (List X))
 joined done x (Some rest) = ap Some (append_assoc done (x ∷ []) rest)
 joined done x None = refl
 
--- where a value gives something, the rest gives the rest of the whole
+-- if a value gives something, the values after it give what the whole still lacks
 pub all-more : {X : Type 0} (f : Data → Option X) (vs : List Value) (i : ℕ) (v : Value) (x : X) (done more : List X) (whole : Option (List X))
     → i < length vs → v ≡ get_or vs i v → f (view v) ≡ Some x → more ≡ done ++ x ∷ []
     → option_map (λ rest. done ++ rest) (all_of f (items_view (drop i vs))) ≡ whole
@@ -41,7 +41,7 @@ all-more f vs i v x done more whole here is gives pushed before =
     ∙ ap (λ l. option_map (λ rest. done ++ rest) (all_of f (items_view l))) (sym (rest_from vs i v here is))
     ∙ before
 
--- where a value gives nothing, so does the whole
+-- if a value gives nothing, neither does the whole
 pub all-none : {X : Type 0} (f : Data → Option X) (vs : List Value) (i : ℕ) (v : Value) (done : List X) (whole : Option (List X))
     → i < length vs → v ≡ get_or vs i v → f (view v) ≡ None
     → option_map (λ rest. done ++ rest) (all_of f (items_view (drop i vs))) ≡ whole → whole ≡ None
@@ -50,7 +50,7 @@ all-none f vs i v done whole here is gives before =
     ∙ ap (λ l. option_map (λ rest. done ++ rest) (all_of f (items_view l))) (rest_from vs i v here is)
     ∙ ap (λ o. option_map (λ rest. done ++ rest) (option_and_then (λ y. option_map (λ ys. y ∷ ys) (all_of f (items_view (drop (i + 1) vs)))) o)) gives
 
--- where nothing is left, what was found is the whole
+-- if no value is left, what was found is the whole
 pub all-over : {X : Type 0} (f : Data → Option X) (vs : List Value) (i : ℕ) (done : List X) (whole : Option (List X))
     → length vs ≤ i → option_map (λ rest. done ++ rest) (all_of f (items_view (drop i vs))) ≡ whole → whole ≡ Some done
 all-over f vs i done whole over before =
@@ -83,7 +83,7 @@ pub ops-over : (f : Data → Result (Result Operator ChainFault) ScriptFault) (v
     → length vs ≤ i → ops_on f m (items_view (drop i vs)) ≡ whole → m ≡ whole
 ops-over f vs i m whole over before = ap (λ l. ops_on f m (items_view l)) (sym (drop_of_length-le vs {i = i} over)) ∙ before
 
--- a refusal that comes first stays, whatever operators follow
+-- a fault that takes precedence stays, whatever operators follow
 pub ops-final : (f : Data → Result (Result Operator ChainFault) ScriptFault) (fault : ScriptFault) (ds : Items) → comes_first fault ≡ true → ops_on f (Err fault) ds ≡ Err fault
 ops-final f fault no_items first = refl
 ops-final f fault (item d ds) first = ap (λ r. ops_on f (Err r) ds) (stays-first fault (f d) first) ∙ ops-final f fault ds first
@@ -127,7 +127,7 @@ all-length f [] xs is =
     ap length (sym same)
 all-length f (v ∷ vs) xs is = one-longer (f (view v)) (all_of f (items_view vs)) (length vs) xs (λ ys. all-length f vs ys) is
 
--- ---- no more than so many
+-- ---- limits on the number of values
 
 abbrev pub no_more : {X : Type 0} → ℕ → ℕ → Option (List X) → Result (List X) ScriptFault
 no_more at most o = result_then (λ xs. within at most (length xs) xs) (or_fault (BadShape at) o)

@@ -1,4 +1,4 @@
--- How long the lists of JSON data are, and what is left of a list behind an index.
+-- The lengths of the lists of JSON data, and what is left of a list from an index on.
 use Rattle.std.proofs.Common.{◌≡◌, Bool, ◌||◌, map, ℕ, suc, ◌+◌, ◌<◌, List, [], ◌∷◌, length, drop, get_or, String, Global, refl, sym, ap, ◌∙◌, add-one}
 use Rattle.std.proofs.Math.Seq.{drop-cons}
 use Rattle.std.specs.List.{list_any}

@@ -1,6 +1,6 @@
 -- What the JSON text of a chain says, and what the chain gives.
--- Begin with `chain_in`. A chain of the right form within its limits may still be refused when it is built: that is no
--- fault of the script, but what its collection tells.
+-- Begin with `chain_in`. A chain of the right form within its limits may still be refused when it is built. That does not refuse the
+-- script: the collection or the sharing of the chain reports it.
 use Rattle.std.specs.Prelude.{ℕ, zero, suc, ◌+◌, Bool, false, ◌==◌, nat_lt, max, if◌then◌else◌, ℤ, List, [], ◌∷◌, Option, Some, None, option_map, option_and_then, Result, Ok, Err, codes}
 use Rattle.std.specs.Option.{option_map_or}
 use Rattle.std.specs.Ordering.{int_eq}
@@ -36,18 +36,18 @@ use Rattle.script_chain_format.specs.SourceFormat.{within, numbers_in, source_in
 abbrev pub most_added : ℕ
 most_added = 16
 
--- the most items that a `flat_map` makes of one
+-- the most items that a `flat_map` makes of one item
 abbrev pub most_spread : ℕ
 most_spread = 1000
 
 -- ---- words
 
--- the operators of version 2 alone
+-- the operator that a text names, among those that only version 2 has
 abbrev pub later_op_named : Version → List ℕ → Option OpName
 later_op_named One text = None
 later_op_named Two text = if bytes_eq text (codes "drop_while") then Some DropWhile else (if bytes_eq text (codes "running_reduce") then Some RunningReduce else None)
 
--- the operators that look at the items before an item, too, or at those of another chain
+-- the operator that a text names, among those whose results also depend on earlier items or on another chain
 abbrev pub run_op_named : Version → List ℕ → Option OpName
 run_op_named version text =
     if bytes_eq text (codes "take_while") then Some TakeWhile
@@ -69,7 +69,7 @@ op_named version text =
 abbrev pub op_name_of : Version → Data → Option OpName
 op_name_of version d = option_and_then (op_named version) (text_at (codes "op") d)
 
--- how a number is computed, by its word
+-- the arithmetic that a word names
 abbrev pub arithmetic_named : List ℕ → Option Arithmetic
 arithmetic_named text = if bytes_eq text (codes "add") then Some arithmetic.Add else (if bytes_eq text (codes "mul") then Some arithmetic.Mul else None)
 
@@ -77,7 +77,7 @@ arithmetic_named text = if bytes_eq text (codes "add") then Some arithmetic.Add 
 abbrev pub arithmetic_at : Data → Option Arithmetic
 arithmetic_at d = option_and_then arithmetic_named (text_at (codes "by") d)
 
--- how two items are joined, by its word
+-- the way to join two items that a word names
 abbrev pub joining_named : List ℕ → Option Joining
 joining_named text =
     if bytes_eq text (codes "add") then Some joining.Add
@@ -89,19 +89,19 @@ joining_named text =
 abbrev pub joining_at : Data → Option Joining
 joining_at d = option_and_then joining_named (text_at (codes "by") d)
 
--- what becomes of an item, by its word
+-- what a `flat_map` makes of an item, by its word
 abbrev pub spread_named : List ℕ → Option Spread
 spread_named text = if bytes_eq text (codes "range") then Some spread.Range else (if bytes_eq text (codes "repeat") then Some spread.Repeat else None)
 
--- what a `flat_map` makes of an item
+-- what a `flat_map` makes of an item, by its key `to`
 abbrev pub spread_at : Data → Option Spread
 spread_at d = option_and_then spread_named (text_at (codes "to") d)
 
--- the number that a test compares with; the operator has no other key than that and its test
+-- the number that a test compares with, if the operator has no keys except `op`, `by` and `k`
 abbrev pub compared_with : Data → Option ℤ
 compared_with d = where_true (has_only (codes "op" ∷ codes "by" ∷ codes "k" ∷ []) d) (i64_at (codes "k") d)
 
--- even and odd stand alone, the others have a number beside them
+-- the test that a word names: `even` and `odd` take no number, the others take one
 abbrev pub test_named : List ℕ → Data → Option Test
 test_named text d =
     if bytes_eq text (codes "even") then where_true (has_only (codes "op" ∷ codes "by" ∷ []) d) (Some test.Even)
@@ -123,7 +123,7 @@ pub record BuiltChain : Type 0 where
 
 -- an operator: what it does to the run of a chain, and how deep the chain is with it
 pub record Operator : Type 0 where
-  -- a take of nothing
+  -- whether it is a `take` of no items
   pub takes_none : Bool
   -- how deep a chain is with it
   pub depth : ℕ → ℕ
@@ -133,15 +133,15 @@ pub record Operator : Type 0 where
 abbrev pub one_deeper : (ChainRun ℤ → ChainRun ℤ) → Operator
 one_deeper run = record { takes_none = false; depth = λ depth. depth + 1; run = run }
 
--- a `take` of so many items
+-- a `take` of this many items
 abbrev pub take_operator : ℕ → Operator
 take_operator count = record { takes_none = count == 0; depth = λ depth. depth + 1; run = take_run count }
 
--- a `zip` with a chain that was built: as deep as the deeper of the two, and one more
+-- a `zip` with a chain that was built; it is one deeper than the deeper of the two chains
 abbrev pub zip_operator : Joining → BuiltChain → Operator
 zip_operator by with = record { takes_none = false; depth = λ depth. max depth with.depth + 1; run = λ r. zip_run (joined by) r with.run }
 
--- how an operator computes, and the number under its only other key
+-- an operator's arithmetic, and the number under its only other key
 abbrev pub computing_with : List ℕ → Data → Option (Arithmetic × ℤ)
 computing_with key d = where_true (has_only (codes "op" ∷ codes "by" ∷ key ∷ []) d) (option_and_then (λ by. option_map (λ number. (by, number)) (i64_at key d)) (arithmetic_at d))
 
@@ -173,7 +173,7 @@ drop_of d = where_true (has_only (codes "op" ∷ codes "n" ∷ []) d) (option_ma
 abbrev pub scan_of : Data → Option Operator
 scan_of d = option_map (λ c. one_deeper (λ r. gives c.1 (scan_run (computed c.0) c.1 r))) (computing_with (codes "from") d)
 
--- a `running_reduce`, whose first item is the first that it gives
+-- a `running_reduce`, which gives its first item unchanged
 abbrev pub running_reduce_of : Data → Option Operator
 running_reduce_of d = where_true (has_only (codes "op" ∷ codes "by" ∷ []) d) (option_map (λ by. one_deeper (running_reduce_run (computed by) None)) (arithmetic_at d))
 
@@ -186,11 +186,11 @@ abbrev pub transform_in : ℕ → Data → Result Operator ScriptFault
 transform_in at d = result_map (λ entries. one_deeper (transform_run (sums entries)))
     (result_then (numbers_in at most_added) (or_fault (BadShape at) (where_true (has_only (codes "op" ∷ codes "add" ∷ []) d) (get (codes "add") d))))
 
--- what a `flat_map` makes of an item, and how many of it
+-- what a `flat_map` makes of an item, and how many numbers it makes
 abbrev pub flat_map_of : Data → Option (Spread × ℕ)
 flat_map_of d = where_true (has_only (codes "op" ∷ codes "to" ∷ codes "n" ∷ []) d) (option_and_then (λ to. option_map (λ n. (to, n)) (u64_at (codes "n") d)) (spread_at d))
 
--- a `flat_map`, if it makes no more of an item than it may
+-- a `flat_map`, or `TooLarge` if it makes more of an item than is allowed
 abbrev pub flat_map_in : ℕ → Data → Result Operator ScriptFault
 flat_map_in at d = result_then (λ f. within at most_spread f.1 (one_deeper (flat_map_run (spread_run f.0 f.1)))) (or_fault (BadShape at) (flat_map_of d))
 
@@ -198,7 +198,7 @@ flat_map_in at d = result_then (λ f. within at most_spread f.1 (one_deeper (fla
 abbrev pub zip_of : Data → Option (Joining × Data)
 zip_of d = where_true (has_only (codes "op" ∷ codes "by" ∷ codes "with" ∷ []) d) (option_and_then (λ by. option_map (λ with. (by, with)) (get (codes "with") d)) (joining_at d))
 
--- an operator that is no zip
+-- the operator of this name; a zip is a `BadShape` here, since `zip_parts` reads it
 abbrev pub operator_named : OpName → ℕ → Data → Result Operator ScriptFault
 operator_named Map at d = or_fault (BadShape at) (map_of d)
 operator_named Filter at d = or_fault (BadShape at) (filter_of d)
@@ -213,11 +213,11 @@ operator_named FlatMap at d = flat_map_in at d
 operator_named Zip at d = Err (BadShape at)
 operator_named Distinct at d = or_fault (BadShape at) (distinct_of d)
 
--- an operator by the word of its key `op`, if it is no zip
+-- the operator that the key `op` names, if it is not a zip
 abbrev pub operator_in : Version → ℕ → Data → Result Operator ScriptFault
 operator_in version at d = result_then (λ name. operator_named name at d) (or_fault (BadShape at) (op_name_of version d))
 
--- the joining and the other chain of an operator that is a zip
+-- how an operator of this name joins, and the chain that it joins with, if it is a zip
 abbrev pub zip_by : OpName → Data → Option (Joining × Data)
 zip_by Zip d = zip_of d
 zip_by _ d = None
@@ -236,19 +236,19 @@ Build = Result BuiltChain ChainFault
 abbrev pub deepest : ℕ
 deepest = 64
 
--- a take of nothing is refused first, then a chain that would be too deep
+-- the chain with one more operator: a `take` of no items is refused first, then a chain that would be too deep
 abbrev pub with_operator : Operator → BuiltChain → Build
 with_operator o chain =
     if o.takes_none then Err NotPositive
     else (if nat_lt deepest (o.depth chain.depth) then Err TooDeep else Ok (record { depth = o.depth chain.depth; run = o.run chain.run }))
 
--- the first refusal is the chain's: what stands before the operator comes first, then the other chain of a zip
+-- the chain with one more operator; a refusal of the chain takes precedence over one of the other chain of a zip
 abbrev pub built_on : Build → Result Operator ChainFault → Build
 built_on (Err fault) o = Err fault
 built_on (Ok chain) (Err fault) = Err fault
 built_on (Ok chain) (Ok o) = with_operator o chain
 
--- a bad form anywhere in the chain comes before a limit
+-- the chain that was read, with one more operator; a bad form anywhere in it takes precedence over a limit
 abbrev pub joined_to : Result Build ScriptFault → Result (Result Operator ChainFault) ScriptFault → Result Build ScriptFault
 joined_to (Ok chain) o = result_map (built_on chain) o
 joined_to (Err fault) o = Err (first_fault fault o)
@@ -270,30 +270,30 @@ parts_of d = where_true (has_only (codes "from" ∷ codes "ops" ∷ []) d) (opti
 abbrev pub zipped : Joining → Result Build ScriptFault → Result (Result Operator ChainFault) ScriptFault
 zipped by r = result_map (zip_with by) r
 
--- an operator that is no zip: nothing of it is refused when it is built on a chain
+-- an operator that is not a zip, so that no inner chain can be refused
 abbrev pub plain : Result Operator ScriptFault → Result (Result Operator ChainFault) ScriptFault
 plain r = result_map (λ o. Ok o) r
 
--- an operator, where `chain_by` reads the other chain of a zip
+-- an operator; `chain_by` reads the other chain of a zip
 abbrev pub operator_where : (Data → Result Build ScriptFault) → Version → ℕ → Data → Result (Result Operator ChainFault) ScriptFault
 operator_where chain_by version at d = option_map_or (λ zip. zipped zip.0 (chain_by zip.1)) (zip_parts version d) (plain (operator_in version at d))
 
--- the chain with these operators behind it, of which `operator_by` reads each
+-- the chain with these operators added in order; `operator_by` reads each of them
 abbrev pub ops_on : (Data → Result (Result Operator ChainFault) ScriptFault) → Result Build ScriptFault → Items → Result Build ScriptFault
 ops_on operator_by chain no_items = chain
 ops_on operator_by chain (item d ds) = ops_on operator_by (joined_to chain (operator_by d)) ds
 
--- the chain of a text, where zips may nest so deep in it
+-- the chain of a text; it and the chains of its zips may nest this deep
 abbrev pub chain_at : Version → ℕ → ℕ → Data → Result Build ScriptFault
 chain_at version zero at d = Err (BadShape at)
 chain_at version (suc levels) at d =
     result_then (λ parts. ops_on (operator_where (chain_at version levels at) version at) (start_of (source_in at parts.0)) parts.1) (or_fault (BadShape at) (parts_of d))
 
--- an operator, where zips may nest so deep in it
+-- an operator; the chains of its zips may nest this deep
 abbrev pub operator_at : Version → ℕ → ℕ → Data → Result (Result Operator ChainFault) ScriptFault
 operator_at version levels at d = operator_where (chain_at version levels at) version at d
 
--- more than any text nests: JSON nests at most 127 deep, and three deeper with each zip
+-- no text nests chains this deep: JSON nests at most 127 deep, and each zip adds three levels
 unfoldable pub most_levels : ℕ
 most_levels = 127
 

@@ -1,4 +1,4 @@
--- What the reader's numbers, operators and chains are in the definitions' terms.
+-- Turns the numbers, operators and chains of the reader into those of the definitions.
 use Rattle.std.specs.Prelude.{◌==◌, ℤ, Bool, false, List, Result, Ok, Err, Vec}
 use Rattle.std.specs.declared.alloc.Global.{Global}
 use Rattle.flow_law.specs.declared.chain.ChainFault.{ChainFault}
@@ -36,7 +36,7 @@ abbrev pub build_of : Result ScriptChain ChainFault → Build
 build_of (Ok chain) = Ok (built_of chain)
 build_of (Err fault) = Err fault
 
--- whether it is a `take` of nothing
+-- whether it is a `take` of no items
 abbrev pub takes_none : Op → Bool
 takes_none (Take count) = count == 0
 takes_none _ = false

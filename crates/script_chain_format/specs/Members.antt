@@ -18,7 +18,7 @@ u64_at key d = option_and_then as_u64 (option_and_then as_number (get key d))
 abbrev pub u32_at : List ℕ → Data → Option ℕ
 u32_at key d = option_and_then (λ n. if nat_lt n (2 ^ 32) then Some n else None) (u64_at key d)
 
--- the number of a member, if it is one of 64 bits with a sign
+-- the number of a member, if it is a whole number from -2^63 to 2^63 - 1
 abbrev pub i64_at : List ℕ → Data → Option ℤ
 i64_at key d = option_and_then as_i64 (option_and_then as_number (get key d))
 
@@ -26,29 +26,29 @@ i64_at key d = option_and_then as_i64 (option_and_then as_number (get key d))
 abbrev pub text_at : List ℕ → Data → Option (List ℕ)
 text_at key d = option_and_then as_str (get key d)
 
--- an object that has no keys except these
+-- whether the key of each member is one of these
 abbrev pub are_among : List (List ℕ) → Members → Bool
 are_among keys no_members = true
 are_among keys (member key value ms) = list_any (bytes_eq key) keys && are_among keys ms
 
--- an object whose keys are all among these
+-- whether the data is an object whose keys are all among these
 abbrev pub has_only : List (List ℕ) → Data → Bool
 has_only keys d = option_map_or (are_among keys) (as_object d) false
 
--- the shape, if the test passes
+-- the option, if the test is true; otherwise none
 abbrev pub where_true : {A : Type 0} → Bool → Option A → Option A
 where_true test o = if test then o else None
 
--- the value of the key of an object that has no other
+-- the value of the key, in an object that has no other key
 abbrev pub only_at : List ℕ → Data → Option Data
 only_at key d = where_true (has_only (key ∷ []) d) (get key d)
 
 -- ---- versions
 
--- the version of a number, if there is one
+-- the version with this number, if there is one
 abbrev pub version_numbered : ℕ → Option Version
 version_numbered number = if number == 1 then Some One else (if number == 2 then Some Two else None)
 
--- the version that the key `version` says
+-- the version under the key `version`
 abbrev pub version_of : Data → Option Version
 version_of d = option_and_then version_numbered (u64_at (codes "version") d)

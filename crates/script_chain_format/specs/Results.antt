@@ -1,15 +1,15 @@
--- Results that are told by a script's faults, and what a reader gives of them.
+-- Results that may be a fault of the script, which of two faults comes first, and what a reader gives.
 use Rattle.std.specs.Prelude.{◌≡◌, Bool, true, false, Option, Result, Ok, Err}
 use Rattle.std.specs.Option.{option_map_or}
 use Rattle.script_chain_format.specs.declared.reading.fault.ScriptFault.{ScriptFault}
 use Rattle.script_chain_format.specs.declared.reading.fault.ScriptFault.TheVariants.{OutOfMemory, ReadFailed, WriteFailed, NotJson, BadVersion, BadShape, UnknownName, DuplicateName, TooLarge}
 
--- goes on with what was read, unless there was a fault
+-- applies a function that may fail to what was read; keeps a fault
 abbrev pub result_then : {A B : Type 0} → (A → Result B ScriptFault) → Result A ScriptFault → Result B ScriptFault
 result_then follow (Ok a) = follow a
 result_then follow (Err fault) = Err fault
 
--- makes something of what was read, unless there was a fault
+-- applies a function to what was read; keeps a fault
 abbrev pub result_map : {A B : Type 0} → (A → B) → Result A ScriptFault → Result B ScriptFault
 result_map f (Ok a) = Ok (f a)
 result_map f (Err fault) = Err fault
@@ -20,30 +20,30 @@ or_fault fault o = option_map_or (λ a. Ok a) o (Err fault)
 
 -- ---- faults of one part of a script
 
--- no fault that is found later in the same part comes before it: only a limit gives way, to a bad form
+-- whether the fault takes precedence over every fault found later in the same part; only a limit does not
 abbrev pub comes_first : ScriptFault → Bool
 comes_first (TooLarge at) = false
 comes_first _ = true
 
--- a fault that no later one of the same part comes before
+-- whether it is a fault that takes precedence over every fault found later in the same part
 abbrev pub is_final : {A : Type 0} → Result A ScriptFault → Bool
 is_final (Ok a) = false
 is_final (Err fault) = comes_first fault
 
--- of two faults, found one after the other in the same part, the one that refuses it
+-- which of two faults, found one after the other in the same part, refuses it: a bad form, or out of memory, comes before a limit
 abbrev pub first_of : ScriptFault → ScriptFault → ScriptFault
 first_of (TooLarge at) (BadShape k) = BadShape k
 first_of (TooLarge at) OutOfMemory = OutOfMemory
 first_of fault next = fault
 
--- the same, where what is found next may be no fault
+-- which fault refuses a part, by a fault and what is read next, which may be no fault
 abbrev pub first_fault : {A : Type 0} → ScriptFault → Result A ScriptFault → ScriptFault
 first_fault fault (Ok a) = fault
 first_fault fault (Err next) = first_of fault next
 
 -- ---- what a reader gives
 
--- a result is what is meant, or tells that memory was refused
+-- the result is the meaning, or out of memory
 abbrev pub Gives : {A : Type 0} → Result A ScriptFault → Result A ScriptFault → Type 0
 Gives meaning (Ok a) = meaning ≡ Ok a
 Gives meaning (Err OutOfMemory) = Unit {0}

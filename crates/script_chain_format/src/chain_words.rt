@@ -1,4 +1,4 @@
-//! The words of chains: how a number makes a result, which numbers pass, and the like.
+//! The words of chains: names of operators, arithmetic, tests, and ways to spread and to join.
 ghost use Rattle.std.specs.Prelude.{◌≡◌};
 ghost use Rattle.serde_json.specs.View.{view};
 ghost use Rattle.script_chain_format.specs.ChainFormat as chains;
@@ -8,7 +8,7 @@ use crate::reading::version::Version;
 use flow_cold::{Arithmetic, Joining, Spread, Test};
 use serde_json::Value;
 
-/// What an operator does, by the text of its key `op`.
+/// The name of an operator, by the text of its key `op`.
 #[derive(Clone, Copy)]
 pub enum OpName {
     Map,
@@ -25,7 +25,7 @@ pub enum OpName {
     Distinct,
 }
 
-/// Returns the operators of version 2 alone.
+/// Returns the operator that a text names, among those that only version 2 has.
 fn later_op_named(version: Version, text: &str) -> Option<OpName>
     ensures { result ≡ chains.later_op_named version text.now }
 {
@@ -41,7 +41,7 @@ fn later_op_named(version: Version, text: &str) -> Option<OpName>
     }
 }
 
-/// Returns an operator that looks at the items before an item, too, or at those of another chain.
+/// Returns the operator that a text names, among those whose results also depend on earlier items or on another chain.
 fn run_op_named(version: Version, text: &str) -> Option<OpName>
     ensures { result ≡ chains.run_op_named version text.now }
 {
@@ -75,7 +75,7 @@ pub fn op_name_of(version: Version, op: &Value) -> Option<OpName>
     op_named(version, text_at(op, "op")?)
 }
 
-/// How a `map`, a `scan` or a `running_reduce` computes.
+/// Returns how a `map`, a `scan` or a `running_reduce` computes.
 pub fn arithmetic_at(op: &Value) -> Option<Arithmetic>
     ensures { result ≡ chains.arithmetic_at (view op.now) }
 {
@@ -97,8 +97,8 @@ fn compared_with(op: &Value) -> Option<i64>
     }
 }
 
-/// Returns the test of a `filter`, a `take_while` or a `drop_while`: even and odd stand alone, the others have a number
-/// beside them.
+/// Returns the test of a `filter`, a `take_while` or a `drop_while`: `even` and `odd` take no number, the others take
+/// one.
 pub fn test_of(op: &Value) -> Option<Test>
     ensures { result ≡ chains.test_of (view op.now) }
 {
@@ -123,7 +123,7 @@ pub fn spread_at(op: &Value) -> Option<Spread>
     }
 }
 
-/// How a `zip` joins.
+/// Returns how a `zip` joins.
 pub fn joining_at(op: &Value) -> Option<Joining>
     ensures { result ≡ chains.joining_at (view op.now) }
 {

@@ -17,10 +17,11 @@ use flow_cold::{ChainFault, Joining, Op, ScriptChain, Source};
 use serde_json::Value;
 use std::alloc::Global;
 
-/// A chain of a script, or why it could not be built. That is no fault of the script, but what its collection tells.
+/// A chain of a script, or why it could not be built. That does not refuse the script: the collection or the sharing of
+/// the chain reports it.
 pub type Build = Result<ScriptChain, ChainFault>;
 
-/// How deep zips may nest: more than any text does, since JSON nests at most 127 deep, and three deeper with each zip.
+/// How deep chains may nest. No text reaches this: JSON nests at most 127 deep, and each zip adds three levels.
 const MOST_LEVELS: u32 = 127;
 
 /// Returns the source and the operators of a chain.
@@ -36,7 +37,7 @@ fn parts_of(chain: &Value) -> Option<(&Value, &Vec<Value>)>
     Some((from, ops))
 }
 
-/// Returns the chain of a source alone.
+/// Returns the chain that has this source and no operators.
 fn start_of(source: Result<Source, ScriptFault>) -> Result<Build, ScriptFault>
     ensures { (m : Result (ChainRun ℤ) TheScriptFault) → Gives m (source_result source)
         → Gives (chains.start_of m) (build_result result) }
@@ -44,14 +45,14 @@ fn start_of(source: Result<Source, ScriptFault>) -> Result<Build, ScriptFault>
     Ok(Ok(ScriptChain::source(source?)))
 }
 
-/// Returns the zip with a chain, unless that could not be built.
+/// Returns the zip with a chain, or why that chain could not be built.
 fn zip_with(by: Joining, with: Build) -> Result<Op, ChainFault>
     ensures { operator_build result ≡ chains.zip_with by (build_of with) }
 {
     Ok(Op::Zip { with: with?, by })
 }
 
-/// Returns the zip with a chain that was read.
+/// Returns the zip with a chain that was read, or the script's fault.
 fn zipped(
     by: Joining,
     with: Result<Build, ScriptFault>,
@@ -62,7 +63,7 @@ fn zipped(
     Ok(zip_with(by, with?))
 }
 
-/// Returns an operator that nothing refuses before it is put onto a chain.
+/// Returns an operator that is not a zip, so that no inner chain can fail to be built.
 fn plain(op: Result<Op, ScriptFault>) -> Result<Result<Op, ChainFault>, ScriptFault>
     ensures { (m : Result chains.Operator TheScriptFault) → Gives m (operator_result op)
         → Gives (chains.plain m) (operator_build_result result) }
@@ -81,7 +82,7 @@ fn with_operator(alloc: Global, chain: ScriptChain, op: Op) -> Result<Build, Scr
     }
 }
 
-/// Out of memory is the script's fault; any other refusal is what the chain's collection tells.
+/// Returns out of memory as the script's fault, and any other refusal as the chain's.
 fn refused(fault: ChainFault) -> Result<Build, ScriptFault>
     ensures memory { fault ≡ ChainFault.OutOfMemory → result ≡ Err ScriptFault.OutOfMemory }
     ensures told { fault ≢ ChainFault.OutOfMemory → result ≡ Ok (Err fault) }
@@ -92,7 +93,7 @@ fn refused(fault: ChainFault) -> Result<Build, ScriptFault>
     }
 }
 
-/// Returns what was built, with one more operator.
+/// Returns the chain with one more operator. A fault of the chain takes precedence over one of the operator.
 fn built_on(alloc: Global, chain: Build, op: Result<Op, ChainFault>) -> Result<Build, ScriptFault>
     ensures { Gives (Ok (chains.built_on (build_of chain) (operator_build op)))
         (build_result result) }
@@ -106,7 +107,7 @@ fn built_on(alloc: Global, chain: Build, op: Result<Op, ChainFault>) -> Result<B
     }
 }
 
-/// Returns what was read, with one more operator. A bad form anywhere in a chain comes before a limit.
+/// Returns the chain that was read, with one more operator. A bad form anywhere in it takes precedence over a limit.
 fn joined_to(
     alloc: Global,
     chain: Result<Build, ScriptFault>,
@@ -123,7 +124,7 @@ fn joined_to(
     }
 }
 
-/// Returns the operator of a text, where zips may nest so deep in it.
+/// Returns the operator of a JSON value. The chains of its zips may nest at most `levels` deep.
 #[cycle(chain)]
 fn operator_at(
     alloc: Global,
@@ -141,7 +142,7 @@ fn operator_at(
     }
 }
 
-/// Returns the chain of a text, where zips may nest so deep in it.
+/// Returns the chain of a JSON value. It and the chains of its zips may nest at most `levels` deep.
 #[cycle(chain)]
 fn chain_at(
     alloc: Global,
@@ -169,10 +170,10 @@ fn chain_at(
     build
 }
 
-/// Returns the chain of an object with the keys `from`, a source, and `ops`, a list of operators; `at` is the number of
-/// its step, which a fault tells. `BadShape` where anything in it has another form, also within a zip; else `TooLarge`
-/// where a limit is passed. A chain that cannot be built, as one that is too deep, is no fault: that is the inner
-/// `Err`. Out of memory comes in place of any answer.
+/// Returns the chain of an object with the keys `from`, a source, and `ops`, a list of operators. `at` is the number of
+/// its step, which a fault reports. A wrong form anywhere in the chain, also within a zip, is `BadShape`; otherwise,
+/// exceeding a limit is `TooLarge`. A chain that cannot be built, for example because it is too deep, is no fault of
+/// the script: it is the inner `Err`. `OutOfMemory` may replace any result.
 pub fn chain_in(
     alloc: Global,
     version: Version,

@@ -18,7 +18,7 @@ const MOST_ADDED: usize = 16;
 
 const MOST_SPREAD: u64 = 1_000;
 
-/// Returns how an operator computes, and the number under its only other key.
+/// Returns an operator's arithmetic, and the number under its only other key.
 fn computing_with(op: &Value, key: &str) -> Option<(Arithmetic, i64)>
     ensures { result ≡ chains.computing_with key.now (view op.now) }
 {
@@ -118,7 +118,7 @@ fn transform_in(alloc: Global, at: u64, op: &Value) -> Result<Op, ScriptFault>
     Ok(Op::Transform(entries))
 }
 
-/// Returns what each item becomes, and how many numbers that is.
+/// Returns what a `flat_map` makes of each item, and how many numbers it makes.
 fn flat_map_of(op: &Value) -> Option<(Spread, u64)>
     ensures { result ≡ chains.flat_map_of (view op.now) }
 {
@@ -142,7 +142,7 @@ fn flat_map_in(at: u64, op: &Value) -> Result<Op, ScriptFault>
     Ok(Op::FlatMap { to, count })
 }
 
-/// Returns the operator, if the form is right.
+/// Returns the operator, or `BadShape` if its form is wrong.
 fn formed(at: u64, op: Option<Op>) -> Result<Op, ScriptFault>
     ensures { Gives (or_fault (ScriptFault.BadShape at) (option_map operator_of op))
         (operator_result result) }
@@ -150,7 +150,7 @@ fn formed(at: u64, op: Option<Op>) -> Result<Op, ScriptFault>
     op.ok_or(ScriptFault::BadShape(at))
 }
 
-/// Returns an operator that is no zip.
+/// Returns the operator of a JSON value. A `zip` is a `BadShape` here: `zip_parts` reads it.
 pub fn operator_in(alloc: Global, version: Version, at: u64, op: &Value) -> Result<Op, ScriptFault>
     ensures { Gives (chains.operator_in version at (view op.now)) (operator_result result) }
 {
@@ -173,7 +173,7 @@ pub fn operator_in(alloc: Global, version: Version, at: u64, op: &Value) -> Resu
     }
 }
 
-/// How a zip joins, and the chain that it joins with.
+/// Returns how a zip joins, and the chain that it joins with.
 fn zip_of(op: &Value) -> Option<(Joining, &Value)>
     ensures { option_map (λ zip. (zip.0, view zip.1.now)) result ≡ chains.zip_of (view op.now) }
 {
@@ -185,7 +185,7 @@ fn zip_of(op: &Value) -> Option<(Joining, &Value)>
     Some((by, with))
 }
 
-/// Returns the same, of an operator that is a zip.
+/// Returns how an operator joins, and the chain that it joins with, if it is a zip.
 pub fn zip_parts(version: Version, op: &Value) -> Option<(Joining, &Value)>
     ensures { option_map (λ zip. (zip.0, view zip.1.now)) result ≡
         chains.zip_parts version (view op.now) }

@@ -13,7 +13,7 @@ use std::alloc::Global;
 
 const MOST_ITEMS: usize = 10_000;
 
-/// Returns the whole numbers of a list, at most so many.
+/// Returns the whole numbers of a list, which may have at most `most`.
 pub fn numbers_in(
     alloc: Global,
     at: u64,
@@ -28,9 +28,9 @@ pub fn numbers_in(
     }
 }
 
-/// These values as whole numbers of 64 bits, at most so many. A step's place among those of the script is told by the
-/// fault that refuses them: `BadShape` where one is none, `TooLarge` where there are more, and `OutOfMemory`. No list
-/// is made of more.
+/// Returns these values as whole numbers of 64 bits. A fault reports the step `at`: it is `BadShape` if a value is not
+/// a whole number, otherwise `TooLarge` if there are more than `most` values, and `OutOfMemory` if memory is refused.
+/// No list is made of more than `most` values.
 pub fn numbers_of(
     alloc: Global,
     at: u64,
@@ -76,7 +76,7 @@ fn whole_numbers(alloc: Global, at: u64, values: &[Value]) -> Result<Vec<i64>, S
     Ok(numbers)
 }
 
-/// Returns an item, one turn that pends, or a fault.
+/// Returns the entry of a value: an item, a pending turn, or a fault.
 fn entry_of(value: &Value) -> Option<Entry<i64>>
     ensures { result ≡ sources.entry_of (view value.now) }
 {
@@ -122,7 +122,7 @@ fn are_entries(values: &[Value]) -> bool
     true
 }
 
-/// Returns the entries of a source, no more than it may have. No list is made of more.
+/// Returns the entries of a source. No list is made of more than a source may have.
 fn entries_in(alloc: Global, at: u64, values: &[Value]) -> Result<Vec<Entry<i64>>, ScriptFault>
     ensures { Gives (sources.entries_in at (items_view values.now)) (entries_result result) }
 {
@@ -155,7 +155,7 @@ fn bounds_of(values: &[Value]) -> Option<(i64, i64)>
     Some((first, last))
 }
 
-/// Returns whether a range has more numbers than it may.
+/// Returns whether a range has more numbers than a source may have.
 fn is_too_long(first: i64, last: i64) -> bool
     ensures { result ≡ sources.is_too_long first last }
 {

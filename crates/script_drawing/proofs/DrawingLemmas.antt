@@ -1,4 +1,4 @@
--- What was drawn is of the script that the reader had.
+-- The drawing is that of the script that the reader had.
 use Rattle.std.proofs.Common.{◌≡◌, ◌⊎◌, ℕ, ◌≤◌, Bool, List, length, take, Option, Some, None, Result, Ok, Err, sym, subst, ◌∙◌, inl, inr}
 use Rattle.std.specs.Prelude.{IfErr, OnOk, OnErr}
 use Rattle.std.specs.Io.KnownBytes.{Consumes, Appends, IsAtEnd}
@@ -37,7 +37,7 @@ draws_front : (known left old new : Option (List ℕ)) (bytes text drawn : List 
 draws_front None left old new bytes text drawn count taken end is tells written = tt
 draws_front (Some input) left old new bytes text drawn count taken end is tells written = (text, drawn, count, same_meaning input left bytes taken end ∙ is, tells, written)
 
--- all of the picture was written, or its front
+-- all of the drawing was written, or a first part of it
 pub draws_written : (known left old new : Option (List ℕ)) (bytes text drawn : List ℕ) (r : Result (Unit {0}) ScriptFault) → Consumes known left bytes
     → (length bytes ≤ most_bytes → IsAtEnd left) → meaning bytes ≡ Ok text → TellsLines text drawn → OnOk r (Appends old new drawn)
     → OnErr r ((count : ℕ) × Appends old new (take count drawn)) → IfErr r (λ fault. fault ≡ WriteFailed) → Draws known old new r

@@ -26,7 +26,7 @@ lines-whole text split =
 told-push : (lines : List (Bor (List ℕ))) (line : Bor (List ℕ)) → told (lines ++ line ∷ []) ≡ told lines ++ line.now ∷ []
 told-push lines line = map-append (λ (l : Bor (List ℕ)). l.now) lines (line ∷ [])
 
--- one line more was cut off
+-- one more line was cut off
 pub told-more : (whole text : List ℕ) (lines : List (Bor (List ℕ))) (line more : Bor (List ℕ)) → IsSplitOnceResult 10 text (Some (line, more)) → told lines ++ lines_of text ≡ lines_of whole
     → told (lines ++ line ∷ []) ++ lines_of more.now ≡ lines_of whole
 told-more whole text lines line more split is =

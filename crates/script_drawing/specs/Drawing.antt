@@ -15,24 +15,24 @@ use Rattle.flow_script.specs.Playing.{Plays}
 abbrev pub lines_of : List ℕ → List (List ℕ)
 lines_of text = slice_split (λ byte. byte == 10) text
 
--- these lines stand in the text, one after the other
+-- the text contains these lines, one after the other
 abbrev pub TellsInOrder : List (List ℕ) → List ℕ → Type 0
 TellsInOrder [] text = Unit {0}
 TellsInOrder (line ∷ more) text = (before : List ℕ) × (after : List ℕ) × (text ≡ before ++ (line ++ after)) × TellsInOrder more after
 
--- each line of the text that a script writes stands in what is drawn, in order
+-- what is drawn contains each line of the text that a script writes, in order
 abbrev pub TellsLines : List ℕ → List ℕ → Type 0
 TellsLines text drawn = TellsInOrder (lines_of text) drawn
 
 -- ---- pictures
 
--- Of a script that writes a text, something is drawn that tells its lines; one that is refused is refused by the same fault.
+-- The drawing of a script that writes a text contains its lines. A script that is refused is refused with the same fault, or out of memory.
 abbrev pub Pictures : Result (List ℕ) ScriptFault → Result (String Global) ScriptFault → Type 0
 Pictures meant (Ok drawn) = (text : List ℕ) × (meant ≡ Ok text) × TellsLines text (string_bytes drawn)
 Pictures meant (Err fault) = Gives {A = List ℕ} meant (Err fault)
 
--- Where the reader tells its bytes, a run that ends well wrote a picture that tells the lines of the script. After a write
--- that failed, the front of one was written. A script is refused as the player refuses it.
+-- If the reader's bytes are known, a run that ends well has written a drawing that contains the lines of the script. After a write that
+-- failed, a first part of one is written. A script is refused as the player refuses it.
 abbrev pub Draws : Option (List ℕ) → Option (List ℕ) → Option (List ℕ) → Result (Unit {0}) ScriptFault → Type 0
 Draws known old new (Ok u) =
     IfSome known (λ bytes. (text : List ℕ) × (drawn : List ℕ) × (meaning bytes ≡ Ok text) × TellsLines text drawn × Appends old new drawn)

@@ -1,4 +1,4 @@
--- What the program draws or tells, and its status. Begin with `RunsDrawing`.
+-- What the program draws or prints, and its status. Begin with `RunsDrawing`.
 use Rattle.std.specs.Prelude.{◌≡◌, ℕ, Bool, cond, List, [], ◌∷◌, Option, Some, None, Result, String, codes, string_bytes, bytes_eq}
 use Rattle.script_chain_format.specs.declared.reading.fault.ScriptFault.{ScriptFault}
 use Rattle.flow_script.specs.Lines.{lined}
@@ -12,14 +12,14 @@ use Rattle.script_drawing.specs.Drawing.{Draws}
 abbrev pub usage_line : List ℕ
 usage_line = lined (codes "usage: flow_draw [--text | --explain]")
 
--- no argument, `--text`, or `--explain`
+-- the form that the arguments ask for: none, `--text`, or `--explain`
 abbrev pub form_of : {A : Type 0} → List (String A) → Option Form
 form_of [] = Some Svg
 form_of (word ∷ []) = cond (bytes_eq (string_bytes word) (codes "--text")) (Some Text) (cond (bytes_eq (string_bytes word) (codes "--explain")) (Some Explained) None)
 form_of _ = None
 
--- A run that draws: what it answered to the bytes that the reader had, and how the program then ends. Whether the reader and
--- the writer failed is known of both.
+-- A run that draws: its outcome for the bytes of the reader, and how the program then ends. `read_failed` and `write_failed` say whether
+-- the reader and the writer failed.
 abbrev pub RunsDrawing : Option (List ℕ) → Bool → Bool → Option (List ℕ) → Option (List ℕ) → ℕ → Type 0
 RunsDrawing known read_failed write_failed old new answered =
     (outcome : Result (Unit {0}) ScriptFault) × (drawn : Option (List ℕ)) × Draws known old drawn outcome

@@ -1,4 +1,4 @@
-//! A chain that is collected: a lane for its source, and one for what it gives.
+//! The picture of a collected chain: a lane for its source, and one for what it gives.
 
 use crate::picture::{Label, Note, Picture, Sign, Words};
 use crate::script_words::items_of;
@@ -7,13 +7,13 @@ use flow_script::Answer;
 use serde_json::Value;
 use std::alloc::{AllocError, Global};
 
-/// How many items of a lane are drawn.
+/// The most items that are drawn of a lane.
 const MOST_ITEMS: usize = 24;
 
-/// What a mark tells, and what stands in it.
+/// The sign of a mark, and the words in it.
 type Content<'a> = (Sign, Words<'a>);
 
-/// Where a chain comes from.
+/// The source of a chain.
 #[derive(Clone, Copy)]
 struct Source<'a> {
     name: &'static str,
@@ -38,7 +38,8 @@ impl<'a> Source<'a> {
         }
     }
 
-    /// The mark at a column, and after the last item the end. Of a range the first number and the last are drawn.
+    /// Returns the mark at a column: an item, or the end after the last item. Of a range only the first and the last
+    /// number are drawn.
     fn at(&self, column: usize) -> Content<'a> {
         let is_range = self.name == "range";
         if is_range && column == 1 {
@@ -64,7 +65,7 @@ struct Given<'a> {
 }
 
 impl<'a> Given<'a> {
-    /// What the collection of a chain answered, by this line.
+    /// Returns what a collection gave, by its answer and its line.
     fn new(answer: &'a Answer, line: &'a str) -> Self {
         let (items, end) = match answer {
             Answer::Collected(items, End::Completed) => (
@@ -80,7 +81,7 @@ impl<'a> Given<'a> {
         Given { items, end }
     }
 
-    /// The mark at a column: an item, and after the last one the end.
+    /// Returns the mark at a column: an item, or the end after the last item.
     fn at(&self, column: usize) -> Content<'a> {
         match self.items.get(column) {
             Some(item) => (Sign::Value, Words::Number(*item)),
@@ -89,7 +90,7 @@ impl<'a> Given<'a> {
     }
 }
 
-/// The words of a collection's line after its items.
+/// Returns the words of a collection's line after its items.
 fn after_items(line: &str) -> &str {
     match line.split_once("] ") {
         Some((_, end)) => end,
@@ -97,7 +98,7 @@ fn after_items(line: &str) -> &str {
     }
 }
 
-/// A mark on a lane that has not ended, or that more would follow.
+/// Adds a mark to a lane that has not ended: two dots in the last column, and this content in any other.
 fn add_content<'a>(picture: &mut Picture<'a>, lane: usize, content: Content<'a>) {
     if !picture.is_open(lane) {
         return;
@@ -114,7 +115,7 @@ fn add_content<'a>(picture: &mut Picture<'a>, lane: usize, content: Content<'a>)
     picture.add_mark(lane, sign, words, Note::None);
 }
 
-/// The marks of a collection.
+/// Adds the marks of a collection.
 fn add_columns<'a>(picture: &mut Picture<'a>, source: Source<'a>, given: Given<'a>) {
     for column in 0..MOST_ITEMS + 1 {
         add_content(picture, 0, source.at(column));
@@ -126,8 +127,11 @@ fn add_columns<'a>(picture: &mut Picture<'a>, source: Source<'a>, given: Given<'
     }
 }
 
-/// The picture of a collection, by the chain, its answer and its line: of each lane at most 24 items and, where there are more, the mark
-/// of two dots. The error says that memory was wanting.
+/// Returns the picture of a collection, by the chain, its answer and its line. Each lane has at most 24 marks, and two
+/// dots after them if it has not ended by then.
+///
+/// # Errors
+/// `AllocError`: out of memory.
 pub fn collection_picture<'a>(
     alloc: Global,
     chain: &'a Value,

@@ -1,4 +1,4 @@
-//! What is drawn of a script.
+//! The drawing of a script.
 ghost use Rattle.std.specs.Prelude.{IfOk, string_bytes};
 ghost use Rattle.flow_script.specs.Said.{said};
 ghost use Rattle.flow_script.specs.ScriptMeaning.{meaning, text_of};
@@ -17,12 +17,12 @@ use script_explain::rules_of;
 use serde_json::Value;
 use std::alloc::{AllocError, Global};
 
-/// What a picture is made of.
+/// The form of a drawing.
 #[derive(Clone, Copy)]
 pub enum Form {
     Text,
     Svg,
-    /// No picture, but beside each line the rule by which its step wrote it.
+    /// No picture, but after each line the rule by which its step wrote it.
     Explained,
 }
 
@@ -39,7 +39,7 @@ fn frame_of(
     }
 }
 
-/// The frame around the lines of a script, which have rules beside them, if there are rules.
+/// Returns the frame around the lines of a script, with the rules beside the lines, if there are rules.
 fn framed(
     alloc: Global,
     frame: Frame,
@@ -58,7 +58,7 @@ fn framed(
     Ok(drawn)
 }
 
-/// The picture of a script, or its rules, around its lines.
+/// Returns the picture of a script, or its rules, around its lines.
 fn pictured(
     alloc: Global,
     form: Form,
@@ -76,11 +76,11 @@ fn pictured(
     framed(alloc, frame, played, rules.as_slice())
 }
 
-/// What is drawn of the script of these bytes, by its answers.
+/// Draws the script of these bytes, by its answers.
 fn drawn(alloc: Global, form: Form, bytes: &[u8], answers: &Answers) -> Result<String, ScriptFault>
     ensures { IfOk result (λ drawn. TellsLines (text_of (said answers.now)) (string_bytes drawn)) }
 {
-    // The reader took these bytes: only memory can be wanting.
+    // The reader has accepted these bytes, so only memory can be refused.
     let Ok(script) = Value::from_slice(alloc, bytes) else {
         return Err(ScriptFault::OutOfMemory);
     };
@@ -98,7 +98,7 @@ fn drawn(alloc: Global, form: Form, bytes: &[u8], answers: &Answers) -> Result<S
     }
 }
 
-/// What is drawn of the script of these bytes, or why it is refused.
+/// Draws the script of these bytes, or returns why it is refused.
 pub fn drawing_of(alloc: Global, form: Form, bytes: &[u8]) -> Result<String, ScriptFault>
     ensures { Pictures (meaning bytes.now) result }
 {

@@ -1,11 +1,11 @@
-//! What stands around the lines of a script.
+//! The text around the lines of a script.
 
 use crate::page::Page;
 use crate::steps::add_heads;
 use serde_json::Value;
 use std::alloc::{AllocError, Global};
 
-/// What stands before the lines of a script, and after them.
+/// The text before the lines of a script, and the text after them.
 #[derive(Drop)]
 pub struct Frame {
     pub before: String,
@@ -13,7 +13,7 @@ pub struct Frame {
 }
 
 impl Frame {
-    /// A page before the lines, and nothing after them.
+    /// Returns a frame with this page before the lines, and nothing after them.
     pub(crate) fn before_lines(alloc: Global, page: Page) -> Result<Self, AllocError> {
         let before = page.finish()?;
         Ok(Frame {
@@ -23,7 +23,7 @@ impl Frame {
     }
 }
 
-/// The flows of a script before its lines. The rules stand beside these.
+/// Returns a frame with the flows of a script before its lines. The rules are beside the lines, not in the frame.
 pub fn explained_frame(alloc: Global, script: &Value) -> Result<Frame, AllocError> {
     let mut page = Page::new(alloc);
     add_heads(&mut page, script);

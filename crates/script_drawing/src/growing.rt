@@ -1,4 +1,4 @@
-//! A picture that grows by the marks of one step after the other.
+//! A picture that grows with each step.
 
 use crate::marks::{Marks, Named, marks_of};
 use crate::picture::{Label, Note, Picture, Sign, Words};
@@ -10,10 +10,10 @@ use script_chain_format::Version;
 use serde_json::Value;
 use std::alloc::{AllocError, Global};
 
-/// For how many subscribers a step shows at most what they lose.
+/// The most subscribers whose losses a step shows.
 const MOST_LOST: usize = 16;
 
-/// What a picture shows of a flow beside its answers.
+/// What a picture shows of a flow, beside the answers.
 #[derive(Drop)]
 struct Inside {
     /// The chain of a sharing.
@@ -23,7 +23,7 @@ struct Inside {
 }
 
 impl Inside {
-    /// The item that the flow accepted in a turn.
+    /// Returns the item that the flow accepted in a turn.
     fn item(&mut self, report: Report) -> Result<Option<i64>, AllocError> {
         match &mut self.asking {
             Some(asking) => asking.item(report),
@@ -39,8 +39,7 @@ fn mark_loss(picture: &mut Picture<'_>, loss: Loss<'_, usize>) {
     }
 }
 
-/// Takes the next step on a flow, which is about the subscriber of this lane, if about any. What subscribers lose by it is
-/// marked.
+/// Adds the next step on a flow, with the lane of its subscriber, if it has one. Marks what subscribers lose by it.
 fn mark_losses(
     picture: &mut Picture<'_>,
     losses: &mut Losses<usize>,
@@ -61,13 +60,13 @@ pub struct GrowingPicture<'a> {
     alloc: Global,
     version: Version,
     picture: Picture<'a>,
-    /// What is shown of each flow, by name: the lanes of the flows come first, in this order.
+    /// What is shown of each flow, by name. The lanes of the flows are the first ones, in this order.
     flows: IndexMap<&'a str, Inside>,
     /// The lanes of the subscribers and the emissions, by name. An emission that was done at once has none.
     lanes: IndexMap<&'a str, usize>,
 }
 
-/// The command that stands beside the item of a turn.
+/// Returns the note beside the item of a turn, which says whether the turn started the chain.
 fn command_note(command: Command) -> Note {
     match command {
         Command::Start => Note::Word(" start"),
@@ -76,7 +75,7 @@ fn command_note(command: Command) -> Note {
 }
 
 impl<'a> GrowingPicture<'a> {
-    /// A picture without lanes, of a script of a version.
+    /// Returns a picture without lanes, for a script of this version.
     pub fn new(alloc: Global, version: Version) -> Self {
         GrowingPicture {
             alloc,
@@ -87,12 +86,12 @@ impl<'a> GrowingPicture<'a> {
         }
     }
 
-    /// There was no memory for something that belongs into the picture.
+    /// Records that there was no memory for a part of the picture.
     fn fail(&mut self) {
         self.picture.failed = true;
     }
 
-    /// A lane for a flow.
+    /// Adds a lane for a flow.
     pub fn add_flow(&mut self, name: &'a str, flow: &Value) {
         self.picture.add_lane(Label::of(name), None);
         let added = match Asking::new(self.alloc, self.version, flow) {
@@ -105,17 +104,18 @@ impl<'a> GrowingPicture<'a> {
         self.picture.failed = self.picture.failed || !added;
     }
 
-    /// The lane of the flow that a step is about.
+    /// Returns the lane of the flow that a step acts on.
     fn flow_lane(&self, step: &Value) -> usize {
         self.flows.get_index_of(text_at(step, "flow")).unwrap_or(0)
     }
 
-    /// The lane of the subscriber or the emission that a step is about.
+    /// Returns the lane of the subscriber or the emission that a step names.
     fn named_lane(&self, step: &Value) -> Option<usize> {
         self.lanes.get(text_at(step, "name")).copied()
     }
 
-    /// A lane for the name that a step introduces: of a subscriber, or of an emission whose value waits.
+    /// Adds a lane for the subscriber or the emission whose name a step introduces. `waits` is the value of an
+    /// emission.
     fn add_name(&mut self, step: &'a Value, waits: Option<i64>) {
         let name = text_at(step, "name");
         let flow = if self.flows.len() > 1 {
@@ -130,7 +130,7 @@ impl<'a> GrowingPicture<'a> {
         }
     }
 
-    /// A mark on the lane of the flow that a step is about.
+    /// Adds a mark to the lane of the flow that a step acts on.
     fn mark_flow(&mut self, flow: usize, sign: Sign, words: Words<'a>, answer: &Answer) {
         if matches!(answer, Answer::NoFlow) {
             // The lane of a flow that was refused has marks, and no line.
@@ -139,8 +139,8 @@ impl<'a> GrowingPicture<'a> {
         self.picture.add_mark(flow, sign, words, Note::None);
     }
 
-    /// A mark on the lane of the subscriber or the emission that a step is about. An emission that was done at once has no lane:
-    /// that a step finds nothing of it is marked on the lane of its flow.
+    /// Adds a mark to the lane of the subscriber or the emission that a step names. An emission that was done at once
+    /// has no lane: a step that finds nothing of it has its mark on the lane of the flow.
     fn mark_named(
         &mut self,
         flow: usize,
@@ -163,7 +163,7 @@ impl<'a> GrowingPicture<'a> {
         }
     }
 
-    /// The marks of a step on a flow, by its answer and what was seen beside it.
+    /// Adds the marks of a step on a flow, by its answer and what was observed with it.
     fn mark_step(&mut self, flow: usize, step: &'a Value, told: &Told, line: &'a str) {
         let Told { answer, seen, .. } = told;
         let lane = self.named_lane(step);
@@ -182,7 +182,7 @@ impl<'a> GrowingPicture<'a> {
         self.mark_lost(flow, lane, step, told);
     }
 
-    /// Marks the value that the step takes from subscribers, if its flow drops its oldest values.
+    /// Marks the value that subscribers lose by the step, if its flow drops its oldest values.
     fn mark_lost(&mut self, flow: usize, lane: Option<usize>, step: &Value, told: &Told) {
         let Some(
             Inside {
@@ -198,7 +198,7 @@ impl<'a> GrowingPicture<'a> {
         }
     }
 
-    /// The mark of a turn: the item that the flow accepted, or what else came of it.
+    /// Adds the mark of a turn: the item that the flow accepted, or else the turn's line.
     fn mark_turn(&mut self, flow: usize, report: Report, line: &'a str) {
         let item = match self.flows.get_index_mut(flow) {
             Some(inside) => inside.item(report),
@@ -214,7 +214,7 @@ impl<'a> GrowingPicture<'a> {
         self.picture.add_mark(flow, sign, words, note);
     }
 
-    /// The marks of one step more. An emission that is done at once has no lane.
+    /// Adds the marks of the next step. An emission that is done at once has no lane.
     pub fn add_step(&mut self, step: &'a Value, told: &Told, line: &'a str) {
         match (text_at(step, "do"), &told.answer) {
             ("emit", Answer::Done) => {}
@@ -230,7 +230,7 @@ impl<'a> GrowingPicture<'a> {
         self.picture.columns = self.picture.columns.saturating_add(1);
     }
 
-    /// How many values the subscriber that a step introduced has still to receive in the end, if there are some.
+    /// Adds the final lag of the subscriber that a step introduced, unless it is 0.
     pub fn add_last_lag(&mut self, step: &Value, lag: u64) {
         if lag > 0
             && let Some(lane) = self.named_lane(step)
@@ -240,7 +240,8 @@ impl<'a> GrowingPicture<'a> {
         }
     }
 
-    /// The picture, where there was memory for all of it. What is marked in the end has a column of its own.
+    /// Returns the picture, if there was memory for all of it. The marks after the last step have a column of their
+    /// own.
     pub fn finish(self) -> Result<Picture<'a>, AllocError> {
         let GrowingPicture { mut picture, .. } = self;
         picture.end_column();

@@ -1,4 +1,4 @@
-//! Where the marks of a picture stand: columns of a width in characters, in bands that are at most 100 wide.
+//! Where the marks of a picture are: in columns with a width in characters, and in bands that are at most 100 wide.
 
 use crate::parts::Parts;
 use crate::picture::{Label, Lane, Mark, Picture};
@@ -18,17 +18,17 @@ const LEAST_COLUMN: usize = 6;
 pub struct Cell<'a> {
     pub width: usize,
     pub mark: Option<Mark<'a>>,
-    /// Whether the lane is there in this column.
+    /// Whether the lane has a line in this column.
     pub has_line: bool,
-    /// Whether its line comes from the column before.
+    /// Whether its line continues that of the column before.
     pub comes: bool,
-    /// Whether its line goes on to the next column.
+    /// Whether its line continues in the next column.
     pub goes_on: bool,
-    /// Whether an emitter waits there.
+    /// Whether the lane is that of an emission that waits.
     pub waits: bool,
 }
 
-/// The steps that the columns of a picture have from left to right, and what each came to. A collection has none.
+/// The steps of a picture's columns, from left to right, and their answers. The picture of a collection has none.
 #[derive(Clone, Copy)]
 pub struct Axis<'a> {
     pub steps: &'a [Value],
@@ -36,7 +36,7 @@ pub struct Axis<'a> {
 }
 
 impl<'a> Axis<'a> {
-    /// No steps.
+    /// Returns an axis without steps.
     pub fn none() -> Self {
         Axis {
             steps: &[],
@@ -44,12 +44,12 @@ impl<'a> Axis<'a> {
         }
     }
 
-    /// The moment of the turn in a column.
+    /// Returns the moment of the turn in a column.
     fn moment(&self, column: usize) -> Option<u64> {
         self.told.get(column)?.seen.at
     }
 
-    /// The step of a column that is so wide.
+    /// Returns the step of a column with this width.
     fn at(&self, column: usize, width: usize) -> Option<Numbered<'a>> {
         Some(Numbered {
             number: column.saturating_add(1),
@@ -72,27 +72,27 @@ pub struct Numbered<'a> {
     pub width: usize,
 }
 
-/// A part of a picture. They come from left to right, line by line.
+/// A part of a picture. The parts are in order from left to right, line by line.
 #[derive(Clone, Copy)]
 pub enum Part<'a> {
-    /// A line begins that has the steps' numbers, behind a place that is so wide.
+    /// Begins the line of the steps' numbers, after labels of this width.
     Numbers(usize),
     Number(Numbered<'a>),
     EndNumbers,
-    /// A lane begins, with its label in a place that is so wide.
+    /// Begins a lane, with its label and the width of the labels.
     Name(Label<'a>, usize),
     Cell(Cell<'a>),
     EndLane,
-    /// A band ends that is so wide with the names before it.
+    /// Ends a band with this width, including the labels.
     EndBand(usize),
-    /// The picture of a collection comes: the number of its step, and its chain.
+    /// Begins the picture of a collection, with the number of its step, and its chain.
     Collection(usize, &'a Value),
 }
 
-/// Columns that stand beside each other.
+/// Columns beside each other.
 #[derive(Clone, Copy)]
 struct Band<'p, 'a> {
-    /// How wide the place before the lanes is.
+    /// The width of the labels before the lanes.
     labels: usize,
     /// The first column.
     from: usize,
@@ -101,7 +101,7 @@ struct Band<'p, 'a> {
     marks: &'p [Mark<'a>],
 }
 
-/// How wide each column is at least: as its head needs.
+/// Returns the least width of each column, which its head needs.
 fn head_widths(alloc: Global, columns: usize, axis: Axis<'_>) -> Result<Vec<usize>, AllocError> {
     let mut widths = Vec::new(alloc);
     for column in 0..columns {
@@ -111,7 +111,7 @@ fn head_widths(alloc: Global, columns: usize, axis: Axis<'_>) -> Result<Vec<usiz
     Ok(widths)
 }
 
-/// How wide each column is: as its head and its marks need.
+/// Returns the width of each column, which its head and its marks need.
 fn widths_of(
     alloc: Global,
     picture: &Picture<'_>,
@@ -126,7 +126,7 @@ fn widths_of(
     Ok(widths)
 }
 
-/// The column after the last that stands beside this one, behind a place that is so wide.
+/// Returns the column after the last one that fits beside `from`, after labels of this width.
 fn band_end(widths: &[usize], from: usize, labels: usize) -> usize {
     let mut width = labels;
     for column in from..widths.len() {
@@ -138,7 +138,7 @@ fn band_end(widths: &[usize], from: usize, labels: usize) -> usize {
     widths.len()
 }
 
-/// The place of the first mark from `first` on that is not before a column.
+/// Returns the place of the first mark, from `first` on, that is not before a column.
 fn marks_before(marks: &[Mark<'_>], first: usize, column: usize) -> usize {
     for place in first..marks.len() {
         if marks[place].column >= column {
@@ -148,7 +148,7 @@ fn marks_before(marks: &[Mark<'_>], first: usize, column: usize) -> usize {
     marks.len()
 }
 
-/// The lanes that these marks are on, in their order.
+/// Returns the lanes that these marks are on, in order.
 fn lanes_of(alloc: Global, marks: &[Mark<'_>]) -> Result<Vec<usize>, AllocError> {
     let mut lanes = Vec::new(alloc);
     for mark in marks {
@@ -160,7 +160,7 @@ fn lanes_of(alloc: Global, marks: &[Mark<'_>]) -> Result<Vec<usize>, AllocError>
 }
 
 impl<'a> Band<'_, 'a> {
-    /// The mark of a lane in a column.
+    /// Returns the mark of a lane in a column.
     fn mark_at(&self, lane: usize, column: usize) -> Option<Mark<'a>> {
         for mark in self.marks {
             if mark.lane == lane && mark.column == column {
@@ -170,7 +170,7 @@ impl<'a> Band<'_, 'a> {
         None
     }
 
-    /// How wide it is, with the labels before it.
+    /// Returns the width of the band, including the labels.
     fn width(&self) -> usize {
         let mut total = self.labels;
         for width in self.widths {
@@ -179,7 +179,7 @@ impl<'a> Band<'_, 'a> {
         total
     }
 
-    /// The numbers of the steps above their columns.
+    /// Adds the numbers of the steps above their columns.
     fn add_numbers(&self, parts: &mut Parts<'a>, axis: Axis<'a>) {
         parts.push(Part::Numbers(self.labels));
         let mut column = self.from;
@@ -192,7 +192,7 @@ impl<'a> Band<'_, 'a> {
         parts.push(Part::EndNumbers);
     }
 
-    /// A column of a lane, which has this place in the picture.
+    /// Returns a column of the lane that has this place in the picture.
     fn cell(&self, place: usize, lane: Lane<'a>, column: usize, width: usize) -> Cell<'a> {
         let Lane { begins, ends, .. } = lane;
         Cell {
@@ -205,7 +205,7 @@ impl<'a> Band<'_, 'a> {
         }
     }
 
-    /// A lane, which has this place in the picture.
+    /// Adds the lane that has this place in the picture.
     fn add_lane(&self, parts: &mut Parts<'a>, place: usize, lane: Lane<'a>) {
         parts.push(Part::Name(lane.label, self.labels));
         let mut column = self.from;
@@ -216,7 +216,7 @@ impl<'a> Band<'_, 'a> {
         parts.push(Part::EndLane);
     }
 
-    /// The lanes at these places.
+    /// Adds the lanes at these places.
     fn add_lanes(&self, parts: &mut Parts<'a>, places: &[usize], lanes: &[Lane<'a>]) {
         for place in places {
             if let Some(lane) = lanes.get(*place) {
@@ -225,7 +225,7 @@ impl<'a> Band<'_, 'a> {
         }
     }
 
-    /// The numbers of the columns, if there are steps, and the lanes that the band has marks on.
+    /// Adds the numbers of the steps, if there are steps, and the lanes that have marks in the band.
     fn add_to(&self, alloc: Global, parts: &mut Parts<'a>, lanes: &[Lane<'a>], axis: Axis<'a>) {
         if !axis.steps.is_empty() {
             self.add_numbers(parts, axis);

@@ -1,25 +1,27 @@
 //! Drawings of flow scripts: a picture as SVG or as text, or the lines with their rules, and the program that draws.
 //!
-//! `drawing_of` draws the script of some bytes. What is drawn has each line of the script, in order (`Pictures`). `run` is the
-//! program `flow_draw` over any reader and writer.
+//! `drawing_of` draws the script of some bytes. The drawing contains each line of the script, in order (`Pictures`).
+//! `run` is the program `flow_draw` over any reader and writer.
 //!
 //! # Lanes and marks
-//! `steps_picture` has a lane for each flow, each subscriber and each emission that was not done at once, and a column for each step
-//! that was played; `collection_picture` has two lanes, one for a chain's source and one for what it gave. The table in `marks` has the
-//! marks of a step, and `turns` finds the items that turns put into their flows.
+//! `steps_picture` has a lane for each flow, each subscriber and each emission that was not done at once, and a column
+//! for each step that was played. `collection_picture` has two lanes, one for a chain's source and one for what it
+//! gave. The table in `marks` has the marks of a step, and `turns` finds the items that turns put into their flows.
 //!
-//! # Where the marks stand
-//! `add_parts` gives each column of a picture a width in characters, cuts the picture into bands of at most `MOST_WIDTH`, and lists
-//! its parts from left to right, line by line. `parts_of` has the parts of all pictures of a script.
+//! # Where the marks are
+//! `add_parts` gives each column of a picture a width in characters, cuts the picture into bands of at most
+//! `MOST_WIDTH`, and lists its parts from left to right, line by line. `parts_of` has the parts of all pictures of a
+//! script.
 //!
-//! # How they are written
-//! `text_frame` and `svg_frame` write the same parts each in their way, around the lines of the script: a `Frame` is what stands
-//! before the lines, and what stands after them. `explained_frame` is the frame of lines with their rules, which have no picture.
-//! `add_listing` writes the lines, and before each what `Played::add_words_before` says: the step that writes it, in words.
+//! # How the parts are written
+//! `text_frame` and `svg_frame` write the same parts, one as text and the other as SVG. A `Frame` has the text before
+//! the lines of the script, and the text after them. `explained_frame` is the frame of lines with their rules, which
+//! has no picture. `add_listing` writes the lines, each after the words of `Played::add_words_before`: the step that
+//! wrote it.
 //!
 //! # Scripts
-//! A script is a JSON value that was read and played. In another value a member that is missing, or has another form, counts as an
-//! empty text, an empty list or 0; no call fails for it.
+//! A script is a JSON value that was read and played. In any other value, a member that is missing or has another form
+//! counts as an empty text, an empty list or 0; no call fails because of it.
 #![tactic(auto)]
 
 mod collection;

@@ -5,7 +5,7 @@ ghost use Rattle.script_drawing.specs.Listing.{told};
 
 use std::alloc::{AllocError, Global};
 
-/// The parts of a text between its line feeds.
+/// Returns the parts of a text between its line feeds.
 pub fn split_lines<'a>(alloc: Global, text: &'a str) -> Result<Vec<&'a str>, AllocError>
     ensures { IfOk result (λ lines. told lines.items ≡ lines_of text.now) }
 {

@@ -5,7 +5,7 @@ ghost use Rattle.script_drawing.specs.Listing.{AddsLast, AddsLines, told};
 use crate::played::Played;
 use std::alloc::{AllocError, Global};
 
-/// The rule of the step that wrote the line before that of a place. A line without a step has none.
+/// Returns the rule of the step that wrote the line before the one at a place. A line without a step has no rule.
 fn rule_before<'a>(rules: &'a [String], played: Played<'_>, place: usize) -> &'a str {
     let refused = played.answers.not_made.len();
     match rules.get(place.wrapping_sub(refused).wrapping_sub(1)) {
@@ -14,7 +14,7 @@ fn rule_before<'a>(rules: &'a [String], played: Played<'_>, place: usize) -> &'a
     }
 }
 
-/// A line of the script, after what stands before it.
+/// Adds a line of the script, after the words before it.
 fn add_entry(listing: &mut String, words: &str, line: &str) -> Result<(), AllocError>
     ensures { OnOk result
         (AddsLast line.now (string_bytes listing.old) (string_bytes listing.new)) }
@@ -23,7 +23,7 @@ fn add_entry(listing: &mut String, words: &str, line: &str) -> Result<(), AllocE
     listing.push_str(line)
 }
 
-/// The lines of a script, each with the step that wrote it, and its rule, if there are rules.
+/// Adds the lines of a script, each with the step that wrote it, and its rule, if there are rules.
 pub fn add_listing(
     alloc: Global,
     listing: &mut String,

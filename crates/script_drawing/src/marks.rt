@@ -5,30 +5,30 @@ use flow_law::Next;
 use flow_script::{Answer, Seen, number_at};
 use serde_json::Value;
 
-/// What stands in the marks of a step.
+/// What the marks of a step contain.
 #[derive(Clone, Copy)]
 pub enum Content {
     Nothing,
-    /// The number that the step gives by this key.
+    /// The number under this key of the step.
     Member(&'static str),
-    /// Its line.
+    /// The step's line.
     Line,
     /// The value that a subscriber received.
     Received(i64),
-    /// The value of the emission that the step is about.
+    /// The value of the emission that the step names.
     Emission,
 }
 
-/// What becomes of the lane of the subscriber or the emission that a step is about.
+/// What becomes of the lane of the subscriber or the emission that a step names.
 #[derive(Clone, Copy)]
 pub enum Named {
     Untouched,
     Marked(Sign),
-    /// It ends with this mark.
+    /// The lane ends with this mark.
     Ended(Sign),
 }
 
-/// The marks of a step: on the lane of its flow, and on that of its name.
+/// The marks of a step: on the lane of its flow, and on the lane of its name.
 #[derive(Clone, Copy)]
 pub struct Marks(pub Option<Sign>, pub Named, pub Content);
 
@@ -38,13 +38,14 @@ const NOTHING: Marks = Marks(None, Named::Marked(Sign::Nothing), Content::Nothin
 /// What the flow answered.
 const TOLD: Marks = Marks(Some(Sign::Told), Named::Untouched, Content::Line);
 
-/// A value that the flow took, or did not take, and that the step gives by this key.
+/// Returns the marks of the value under this key of the step, which the flow took or did not take.
 fn value_marks(accepted: bool, key: &'static str) -> Marks {
     let sign = if accepted { Sign::Value } else { Sign::Lost };
     Marks(Some(sign), Named::Untouched, Content::Member(key))
 }
 
-/// A step that was answered by `true` or `false`. Where its emission does not go on, there was nothing to end.
+/// Returns the marks of a step whose answer is `true` or `false`. `goes_on` says whether its emission has a lane that
+/// has not ended: otherwise there was nothing to cancel.
 fn tested_marks(tag: &str, test: bool, goes_on: bool) -> Marks {
     match tag {
         "compare_and_set" => value_marks(test, "update"),
@@ -59,7 +60,7 @@ fn tested_marks(tag: &str, test: bool, goes_on: bool) -> Marks {
     }
 }
 
-/// A poll, by whether the emission still waits, and whether it goes on so far.
+/// Returns the marks of a poll, by whether the emission still waits, and whether it has a lane that has not ended.
 fn wait_marks(waits: bool, goes_on: bool) -> Marks {
     if waits {
         Marks(None, Named::Marked(Sign::Waits), Content::Nothing)
@@ -70,7 +71,7 @@ fn wait_marks(waits: bool, goes_on: bool) -> Marks {
     }
 }
 
-/// What a subscriber received.
+/// Returns the marks of a `next`.
 fn next_marks(next: &Next<i64>) -> Marks {
     match next {
         Next::Value(value) => Marks(None, Named::Marked(Sign::Value), Content::Received(*value)),
@@ -79,7 +80,7 @@ fn next_marks(next: &Next<i64>) -> Marks {
     }
 }
 
-/// A step that was refused.
+/// Returns the marks of a step that was refused.
 fn refused_marks(tag: &str) -> Marks {
     match tag {
         "emit" | "subscribe" => Marks(None, Named::Ended(Sign::Refused), Content::Line),
@@ -89,7 +90,8 @@ fn refused_marks(tag: &str) -> Marks {
     }
 }
 
-/// The marks of a step with this tag and answer, where the emission that it is about goes on or does not.
+/// Returns the marks of a step with this tag and answer. `goes_on` says whether its emission has a lane that has not
+/// ended.
 pub fn marks_of(tag: &str, answer: &Answer, goes_on: bool) -> Marks {
     match answer {
         Answer::Tested(test) => tested_marks(tag, *test, goes_on),
@@ -122,7 +124,7 @@ pub fn marks_of(tag: &str, answer: &Answer, goes_on: bool) -> Marks {
 }
 
 impl Marks {
-    /// The same, unless the flow took the value and dropped it.
+    /// Returns these marks, or those of a lost value if the flow took the value and dropped it.
     pub fn seen(self, seen: Seen) -> Marks {
         let Marks(on_flow, on_named, content) = self;
         match (on_flow, on_named, seen.emitted) {
@@ -136,7 +138,8 @@ impl Marks {
 }
 
 impl Content {
-    /// What stands in the marks of a step with this line, which may be about an emission that goes on with this value.
+    /// Returns the words in the marks of a step with this line. `emission` is the value of its emission, if that has a
+    /// lane that has not ended.
     pub fn words<'a>(self, step: &Value, line: &'a str, emission: Option<i64>) -> Words<'a> {
         match self {
             Content::Nothing => Words::None,

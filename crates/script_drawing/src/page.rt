@@ -1,10 +1,10 @@
-//! A text that is written from its front to its end.
+//! A text that is written from its beginning to its end.
 
 use std::alloc::{AllocError, Global};
 use std::fmt::Display;
 
-/// A text that is being written. Once there is no memory for more it stays as it is, and `finish` tells so: who writes need not
-/// look at each word.
+/// A text that is being written. If memory is refused, it no longer grows, and `finish` reports it: a caller need not
+/// check each word.
 #[derive(Drop)]
 pub struct Page {
     text: String,
@@ -13,7 +13,7 @@ pub struct Page {
 }
 
 impl Page {
-    /// A text without a letter.
+    /// Returns an empty text.
     pub fn new(alloc: Global) -> Self {
         Page {
             text: String::new(alloc),
@@ -21,34 +21,34 @@ impl Page {
         }
     }
 
-    /// Some words.
+    /// Adds some words.
     pub fn push_str(&mut self, words: &str) {
         self.failed = self.failed || self.text.push_str(words).is_err();
     }
 
-    /// A letter.
+    /// Adds a character.
     pub fn push(&mut self, letter: char) {
         self.failed = self.failed || self.text.push(letter).is_err();
     }
 
-    /// A number, in digits.
+    /// Adds a number, in digits.
     pub fn push_number<N: Display + Drop>(&mut self, number: N) {
         self.write_fmt(number);
     }
 
-    /// The same letter, so many times.
+    /// Adds the same character `count` times.
     pub fn push_times(&mut self, letter: char, count: usize) {
         for _ in 0..count {
             self.push(letter);
         }
     }
 
-    /// What `write!` and `writeln!` add.
+    /// Adds what `write!` and `writeln!` write.
     pub(crate) fn write_fmt<D: Display + Drop>(&mut self, words: D) {
         self.failed = self.failed || self.text.write_fmt(words).is_err();
     }
 
-    /// Takes away the spaces at the end, of which there are at most so many.
+    /// Removes the spaces at the end, at most `most` of them.
     pub fn pop_spaces(&mut self, most: usize) {
         for _ in 0..most {
             if !self.text.ends_with(' ') {
@@ -58,12 +58,12 @@ impl Page {
         }
     }
 
-    /// There was no memory for something that belongs into the text, so that `finish` gives none.
+    /// Records that there was no memory for a part of the text, so that `finish` fails.
     pub fn fail(&mut self) {
         self.failed = true;
     }
 
-    /// The text, where there was memory for all of it. The error says that some was wanting.
+    /// Returns the text, or `AllocError` if there was no memory for all of it.
     pub fn finish(self) -> Result<String, AllocError> {
         if self.failed {
             return Err(AllocError);

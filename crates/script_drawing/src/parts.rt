@@ -28,12 +28,12 @@ impl<'a> Parts<'a> {
         self.failed = self.failed || self.parts.push(part).is_err();
     }
 
-    /// There was no memory for something that belongs to the parts.
+    /// Records that there was no memory for one of the parts.
     pub fn fail(&mut self) {
         self.failed = true;
     }
 
-    /// The parts, where there was memory for all of them.
+    /// Returns the parts, or `AllocError` if there was no memory for all of them.
     pub fn finish(self) -> Result<Vec<Part<'a>>, AllocError> {
         if self.failed {
             return Err(AllocError);
@@ -42,7 +42,7 @@ impl<'a> Parts<'a> {
     }
 }
 
-/// A picture, where there was memory for it, with these steps above its columns.
+/// Adds a picture, if there was memory for it, with these steps above its columns.
 fn add_picture<'a>(
     alloc: Global,
     parts: &mut Parts<'a>,
@@ -55,7 +55,7 @@ fn add_picture<'a>(
     }
 }
 
-/// The pictures of the collections.
+/// Adds the pictures of the collections.
 fn add_collections<'a>(alloc: Global, parts: &mut Parts<'a>, played: Played<'a>) {
     for (place, step) in played.steps.iter().enumerate() {
         if let (Some(chain), Some(told)) = (step.get("chain"), played.told(place)) {
@@ -66,7 +66,7 @@ fn add_collections<'a>(alloc: Global, parts: &mut Parts<'a>, played: Played<'a>)
     }
 }
 
-/// The parts of the pictures of a script that was played: that of its steps, and those of its collections.
+/// Returns the parts of the pictures of a script that was played: that of its steps, and those of its collections.
 pub fn parts_of<'a>(
     alloc: Global,
     script: &'a Value,

@@ -1,8 +1,8 @@
-//! What is drawn: lanes, and the marks on them, from left to right.
+//! A picture: lanes, and the marks on them, from left to right.
 
 use std::alloc::{AllocError, Global};
 
-/// What a mark tells.
+/// What a mark means.
 #[derive(Clone, Copy)]
 pub enum Sign {
     /// The flow took the value, or a subscriber received it.
@@ -13,11 +13,11 @@ pub enum Sign {
     Lost,
     /// There was nothing to receive or to end.
     Nothing,
-    /// The subscriber is there from now on.
+    /// The subscriber has subscribed.
     Begins,
-    /// The subscriber is gone, or the list of items has ended.
+    /// The subscriber has unsubscribed, or the list of items has ended.
     Ends,
-    /// The script has ended, and a subscriber has still something to receive.
+    /// The script has ended, and a subscriber has yet to receive values.
     Over,
     /// What the flow answered.
     Told,
@@ -25,31 +25,31 @@ pub enum Sign {
     Refused,
 }
 
-/// What stands in a mark.
+/// The words in a mark.
 #[derive(Clone, Copy)]
 pub enum Words<'a> {
     /// Nothing.
     None,
     /// A value.
     Number(i64),
-    /// So many values more.
+    /// This many more values.
     More(u64),
-    /// A line or a part of one, of whatever length.
+    /// A line or a part of one, of any length.
     Text(&'a str),
 }
 
-/// What stands beside a mark.
+/// The note beside a mark.
 #[derive(Clone, Copy)]
 pub enum Note {
     None,
-    /// So many values more are there for the subscriber of the lane.
+    /// The subscriber of the lane has this many values yet to receive.
     Behind(u64),
     /// What else the step did.
     Word(&'static str),
 }
 
 impl Note {
-    /// That so many values more are there, if there are some.
+    /// Returns the note for a lag, or no note if it is 0.
     pub(crate) fn behind(lag: u64) -> Note {
         if lag == 0 {
             Note::None
@@ -66,11 +66,11 @@ pub struct Mark<'a> {
     pub lane: usize,
     /// The place of its column, from 0.
     pub column: usize,
-    /// What it tells.
+    /// What it means.
     pub sign: Sign,
-    /// What stands in it.
+    /// The words in it.
     pub words: Words<'a>,
-    /// What stands beside it.
+    /// The note beside it.
     pub note: Note,
 }
 
@@ -84,21 +84,21 @@ pub struct Label<'a> {
 }
 
 impl<'a> Label<'a> {
-    /// A name that needs no flow.
+    /// Returns a label without a flow.
     pub(crate) fn of(name: &'a str) -> Label<'a> {
         Label { name, flow: None }
     }
 }
 
-/// A line of the picture, from left to right: that of a flow, a subscriber or an emission.
+/// A line of the picture, from left to right, for a flow, a subscriber or an emission.
 #[derive(Clone, Copy)]
 pub struct Lane<'a> {
     pub label: Label<'a>,
     /// The column where it begins.
     pub begins: usize,
-    /// The last column where it is there: `usize::MAX`, where it does not end.
+    /// The last column of the lane, or `usize::MAX` if it does not end.
     pub ends: usize,
-    /// The value of an emission whose emitter waits until it ends.
+    /// The value of an emission, whose emitter waits until the lane ends.
     pub waits: Option<i64>,
 }
 
@@ -108,9 +108,9 @@ const OPEN: usize = usize::MAX;
 /// Lanes, and the marks on them in the order of their columns.
 #[derive(Drop)]
 pub struct Picture<'a> {
-    /// Its lanes, from the uppermost one on.
+    /// Its lanes, from top to bottom.
     pub lanes: Vec<Lane<'a>>,
-    /// Its marks, from the first column on. Some lanes have none in a column.
+    /// Its marks, in the order of their columns. A lane need not have a mark in each column.
     pub marks: Vec<Mark<'a>>,
     /// How many columns there are.
     pub columns: usize,
@@ -119,7 +119,7 @@ pub struct Picture<'a> {
 }
 
 impl<'a> Picture<'a> {
-    /// No lane and no mark.
+    /// Returns a picture without lanes and marks.
     pub(crate) fn new(alloc: Global) -> Self {
         Picture {
             lanes: Vec::new(alloc),
@@ -129,7 +129,7 @@ impl<'a> Picture<'a> {
         }
     }
 
-    /// A lane that begins at the next column.
+    /// Adds a lane that begins at the next column.
     pub(crate) fn add_lane(&mut self, label: Label<'a>, waits: Option<i64>) {
         let lane = Lane {
             label,
@@ -140,7 +140,7 @@ impl<'a> Picture<'a> {
         self.failed = self.failed || self.lanes.push(lane).is_err();
     }
 
-    /// A mark in the next column.
+    /// Adds a mark in the next column.
     pub(crate) fn add_mark(&mut self, lane: usize, sign: Sign, words: Words<'a>, note: Note) {
         let mark = Mark {
             lane,
@@ -152,7 +152,7 @@ impl<'a> Picture<'a> {
         self.failed = self.failed || self.marks.push(mark).is_err();
     }
 
-    /// The next column comes, where the last one has a mark.
+    /// Begins another column, if the last mark is in the current one.
     pub(crate) fn end_column(&mut self) {
         if let Some(mark) = self.marks.last()
             && mark.column == self.columns
@@ -161,14 +161,14 @@ impl<'a> Picture<'a> {
         }
     }
 
-    /// The lane ends at a column.
+    /// Ends the lane at a column.
     pub(crate) fn end_lane(&mut self, lane: usize, column: usize) {
         if lane < self.lanes.len() {
             self.lanes[lane].ends = column;
         }
     }
 
-    /// Whether the lane has not ended.
+    /// Returns whether the lane has not ended.
     pub(crate) fn is_open(&self, lane: usize) -> bool {
         match self.lanes.get(lane) {
             Some(lane) => lane.ends == OPEN,
@@ -176,13 +176,13 @@ impl<'a> Picture<'a> {
         }
     }
 
-    /// The value of an emission that goes on, if the lane is one's.
+    /// Returns the value of an emission, if the lane is that of one and has not ended.
     pub(crate) fn open_value(&self, lane: Option<usize>) -> Option<i64> {
         let lane = self.lanes.get(lane?)?;
         if lane.ends == OPEN { lane.waits } else { None }
     }
 
-    /// The picture, where there was memory for all of it.
+    /// Returns the picture, or `AllocError` if there was no memory for all of it.
     pub(crate) fn finish(self) -> Result<Self, AllocError> {
         if self.failed {
             return Err(AllocError);

@@ -6,7 +6,7 @@ use flow_script::{Answer, Answers, Told};
 use serde_json::Value;
 use std::alloc::AllocError;
 
-/// A script that was played. What is missing here has no words: a line that is not there is empty.
+/// A script that was played. A line that is missing counts as empty.
 #[derive(Clone, Copy)]
 pub struct Played<'a> {
     /// The steps that were played, as the script has them.
@@ -17,12 +17,12 @@ pub struct Played<'a> {
 }
 
 impl<'a> Played<'a> {
-    /// How many lines come before that of the first step, one for each flow that was refused.
+    /// Returns how many lines precede that of the first step: one for each flow that was refused.
     pub(crate) fn refused(&self) -> usize {
         self.answers.not_made.len()
     }
 
-    /// The line of the step at a place: the first step has the place 0.
+    /// Returns the line of the step at a place, counted from 0.
     pub(crate) fn line(&self, step: usize) -> &'a str {
         match self.lines.get(step.saturating_add(self.refused())) {
             Some(line) => line,
@@ -30,12 +30,12 @@ impl<'a> Played<'a> {
         }
     }
 
-    /// The answer of the step at a place, and what was seen beside it.
+    /// Returns the answer of the step at a place, with what was observed.
     pub(crate) fn told(&self, step: usize) -> Option<&'a Told> {
         self.answers.steps.get(step)
     }
 
-    /// How far behind the subscriber is in the end that a step introduced: 0, where it introduced none.
+    /// Returns the final lag of the subscriber that a step introduced, or 0 if it introduced none.
     pub(crate) fn last_lag(&self, step: usize) -> u64 {
         match self.answers.last_lags.get(step) {
             Some(lag) => lag.unwrap_or(0),
@@ -43,7 +43,7 @@ impl<'a> Played<'a> {
         }
     }
 
-    /// The step that wrote the line at a place, in words. A flow that was refused wrote its line itself.
+    /// Adds the step that wrote the line at a place, in words. The line of a flow that was refused has no step.
     fn begin_line(&self, page: &mut Page, place: usize) {
         if let Some(before) = place.checked_sub(self.refused())
             && let Some(step) = self.steps.get(before)
@@ -54,8 +54,11 @@ impl<'a> Played<'a> {
         }
     }
 
-    /// Adds to `words` what stands before the line at a place: the end of the line before it, with its rule unless that is empty,
-    /// and the step that wrote the line, in words. The error says that memory was refused.
+    /// Adds to `words` the text before the line at a place: the end of the line before it, with its rule unless that is
+    /// empty, and the step that wrote the line, in words.
+    ///
+    /// # Errors
+    /// `AllocError`: out of memory.
     pub fn add_words_before(
         &self,
         words: &mut String,

@@ -1,4 +1,4 @@
-//! The program over any reader and writer: what it draws or tells, and its status.
+//! The program over any reader and writer: what it draws or prints, and its status.
 ghost use Rattle.std.specs.Prelude.{◌≡◌, ◌≢◌, false, IfSome, None};
 ghost use Rattle.flow_script.specs.Playing.{TakesWithin, is_read_failed, is_write_failed};
 ghost use Rattle.flow_script.specs.Telling.{Tells, memory_line};
@@ -15,13 +15,13 @@ use script_explain::explain_refusal;
 use std::alloc::Global;
 use std::io::{ErrorKind, Read, Write};
 
-/// The script was drawn.
+/// The status if the script was drawn.
 const DRAWN: u8 = 0;
 
 /// How the program is called.
 const USAGE: &str = "usage: flow_draw [--text | --explain]\n";
 
-/// What the arguments ask for, without the program's name.
+/// Returns the form that the arguments ask for. They do not include the program's name.
 fn form_of(args: &[String]) -> Option<Form>
     ensures { result ≡ form_of args.now }
 {
@@ -36,7 +36,8 @@ fn form_of(args: &[String]) -> Option<Form>
     }
 }
 
-/// Tells why the arguments were not read: out of memory, or else that they are wrong.
+/// Reports that the arguments were not read: prints `out of memory`, or else how the program is called, and returns the
+/// status.
 pub fn refuse_arguments<W: Write>(output: &mut Watched<W>, kind: ErrorKind) -> u8
     requires { has_failed output.old ≡ false }
     ensures memory { kind ≡ ErrorKind.OutOfMemory → Tells (has_failed output.new)
@@ -47,8 +48,8 @@ pub fn refuse_arguments<W: Write>(output: &mut Watched<W>, kind: ErrorKind) -> u
     tell_arguments(output, kind, USAGE)
 }
 
-/// What is drawn of the script of these bytes, or why it is refused. Where and why it is refused is explained to a person, too.
-/// What of that cannot be written is left out: the line on the output and the status tell the fault.
+/// Draws the script of these bytes, or returns why it is refused. `errors` gets lines that explain where and why. Lines
+/// that cannot be written are left out: the line on the output and the status still report the fault.
 fn drawn_or_explained<E: Write>(
     alloc: Global,
     form: Form,
@@ -68,7 +69,7 @@ fn drawn_or_explained<E: Write>(
     }
 }
 
-/// Draws the script that is read, once the last step was played. At most 1,048,577 bytes are asked for.
+/// Reads a script, plays it, and writes its drawing after the last step. Takes at most 1,048,577 bytes from the reader.
 fn draw<R: Read, W: Write, E: Write>(
     alloc: Global,
     form: Form,
@@ -96,7 +97,7 @@ fn draw<R: Read, W: Write, E: Write>(
     write_all(output, drawn.as_bytes())
 }
 
-/// Draws the script that is read, and answers the program's status.
+/// Reads a script and draws it, and returns the program's status.
 fn draw_script<R: Read, W: Write, E: Write>(
     alloc: Global,
     form: Form,
@@ -116,10 +117,10 @@ fn draw_script<R: Read, W: Write, E: Write>(
     }
 }
 
-/// Draws the script that is read in the form that the arguments, without the program's name, ask for, and answers the
-/// program's status. Wrong arguments are told before anything is read.
+/// Reads a script, draws it in the form that the arguments ask for, and returns the program's status. The arguments do
+/// not include the program's name. If they are wrong, nothing is read.
 ///
-/// Where a script is refused, `errors` gets some lines for people, which say where and why.
+/// If the script is refused, `errors` gets some lines for people, which say where and why.
 ///
 /// 0: the script was drawn; 2: the script or the arguments were refused; 3: a read or a write failed; 4: out of memory.
 /// After a write that failed no line is printed.

@@ -4,7 +4,7 @@ use crate::page::Page;
 use flow_script::text_at;
 use serde_json::Value;
 
-/// The items of a member of an object: none, where it has no such member or that is no list.
+/// Returns the items of a member of an object, or no items if there is no such member or it is not a list.
 pub fn items_of<'a>(value: &'a Value, key: &str) -> &'a [Value] {
     match value.get(key) {
         Some(Value::Array(items)) => items.as_slice(),
@@ -12,7 +12,7 @@ pub fn items_of<'a>(value: &'a Value, key: &str) -> &'a [Value] {
     }
 }
 
-/// A number or a word, and anything else in short.
+/// Adds a number, a word or a list, and `{..}` for anything else.
 fn add_value(page: &mut Page, value: &Value) {
     match value {
         Value::String(word) => page.push_str(word.as_str()),
@@ -25,10 +25,10 @@ fn add_value(page: &mut Page, value: &Value) {
     }
 }
 
-/// How many items of a list are written out.
+/// The most items of a list that are written.
 const MOST_ITEMS: usize = 12;
 
-/// An item of a list: a number, a word or a fault.
+/// Adds an item of a list: a number, a word or a fault.
 fn add_item(page: &mut Page, index: usize, item: &Value) {
     if index > 0 {
         page.push_str(", ");
@@ -39,7 +39,7 @@ fn add_item(page: &mut Page, index: usize, item: &Value) {
     }
 }
 
-/// Numbers, words and faults.
+/// Adds a list of numbers, words and faults.
 fn add_items(page: &mut Page, items: &[Value]) {
     page.push('[');
     for (index, item) in items.iter().take(MOST_ITEMS).enumerate() {
@@ -52,7 +52,7 @@ fn add_items(page: &mut Page, items: &[Value]) {
     });
 }
 
-/// The members of an object but one, each with its key.
+/// Adds the members of an object except one, each with its key.
 fn add_members(page: &mut Page, object: &Value, but: &str) {
     if let Value::Object(members) = object {
         for (key, value) in members {
@@ -66,7 +66,7 @@ fn add_members(page: &mut Page, object: &Value, but: &str) {
     }
 }
 
-/// A chain: where it comes from, and its operators.
+/// Adds a chain: its source, and its operators.
 fn add_chain(page: &mut Page, chain: &Value) {
     if let Some(source) = chain.get("from") {
         add_members(page, source, "");
@@ -78,7 +78,7 @@ fn add_chain(page: &mut Page, chain: &Value) {
     }
 }
 
-/// The collection of a chain in words, without a line feed. The number of its step counts from 1.
+/// Adds the collection of a chain in words, without a line feed. Steps are numbered from 1.
 pub fn add_collection(page: &mut Page, step: usize, chain: &Value) {
     page.push_str("step ");
     page.push_number(step);
@@ -86,7 +86,7 @@ pub fn add_collection(page: &mut Page, step: usize, chain: &Value) {
     add_chain(page, chain);
 }
 
-/// The value of a key, after a space: of a chain its source and its operators, and of another object its members.
+/// Adds the value of a key, after a space: the source and the operators of a chain, or the members of another object.
 fn add_member(page: &mut Page, key: &str, value: &Value) {
     match value {
         Value::Object(_) if key == "chain" => add_chain(page, value),
@@ -103,7 +103,7 @@ const STEP_KEYS: &[&str] = &[
     "flow", "name", "first", "value", "expect", "update", "at", "chain",
 ];
 
-/// A step in words.
+/// Adds a step in words.
 pub fn add_step(page: &mut Page, step: &Value) {
     page.push_str(text_at(step, "do"));
     for key in STEP_KEYS {
@@ -118,7 +118,7 @@ const FLOW_KEYS: &[&str] = &[
     "replay", "extra", "overflow", "initial", "limit", "chain", "started",
 ];
 
-/// A flow in words, in a line of its own.
+/// Adds a flow in words, in a line of its own.
 pub fn add_flow(page: &mut Page, name: &str, flow: &Value) {
     page.push_str(name);
     page.push_str(": ");

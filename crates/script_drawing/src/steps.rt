@@ -10,7 +10,7 @@ use script_chain_format::{Version, version_of};
 use serde_json::Value;
 use std::alloc::{AllocError, Global};
 
-/// The flow of a script that names none, unless its steps only collect chains.
+/// Returns the flow of a script that does not name it, unless the script only collects chains.
 fn single_flow(script: &Value) -> Option<&Value> {
     let flow = script.get("flow")?;
     if text_at(flow, "kind") == "none" {
@@ -20,7 +20,7 @@ fn single_flow(script: &Value) -> Option<&Value> {
     }
 }
 
-/// The lanes of the flows.
+/// Adds the lanes of the flows.
 fn add_lanes<'a>(picture: &mut GrowingPicture<'a>, script: &'a Value) {
     if let Some(flow) = single_flow(script) {
         picture.add_flow("flow", flow);
@@ -39,15 +39,15 @@ fn add_steps<'a>(picture: &mut GrowingPicture<'a>, played: Played<'a>) {
     }
 }
 
-/// Marks each subscriber that still has values to receive after the last step with their number.
+/// Marks each subscriber that has values yet to receive after the last step with their number.
 fn add_last_lags<'a>(picture: &mut GrowingPicture<'a>, played: Played<'a>) {
     for (place, step) in played.steps.iter().enumerate() {
         picture.add_last_lag(step, played.last_lag(place));
     }
 }
 
-/// The picture of a script's steps: a lane for each flow, each subscriber and each emission that was not done at once, a column for each
-/// step that was played, and one more if subscribers are behind in the end.
+/// Returns the picture of a script's steps: a lane for each flow, each subscriber and each emission that was not done
+/// at once, a column for each step that was played, and one more if subscribers have values yet to receive at the end.
 ///
 /// # Errors
 /// `AllocError`: out of memory.
@@ -64,7 +64,7 @@ pub fn steps_picture<'a>(
     picture.finish()
 }
 
-/// What the flows of a script are, a line for each, which ends with a line feed. Of a script whose steps only collect chains it is nothing.
+/// Adds a line for each flow of a script, ended by a line feed. A script that only collects chains has no such line.
 pub fn add_heads(page: &mut Page, script: &Value) {
     if let Some(flow) = single_flow(script) {
         add_flow(page, "flow", flow);
@@ -75,7 +75,7 @@ pub fn add_heads(page: &mut Page, script: &Value) {
     }
 }
 
-/// What the flows of a script are, a line for each, and then the lines of those that were refused.
+/// Adds a line for each flow of a script, and then the lines of the flows that were refused.
 pub fn add_all_heads(page: &mut Page, script: &Value, played: Played<'_>) {
     add_heads(page, script);
     for line in played.lines.iter().take(played.refused()) {

@@ -5,7 +5,8 @@ pub const LEAST_WIDTH: usize = 660;
 
 pub const LEGEND_HEIGHT: usize = 104;
 
-/// The end of the description, and colours for a light background and for a dark one. A value has one colour wherever it comes.
+/// The end of the description, and colours for a light background and for a dark one. A value has the same colour
+/// everywhere.
 pub const STYLE: &str = "\
 </desc>
 <style>
@@ -46,7 +47,7 @@ text{fill:#e6edf3}
 <rect class=\"p\" width=\"100%\" height=\"100%\"/>
 ";
 
-/// What the marks mean. It is the end of a group.
+/// What the marks mean, and the end of a group.
 pub const LEGEND: &str = "\
 <rect class=\"m c1\" x=\"8\" y=\"6\" width=\"26\" height=\"26\" rx=\"13\"/>
 <text class=\"n k\" x=\"21\" y=\"24\">1</text>

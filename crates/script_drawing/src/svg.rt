@@ -15,16 +15,16 @@ use flow_script::text_at;
 use serde_json::Value;
 use std::alloc::{AllocError, Global};
 
-/// What is left free on the right: the last step's word rises there.
+/// The free space on the right, which the word above the last column needs.
 const MARGIN: usize = 48;
 
-/// How high a lane is.
+/// The height of a lane.
 const LANE: usize = 38;
 
 /// The height of the steps' numbers and words above their columns.
 const HEADER: usize = 62;
 
-/// The number of a step above its column, and what it does, in a word that rises to the right from `y` on.
+/// Adds the number of a step above its column, and what the step does, in a word that rises to the right from `y` on.
 fn add_step_head(page: &mut Page, numbered: Numbered<'_>, x: usize, y: usize) {
     begin_step_number(page, numbered.number, x, y.saturating_add(14));
     add_head(page, numbered.number, numbered.moment);
@@ -38,7 +38,7 @@ fn add_step_head(page: &mut Page, numbered: Numbered<'_>, x: usize, y: usize) {
     page.push_str(END_TEXT);
 }
 
-/// What the marks mean, from `y` on, and the end of the picture.
+/// Adds what the marks mean, from `y` on, and the end of the picture.
 fn add_legend(page: &mut Page, y: usize) {
     page.push_str("<g transform=\"translate(0 ");
     page.push_number(y);
@@ -47,7 +47,7 @@ fn add_legend(page: &mut Page, y: usize) {
     page.push_str("</svg>\n");
 }
 
-/// What stands before the lines of a script: they are a part of the description in words, after the flows.
+/// Adds the text before the lines of a script. The lines are a part of the description in words, after the flows.
 fn add_front(page: &mut Page, script: &Value, width: usize, height: usize) {
     page.push_str("<svg xmlns=\"http://www.w3.org/2000/svg\" viewBox=\"0 0 ");
     page.push_number(width);
@@ -60,8 +60,8 @@ fn add_front(page: &mut Page, script: &Value, width: usize, height: usize) {
     add_heads(page, script);
 }
 
-/// What follows the lines of a script: the end of the description, and the elements that were drawn so far. They go so far right
-/// and down.
+/// The text after the lines of a script: the end of the description, and the elements that were drawn so far, with the
+/// width and the height that they need.
 #[derive(Drop)]
 struct Canvas {
     alloc: Global,
@@ -73,7 +73,7 @@ struct Canvas {
 }
 
 impl Canvas {
-    /// A line of words. It has no character that SVG reads otherwise.
+    /// Adds a line of words. They have no character that SVG would interpret.
     fn add_words(&mut self, words: &str) {
         let y = self.height.saturating_add(22);
         let width = words.len().saturating_mul(8).saturating_add(16);
@@ -84,7 +84,7 @@ impl Canvas {
         self.page.push_str(END_TEXT);
     }
 
-    /// What the flows are, and the lines of those that were refused.
+    /// Adds the flows, and the lines of those that were refused.
     fn add_heads(&mut self, script: &Value, played: Played<'_>) {
         let mut heads = Page::new(self.alloc);
         add_all_heads(&mut heads, script, played);
@@ -98,7 +98,7 @@ impl Canvas {
         }
     }
 
-    /// The number of a step above its column, and what it does, in a word that rises to the right.
+    /// Adds the number of a step above its column, and what the step does, in a word that rises to the right.
     fn add_number(&mut self, numbered: Numbered<'_>) {
         let x = pixels(1).saturating_add(self.x);
         let y = self.height.saturating_add(40);
@@ -106,7 +106,7 @@ impl Canvas {
         add_step_head(&mut self.page, numbered, x, y);
     }
 
-    /// A collection in words.
+    /// Adds a collection in words.
     fn add_collection(&mut self, step: usize, chain: &Value) {
         let mut words = Page::new(self.alloc);
         add_collection(&mut words, step, chain);
@@ -116,7 +116,7 @@ impl Canvas {
         }
     }
 
-    /// The label of a lane, in a place that is so wide.
+    /// Adds the label of a lane, and the width of the labels.
     fn add_name(&mut self, label: Label<'_>, width: usize) {
         let y = self.height.saturating_add(LANE / 2 + 5);
         self.x = pixels(width);
@@ -125,7 +125,7 @@ impl Canvas {
         self.page.push_str(END_TEXT);
     }
 
-    /// A column of a lane.
+    /// Adds a column of a lane.
     fn add_cell(&mut self, cell: Cell<'_>) {
         let x = self.x;
         self.x = x.saturating_add(pixels(cell.width));
@@ -152,7 +152,7 @@ impl Canvas {
         }
     }
 
-    /// The parts, where there was memory for them.
+    /// Adds the parts, if there was memory for them.
     fn add_parts(&mut self, parts: Result<Vec<Part<'_>>, AllocError>) {
         match parts {
             Ok(parts) => {
@@ -164,14 +164,14 @@ impl Canvas {
         }
     }
 
-    /// The end of what is drawn.
+    /// Adds what the marks mean, and the end of the picture.
     fn add_legend(&mut self) {
         let y = self.height.saturating_add(10);
         self.height = y.saturating_add(LEGEND_HEIGHT);
         add_legend(&mut self.page, y);
     }
 
-    /// All that is drawn of a script.
+    /// Adds all that is drawn of a script.
     fn add_all(&mut self, script: &Value, played: Played<'_>) {
         self.page.push_str(STYLE);
         self.add_heads(script, played);
@@ -179,7 +179,7 @@ impl Canvas {
         self.add_legend();
     }
 
-    /// What stands before the lines of a script, and after them.
+    /// Returns the text before the lines of a script, and the text after them.
     fn frame(self, script: &Value) -> Result<Frame, AllocError> {
         let Canvas {
             alloc,
@@ -203,7 +203,7 @@ role=\"img\" aria-labelledby=\"title lines\">
 <title id=\"title\">A flow script, step by step</title>
 <desc id=\"lines\">";
 
-/// The pictures of a script, around its lines.
+/// Returns the frame of a script with its pictures as SVG, around the lines.
 pub fn svg_frame(alloc: Global, script: &Value, played: Played<'_>) -> Result<Frame, AllocError> {
     let mut canvas = Canvas {
         alloc,

@@ -5,10 +5,10 @@ use crate::page::Page;
 use crate::picture::{Mark, Note, Sign, Words};
 use crate::widths::{add_note, add_words, words_width};
 
-/// How wide a character is, in pixels.
+/// The width of a character, in pixels.
 const CHARACTER: usize = 9;
 
-/// So many characters in pixels.
+/// Returns the width of this many characters, in pixels.
 pub fn pixels(characters: usize) -> usize {
     characters.saturating_mul(CHARACTER)
 }
@@ -19,7 +19,7 @@ pub const END_TEXT: &str = "</text>\n";
 /// The end of an element that has nothing in it.
 const END_ELEMENT: &str = "/>\n";
 
-/// The beginning of an element of a class.
+/// Adds the beginning of an element of a class.
 fn begin_element(page: &mut Page, element: &str, class: &str) {
     page.push_str(element);
     page.push_str(" class=\"");
@@ -27,7 +27,7 @@ fn begin_element(page: &mut Page, element: &str, class: &str) {
     page.push('"');
 }
 
-/// An attribute that is a number.
+/// Adds an attribute that is a number.
 pub fn add_attribute(page: &mut Page, name: &str, number: usize) {
     page.push(' ');
     page.push_str(name);
@@ -36,20 +36,21 @@ pub fn add_attribute(page: &mut Page, name: &str, number: usize) {
     page.push('"');
 }
 
-/// The place of a text, and the end of the text's tag.
+/// Adds the place of a text, and the end of the text's tag.
 fn add_text_place(page: &mut Page, x: usize, y: usize) {
     add_attribute(page, "x", x);
     add_attribute(page, "y", y);
     page.push('>');
 }
 
-/// The beginning of a text of a class at a place.
+/// Adds the beginning of a text of a class at a place.
 pub fn begin_text(page: &mut Page, class: &str, x: usize, y: usize) {
     begin_element(page, "<text", class);
     add_text_place(page, x, y);
 }
 
-/// The beginning of the number above the column of a step. A program finds the column by its attribute `data-step`.
+/// Adds the beginning of the number above the column of a step. A program finds the column by its attribute
+/// `data-step`.
 pub fn begin_step_number(page: &mut Page, step: usize, x: usize, y: usize) {
     begin_element(page, "<text", "h");
     add_attribute(page, "data-step", step);
@@ -80,7 +81,7 @@ fn look_of(mark: Mark<'_>) -> Look {
     }
 }
 
-/// The width and the height of a mark's box.
+/// Returns the width and the height of a mark's box.
 fn size_of(mark: Mark<'_>) -> (usize, usize) {
     match mark.sign {
         Sign::Begins | Sign::Ends => (4, 24),
@@ -93,7 +94,7 @@ fn size_of(mark: Mark<'_>) -> (usize, usize) {
     }
 }
 
-/// The box of a mark, whose left side is at `x` and whose middle is at `y`.
+/// Adds the box of a mark, whose left side is at `x` and whose middle is at `y`.
 fn add_box(
     page: &mut Page,
     (shape, corner): (&str, usize),
@@ -110,7 +111,7 @@ fn add_box(
     page.push_str(END_ELEMENT);
 }
 
-/// A mark whose box begins at `x`, on the line at `y`.
+/// Adds a mark whose box begins at `x`, on the line at `y`.
 fn add_mark(page: &mut Page, mark: Mark<'_>, x: usize, y: usize) {
     let (shape, class, corner) = look_of(mark);
     let (width, height) = size_of(mark);
@@ -126,7 +127,7 @@ fn add_mark(page: &mut Page, mark: Mark<'_>, x: usize, y: usize) {
     add_note_at(page, mark.note, x.saturating_add(width), y);
 }
 
-/// A note to the right of its mark.
+/// Adds a note to the right of its mark.
 fn add_note_at(page: &mut Page, note: Note, x: usize, y: usize) {
     if matches!(note, Note::None) {
         return;
@@ -136,7 +137,7 @@ fn add_note_at(page: &mut Page, note: Note, x: usize, y: usize) {
     page.push_str(END_TEXT);
 }
 
-/// The line of a lane through a column from `x` on, whose mark has its middle there.
+/// Adds the line of a lane through a column from `x` on. `middle` is the middle of the column's mark.
 fn add_line(page: &mut Page, cell: Cell<'_>, x: usize, middle: usize, y: usize) {
     let end = x.saturating_add(pixels(cell.width));
     let from = if cell.comes { x } else { middle };
@@ -149,7 +150,7 @@ fn add_line(page: &mut Page, cell: Cell<'_>, x: usize, middle: usize, y: usize) 
     page.push_str(END_ELEMENT);
 }
 
-/// A column of a lane from `x` on: its line, and the mark there.
+/// Adds a column of a lane from `x` on: its line, and its mark.
 pub fn add_cell(page: &mut Page, cell: Cell<'_>, x: usize, y: usize) {
     let begin = x.saturating_add(CHARACTER);
     if cell.has_line {

@@ -22,19 +22,19 @@ const LEGEND: &str = "\
 
 ";
 
-/// The end of a line, without the spaces before it.
+/// Ends a line, without the spaces before its end.
 fn end_line(page: &mut Page) {
     page.pop_spaces(MOST_WIDTH);
     page.push('\n');
 }
 
-/// A label, as wide as the place before the lanes.
+/// Adds a label, with spaces up to the width of the labels.
 fn add_name(page: &mut Page, label: Label<'_>, width: usize) {
     add_label(page, label, " < ");
     page.push_times(' ', width.saturating_sub(label_width(label)));
 }
 
-/// A mark between its signs.
+/// Adds a mark between its signs.
 fn add_mark(page: &mut Page, mark: Mark<'_>) {
     let (before, after) = brackets(mark.sign);
     page.push_str(before);
@@ -43,7 +43,7 @@ fn add_mark(page: &mut Page, mark: Mark<'_>) {
     add_note(page, mark.note);
 }
 
-/// A column of a lane: its line, and the mark there.
+/// Adds a column of a lane: its line, and its mark.
 fn add_cell(page: &mut Page, cell: Cell<'_>) {
     let line = if cell.waits { '┄' } else { '─' };
     page.push(if cell.comes { line } else { ' ' });
@@ -56,7 +56,7 @@ fn add_cell(page: &mut Page, cell: Cell<'_>) {
     page.push_times(after, cell.width.saturating_sub(taken));
 }
 
-/// The number of a step above its column, and the moment if it is a turn.
+/// Adds the number of a step above its column, and the moment if it is a turn.
 fn add_number(page: &mut Page, numbered: Numbered<'_>) {
     let Numbered { number, moment, .. } = numbered;
     page.push(' ');
@@ -80,7 +80,7 @@ fn add_part(page: &mut Page, part: Part<'_>) {
     }
 }
 
-/// The parts, where there was memory for them.
+/// Adds the parts, if there was memory for them.
 fn add_parts(page: &mut Page, parts: Result<Vec<Part<'_>>, AllocError>) {
     match parts {
         Ok(parts) => {
@@ -92,7 +92,7 @@ fn add_parts(page: &mut Page, parts: Result<Vec<Part<'_>>, AllocError>) {
     }
 }
 
-/// The pictures of a script, which its lines follow.
+/// Returns the frame of a script with its pictures as text, before the lines.
 pub fn text_frame(alloc: Global, script: &Value, played: Played<'_>) -> Result<Frame, AllocError> {
     let mut page = Page::new(alloc);
     add_all_heads(&mut page, script, played);

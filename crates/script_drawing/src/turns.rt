@@ -6,14 +6,14 @@ use script_chain_format::{ScriptFault, Version, chain_in};
 use serde_json::Value;
 use std::alloc::{AllocError, Global};
 
-/// The chain of a sharing, asked once more as its turns asked it.
+/// The chain of a sharing, which is asked once more as its turns asked it.
 #[derive(Drop)]
 pub struct Asking {
     chain: ScriptChain,
 }
 
 impl Asking {
-    /// The chain of a flow before its first turn, if the flow has one that can be built.
+    /// Returns the chain of a flow before its first turn, if the flow has one that can be built.
     pub fn new(alloc: Global, version: Version, flow: &Value) -> Result<Option<Self>, AllocError> {
         let Some(chain) = flow.get("chain") else {
             return Ok(None);
@@ -25,7 +25,7 @@ impl Asking {
         }
     }
 
-    /// Returns the item that the flow accepted in a turn, by its report. The chain is asked in the turns that asked it.
+    /// Returns the item that the flow accepted in a turn, by the turn's report. Asks the chain if the turn asked it.
     ///
     /// # Errors
     /// `AllocError`: out of memory.

@@ -3,24 +3,24 @@
 use crate::page::Page;
 use crate::picture::{Label, Lane, Mark, Note, Sign, Words};
 
-/// The least width of what stands before the lanes.
+/// The least width of the labels before the lanes.
 const LEAST_LABELS: usize = 14;
 
 /// The most characters of a name before its lane.
 const MOST_NAME: usize = 12;
 
-/// How many characters stand between the name of a subscriber or an emission and that of its flow.
+/// The number of characters between the name of a subscriber or an emission and that of its flow.
 const OF_FLOW_WIDTH: usize = 3;
 
-/// The most characters that stand in a mark.
+/// The most characters of the words in a mark.
 pub const WORDS_WIDTH: usize = 24;
 
-/// How many digits a number has.
+/// Returns how many digits a number has.
 fn number_width(number: u64) -> usize {
     (number.checked_ilog10().unwrap_or(0) as usize).saturating_add(1)
 }
 
-/// How many characters tell that so many more are there.
+/// Returns how many characters a number has after `+`, including that.
 fn more_width(count: u64) -> usize {
     number_width(count).saturating_add(1)
 }
@@ -37,7 +37,7 @@ fn name_width(name: &str) -> usize {
     name.len().min(MOST_NAME)
 }
 
-/// How many characters a label has.
+/// Returns how many characters a label has.
 pub fn label_width(label: Label<'_>) -> usize {
     let name = name_width(label.name);
     match label.flow {
@@ -48,7 +48,7 @@ pub fn label_width(label: Label<'_>) -> usize {
     }
 }
 
-/// How wide the place before these lanes is.
+/// Returns the width of the labels before these lanes.
 pub fn labels_width(lanes: &[Lane<'_>]) -> usize {
     let mut widest = LEAST_LABELS;
     for lane in lanes {
@@ -57,7 +57,7 @@ pub fn labels_width(lanes: &[Lane<'_>]) -> usize {
     widest
 }
 
-/// What is written before a lane, with these three characters before the name of a flow. Longer names are cut.
+/// Adds the label of a lane, with the three characters `of_flow` before the name of a flow. Cuts longer names.
 pub fn add_label(page: &mut Page, label: Label<'_>, of_flow: &str) {
     add_cut(page, label.name, MOST_NAME);
     if let Some(flow) = label.flow {
@@ -66,10 +66,10 @@ pub fn add_label(page: &mut Page, label: Label<'_>, of_flow: &str) {
     }
 }
 
-/// What stands between the number of a turn and its moment.
+/// The text between the number of a turn and its moment.
 const AT: &str = " at ";
 
-/// How many characters the number of a step has, and the moment if it is a turn.
+/// Returns how many characters the number of a step has, with the moment if it is a turn.
 pub fn head_width(number: usize, moment: Option<u64>) -> usize {
     let width = number_width(number as u64);
     match moment {
@@ -80,7 +80,7 @@ pub fn head_width(number: usize, moment: Option<u64>) -> usize {
     }
 }
 
-/// The number of a step, and the moment if it is a turn.
+/// Adds the number of a step, and the moment if it is a turn.
 pub fn add_head(page: &mut Page, number: usize, moment: Option<u64>) {
     page.push_number(number);
     if let Some(moment) = moment {
@@ -89,7 +89,7 @@ pub fn add_head(page: &mut Page, number: usize, moment: Option<u64>) {
     }
 }
 
-/// How many characters stand in a mark.
+/// Returns how many characters the words in a mark have.
 pub fn words_width(words: Words<'_>) -> usize {
     match words {
         Words::None => 0,
@@ -101,7 +101,7 @@ pub fn words_width(words: Words<'_>) -> usize {
     }
 }
 
-/// What stands in a mark. A longer text is cut.
+/// Adds the words in a mark. Cuts a longer text.
 pub fn add_words(page: &mut Page, words: Words<'_>) {
     match words {
         Words::None => {}
@@ -111,13 +111,13 @@ pub fn add_words(page: &mut Page, words: Words<'_>) {
     }
 }
 
-/// That so many more are there.
+/// Adds a number after `+`.
 fn add_more(page: &mut Page, count: u64) {
     page.push('+');
     page.push_number(count);
 }
 
-/// What stands beside a mark.
+/// Adds the note beside a mark.
 pub fn add_note(page: &mut Page, note: Note) {
     match note {
         Note::None => {}
@@ -126,7 +126,7 @@ pub fn add_note(page: &mut Page, note: Note) {
     }
 }
 
-/// A text, of which at most so many characters are kept.
+/// Adds a text, cut to at most `most` characters.
 fn add_cut(page: &mut Page, words: &str, most: usize) {
     if words.len() <= most {
         page.push_str(words);
@@ -138,7 +138,7 @@ fn add_cut(page: &mut Page, words: &str, most: usize) {
     page.push_str("..");
 }
 
-/// What stands before and after the words of a mark where a picture is text.
+/// Returns the text before and after the words of a mark, in a picture as text.
 pub fn brackets(sign: Sign) -> (&'static str, &'static str) {
     match sign {
         Sign::Value => ("(", ")"),
@@ -151,7 +151,7 @@ pub fn brackets(sign: Sign) -> (&'static str, &'static str) {
     }
 }
 
-/// How many characters a mark has.
+/// Returns how many characters a mark has.
 pub fn mark_width(mark: Mark<'_>) -> usize {
     let (before, after) = brackets(mark.sign);
     before

@@ -7,7 +7,7 @@ use serde_json::Value;
 /// The most items of a source, entries of a scripted one, and numbers of a range.
 pub const MOST_ITEMS: usize = 10_000;
 
-/// The most items that a `flat_map` makes of one.
+/// The most items that a `flat_map` makes of one item.
 pub const MOST_SPREAD: usize = 1_000;
 
 /// A chain.
@@ -37,7 +37,7 @@ static SOURCE_ROWS: [Row; 3] = [
     ),
 ];
 
-/// Returns the keys of a source by the first one that it has, since it has no other.
+/// Returns the shape of a source, by the first key of a source that it has. A source has only one.
 pub fn source_shape(source: &Value) -> Shape {
     for row in &SOURCE_ROWS {
         if source.get(row.word).is_some() {
@@ -50,7 +50,7 @@ pub fn source_shape(source: &Value) -> Shape {
     ANY_SOURCE
 }
 
-/// A source of which nothing is known yet.
+/// A source that has none of these keys.
 static ANY_SOURCE: Shape = Shape {
     name: "a source",
     keys: &[OF, RANGE, SCRIPTED],
@@ -81,7 +81,7 @@ const BY_JOINING: Key = key!(
 
 const K: Key = key!("k", Form::Signed, Need::Always);
 
-/// The number beside a test of which it is not known whether it has one.
+/// The number beside a test, if it is not known whether the test takes one.
 const MAYBE_K: Key = key!("k", Form::Signed, Need::Maybe);
 
 const ADD: Key = key!("add", Form::Numbers(16), Need::Always);
@@ -96,7 +96,7 @@ const TO: Key = key!("to", Form::OneOf(&["range", "repeat"]), Need::Always);
 
 const WITH: Key = key!("with", Form::Chain, Need::Always);
 
-/// An operator, which is told by its tag.
+/// The row of an operator, which its tag names.
 macro_rules! operator {
     ($word:literal, $keys:expr, $need:expr) => {
         Row {
@@ -133,8 +133,8 @@ const PARITY_KEYS: &[Key] = &[OP, BY_TEST];
 
 const COMPARED_KEYS: &[Key] = &[OP, BY_TEST, K];
 
-/// Returns the object of a row that has this tag and these members. Of operators even and odd stand alone, and the
-/// other tests have a number beside them.
+/// Returns the shape of an object with the tag of this row. With the tests `even` and `odd` an operator takes no
+/// number, and with the other tests it takes one.
 pub fn shape_of(row: Row, object: &Value) -> Shape {
     let keys = match (row.word, text_at(object, "by")) {
         ("filter" | "take_while" | "drop_while", "even" | "odd") => PARITY_KEYS,

@@ -1,4 +1,4 @@
-//! The words of which one is right.
+//! Lists of words, one of which is right.
 
 use crate::step_words::{is_allowed, step_rows};
 use crate::words::{Key, Row, Version};
@@ -7,7 +7,7 @@ use json_places::nearest;
 use serde_json::{Map, Value};
 use std::alloc::{AllocError, Global};
 
-/// Words of which one is right. Some of a list may be out of place.
+/// A list of words, one of which is right. Some words of the list may not be allowed here.
 #[derive(Clone, Copy)]
 pub enum Choices<'a> {
     Words(&'static [&'static str]),
@@ -19,11 +19,11 @@ pub enum Choices<'a> {
     StepsOf(&'a str),
     /// The names of these flows.
     Flows(&'a Map<String, Value>),
-    /// The names that those of these steps introduce that have this tag and are about this flow.
+    /// The names that these steps introduce, if the steps have this tag and act on this flow.
     Names(&'a [Value], &'static str, &'a str),
 }
 
-/// A word, and whether it may be chosen, if there is one at an index.
+/// The word at an index, and whether it may be chosen, or `None` if there is no such index.
 type Choice<'a> = Option<(&'a str, bool)>;
 
 fn word_at(words: &'static [&'static str], index: usize) -> Choice<'static> {
@@ -51,7 +51,7 @@ fn flow_at(flows: &Map<String, Value>, index: usize) -> Choice<'_> {
     Some((name.as_str(), true))
 }
 
-/// Returns the name that a step introduces, and whether the step has this tag and is about this flow.
+/// Returns the name that a step introduces, and whether the step has this tag and acts on this flow.
 fn name_of<'a>(step: &'a Value, tag: &str, flow: &str) -> (&'a str, bool) {
     let is_made = text_at(step, "do") == tag && text_at(step, "flow") == flow;
     (text_at(step, "name"), is_made)

@@ -8,7 +8,7 @@ pub const MOST_STEPS: usize = 10_000;
 /// The most flows of a script.
 pub const MOST_FLOWS: usize = 64;
 
-/// The version, whose absence is a fault of its own.
+/// The version. A missing version is a fault of its own.
 pub const VERSION: Key = key!("version", Form::Version, Need::Always);
 
 /// A whole script.

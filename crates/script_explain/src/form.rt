@@ -1,4 +1,4 @@
-//! The forms of values: which values have them, their limits, and what a reader is told of them.
+//! The forms of values: which values have them, their limits, and their words in messages.
 
 use crate::chain_words::{MOST_ITEMS, MOST_SPREAD};
 use crate::flow_words::{MOST_FLOWS, MOST_STEPS, STARTED_WORDS};
@@ -37,7 +37,7 @@ fn range_len(value: &Value) -> Option<u64> {
     }
 }
 
-/// Returns whether there is a whole number below 2^32.
+/// Returns whether there is a value that is a whole number below 2^32.
 fn is_short(value: Option<&Value>) -> bool {
     match value {
         Some(value) => matches!(value.as_u64(), Some(number) if number <= u32::MAX as u64),
@@ -45,7 +45,7 @@ fn is_short(value: Option<&Value>) -> bool {
     }
 }
 
-/// How much there is of something, and the most that there may be.
+/// A size, and the greatest size that is allowed.
 #[derive(Clone, Copy)]
 pub struct Limited {
     pub size: u64,
@@ -54,8 +54,7 @@ pub struct Limited {
 }
 
 impl Form {
-    /// Returns whether a value has the form. What stands in a list or an object is not looked at, but for a range and a
-    /// fault.
+    /// Returns whether a value has the form. Looks at what a list or an object contains only for a range and a fault.
     pub fn fits(self, value: &Value) -> bool {
         let word = value.as_str().unwrap_or("");
         match self {
@@ -80,7 +79,7 @@ impl Form {
         }
     }
 
-    /// Returns the words for the form, for messages.
+    /// Returns the words for the form in messages.
     pub fn words(self) -> &'static str {
         match self {
             Form::Version => "1 or 2",
@@ -108,7 +107,7 @@ impl Form {
         }
     }
 
-    /// Returns the words of which a value of the form may be one.
+    /// Returns the words that a value of the form may be.
     pub fn choices(self) -> &'static [&'static str] {
         match self {
             Form::OneOf(words) => words,
@@ -118,7 +117,7 @@ impl Form {
         }
     }
 
-    /// Returns how much a value has of what the form limits, if it has a limit.
+    /// Returns the size of a value, with its limit, if the form has a limit.
     pub fn limited(self, value: &Value) -> Option<Limited> {
         let (size, most, unit) = match self {
             Form::Numbers(most) => (items_of(value).len() as u64, most, "items"),

@@ -6,7 +6,7 @@ use json_places::{Spot, Text};
 use serde_json::Value;
 use std::alloc::AllocError;
 
-/// Returns the items of a list, or none.
+/// Returns the items of a list, or no items if the value is not a list.
 pub fn items_of(value: &Value) -> &[Value] {
     match value.as_array() {
         Some(items) => items.as_slice(),
@@ -14,7 +14,7 @@ pub fn items_of(value: &Value) -> &[Value] {
     }
 }
 
-/// Returns the flow of a script that a step is about.
+/// Returns the flow of a script that a step acts on.
 pub fn flow_of<'a>(script: &'a Value, step: &Value) -> Option<&'a Value> {
     match script.get("flows") {
         Some(flows) => flows.get(text_at(step, "flow")),
@@ -46,7 +46,7 @@ impl<'a> Script<'a> {
         }
     }
 
-    /// Returns the steps before the one at an index, where the first one has the index 0.
+    /// Returns the steps before the one at an index, counted from 0.
     pub fn steps_before(self, index: usize) -> &'a [Value] {
         let Some(steps) = self.root.value.get("steps") else {
             return &[];
@@ -54,7 +54,7 @@ impl<'a> Script<'a> {
         items_of(steps).get(..index).unwrap_or(&[])
     }
 
-    /// Returns a step, where the first one has the index 0.
+    /// Returns the step at an index, counted from 0.
     pub fn step(self, index: usize) -> Result<Option<Spot<'a>>, AllocError> {
         match self.text.member(self.root, "steps")? {
             Some(steps) => Ok(self.text.item(steps, index)),
@@ -62,7 +62,7 @@ impl<'a> Script<'a> {
         }
     }
 
-    /// Returns the flow that a step is about.
+    /// Returns the flow that a step acts on.
     pub fn flow_of(self, step: &Value) -> Option<&'a Value> {
         flow_of(self.root.value, step)
     }

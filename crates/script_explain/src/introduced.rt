@@ -10,10 +10,10 @@ use std::alloc::AllocError;
 /// What a name stands for.
 #[derive(Clone, Copy)]
 pub struct Named {
-    /// The tag of the steps that introduce such names.
+    /// The tag of the steps that introduce these names.
     pub tag: &'static str,
     pub words: &'static str,
-    /// What is told of a name that stands for no such thing.
+    /// The words after a name that does not stand for this.
     pub denied: &'static str,
     /// What is expected in its place.
     pub expected: &'static str,
@@ -34,7 +34,7 @@ static SUBSCRIBER: Named = Named {
 };
 
 impl Named {
-    /// Returns what a step introduces by its name, or else what it uses by it.
+    /// Returns what a step introduces by its name, and what it uses by its name. At most one of them is `Some`.
     pub fn by(step: &Value) -> (Option<&'static Named>, Option<&'static Named>) {
         match text_at(step, "do") {
             "emit" => (Some(&EMISSION), None),
@@ -51,7 +51,7 @@ impl Named {
 pub struct Introduced<'a> {
     /// What the name stands for.
     words: &'static str,
-    /// The name of the flow that the step is about. There is none in version 1.
+    /// The name of the flow that the step acts on. In version 1 it is empty.
     flow: &'a str,
     /// The index of the step.
     index: usize,

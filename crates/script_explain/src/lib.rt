@@ -1,16 +1,16 @@
 //! Explains flow scripts in words: where and why one is refused, and by which rule a step has its answer.
 //!
 //! # Refusals
-//! `explain_refusal` takes the bytes of a script and the fault by which the reader refused it. It walks over the text
-//! again, finds the key or the value that is to blame, and writes its line and column, what was expected there, and the
-//! nearest right word. Where it finds no culprit it writes the place of the step and the words of the fault. Three
-//! tables say what scripts are made of: `step_words`, `flow_words`, `chain_words`. The first thing that is wrong is
-//! written to the `Report`, and nothing more is looked at.
+//! `explain_refusal` takes the bytes of a script and the fault with which the reader refused it. It searches the text
+//! again for the key or the value that is wrong, and writes its line and column, what was expected there, and the
+//! nearest right word. If it finds none, it writes the place of the step and the words of the fault. Three tables list
+//! what scripts consist of: `step_words`, `flow_words`, `chain_words`. The search ends at the first thing that is
+//! wrong, which it writes to the `Report`.
 //!
 //! # Rules
-//! `rules_of` takes the steps of a script, each with its answer, and gives the rule by which each step has that answer.
-//! `rules` has the rules; they are those of docs/DEFINITIONS.md. `losses` finds the values that
-//! `drop_oldest` takes from subscribers.
+//! `rules_of` takes the steps of a script, each with its answer, and returns for each step the rule that gives this
+//! answer. `rules` has the rules; they are those of docs/DEFINITIONS.md. `losses` finds the values that subscribers
+//! lose by `drop_oldest`.
 #![tactic(auto)]
 
 mod chain_words;

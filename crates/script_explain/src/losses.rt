@@ -4,10 +4,10 @@ use flow_script::{Loss, Losses, Told, text_at};
 use serde_json::Value;
 use std::alloc::{AllocError, Global};
 
-/// How many subscribers a rule names at most.
+/// The most subscribers that a rule names.
 const MOST_NAMED: usize = 16;
 
-/// What is known of a flow that drops its oldest values, by the flow's name and its subscribers' names.
+/// The losses of a flow that drops its oldest values, by the names of the flow and of its subscribers.
 #[derive(Drop)]
 pub struct KnownFlow<'a> {
     name: &'a str,
@@ -39,7 +39,7 @@ fn write_loss(words: &mut String, loss: Loss<'_, &str>) -> Result<(), AllocError
 }
 
 impl<'a> KnownFlow<'a> {
-    /// Takes the next step on the flow. If subscribers lose a value by it, `words` gets the rule.
+    /// Adds the next step on the flow. If subscribers lose a value by it, writes the rule to `words`.
     fn add_step(
         &mut self,
         words: &mut String,
@@ -56,7 +56,7 @@ impl<'a> KnownFlow<'a> {
     }
 }
 
-/// Takes the next step on a flow of the script. If subscribers lose a value by it, `words` gets the rule.
+/// Adds the next step on a flow of the script. If subscribers lose a value by it, writes the rule to `words`.
 ///
 /// # Errors
 /// `AllocError`: out of memory.

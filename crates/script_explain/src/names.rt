@@ -44,7 +44,7 @@ fn unknown_use<'a>(
     report.end_near(script.text.alloc, word, choices)
 }
 
-/// Looks at the name of the flow that a step is about.
+/// Checks the name of the flow that a step acts on.
 fn look_at_flow<'a>(script: Script<'a>, step: Spot<'a>, report: &mut Report) -> Looked {
     if matches!(script.version, Version::Two)
         && script.flow_of(step.value).is_none()
@@ -55,7 +55,7 @@ fn look_at_flow<'a>(script: Script<'a>, step: Spot<'a>, report: &mut Report) -> 
     Ok(())
 }
 
-/// Looks at the names that a step uses.
+/// Checks the names that a step uses.
 pub fn look_at_uses<'a>(
     script: Script<'a>,
     index: usize,
@@ -75,7 +75,7 @@ pub fn look_at_uses<'a>(
     }
 }
 
-/// Looks at the name that a step introduces, where it was introduced before.
+/// Reports the name that a step introduces, if an earlier step introduced it.
 pub fn look_at_new_name<'a>(
     script: Script<'a>,
     index: usize,

@@ -17,7 +17,7 @@ fn name_of(kind: &str) -> &'static str {
     }
 }
 
-/// Reports the first values of a step whose flow gives a subscriber none.
+/// Returns the first values of a step, if its flow gives none to subscribers.
 fn lost_first<'a>(
     script: Script<'a>,
     step: Spot<'a>,
@@ -29,7 +29,7 @@ fn lost_first<'a>(
     script.text.member(step, "first")
 }
 
-/// Reports a step that a flow of this kind does not have.
+/// Reports a step that a flow of this kind does not allow.
 fn no_step<'a>(script: Script<'a>, step: Spot<'a>, kind: &str, report: &mut Report) -> Looked {
     let Some(found) = script.text.member(step, "do")? else {
         return Ok(());
@@ -42,7 +42,7 @@ fn no_step<'a>(script: Script<'a>, step: Spot<'a>, kind: &str, report: &mut Repo
     report.end()
 }
 
-/// Says why a step of the right form is not allowed by its flow.
+/// Reports why a flow does not allow a step of the right form.
 pub fn tell_not_allowed<'a>(script: Script<'a>, step: Spot<'a>, report: &mut Report) -> Looked {
     let Some(flow) = script.flow_of(step.value) else {
         return Ok(());

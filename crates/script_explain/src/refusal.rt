@@ -13,7 +13,7 @@ use script_format::{MOST_BYTES, ScriptFault};
 use serde_json::Value;
 use std::alloc::{AllocError, Global};
 
-/// Returns the part of a script that a fault is about: 0 is the head, and steps count from 1.
+/// Returns the part of a script that has the fault: 0 is the head, and steps are numbered from 1.
 fn part_of(fault: ScriptFault) -> Option<u64> {
     match fault {
         ScriptFault::BadShape(part)
@@ -25,7 +25,7 @@ fn part_of(fault: ScriptFault) -> Option<u64> {
     }
 }
 
-/// Looks at a step, and then at why its flow does not allow it.
+/// Reports what is wrong in a step, or why its flow does not allow it.
 fn look_at_step<'a>(
     script: Script<'a>,
     index: usize,
@@ -49,7 +49,7 @@ fn look_at_step<'a>(
     }
 }
 
-/// Says what is wrong with the version.
+/// Reports what is wrong with the version.
 fn tell_version(script: Script<'_>, report: &mut Report) -> Looked {
     let (text, root) = (script.text, script.root);
     match text.member(root, "version")? {
@@ -58,7 +58,7 @@ fn tell_version(script: Script<'_>, report: &mut Report) -> Looked {
     }
 }
 
-/// Looks at the head.
+/// Reports what is wrong in the head.
 fn look_at_head(script: Script<'_>, fault: ScriptFault, report: &mut Report) -> Looked {
     let aim = match fault {
         ScriptFault::BadVersion => return tell_version(script, report),
@@ -73,7 +73,7 @@ fn look_at_head(script: Script<'_>, fault: ScriptFault, report: &mut Report) -> 
     look_into(script, aim, task, report)
 }
 
-/// Returns the step that a part of a script is, if it is not the head.
+/// Returns the step of a part of a script, unless the part is the head.
 fn step_of<'a>(script: Script<'a>, part: u64) -> Result<Option<Spot<'a>>, AllocError> {
     if part == 0 {
         return Ok(None);
@@ -81,7 +81,7 @@ fn step_of<'a>(script: Script<'a>, part: u64) -> Result<Option<Spot<'a>>, AllocE
     script.step(part.saturating_sub(1) as usize)
 }
 
-/// Says what is wrong in a part of a script, or at least where that part begins.
+/// Reports what is wrong in a part of a script, or at least where that part begins.
 fn tell_part(script: Script<'_>, part: u64, fault: ScriptFault, report: &mut Report) -> Looked {
     let step = step_of(script, part)?;
     match step {
@@ -95,7 +95,7 @@ fn tell_part(script: Script<'_>, part: u64, fault: ScriptFault, report: &mut Rep
     tell_fault(fault, report)
 }
 
-/// Says where the text stops being JSON.
+/// Reports where the text stops being JSON.
 fn tell_stop(text: Text<'_>, report: &mut Report) -> Looked {
     match not_json(text)? {
         Some(stop) => {
@@ -114,7 +114,7 @@ fn tell_stop(text: Text<'_>, report: &mut Report) -> Looked {
     report.end()
 }
 
-/// Says that a script has too many bytes.
+/// Reports that a script has too many bytes.
 fn tell_size(text: Text<'_>, report: &mut Report) -> Looked {
     report.begin(text, MOST_BYTES);
     report.add(&["the script has "]);
@@ -124,14 +124,14 @@ fn tell_size(text: Text<'_>, report: &mut Report) -> Looked {
     report.end()
 }
 
-/// Prints the fault's own words.
+/// Reports the fault in its own words.
 fn tell_fault(fault: ScriptFault, report: &mut Report) -> Looked {
     let added = write!(report.lines, "{fault}");
     report.note(added);
     report.end()
 }
 
-/// Says why a script whose text is JSON is refused.
+/// Reports why a script whose text is JSON is refused.
 fn tell_reason(text: Text<'_>, part: u64, fault: ScriptFault, report: &mut Report) -> Looked {
     match Value::from_slice(text.alloc, text.bytes) {
         Ok(value) => tell_part(Script::new(text, &value), part, fault, report),
@@ -140,7 +140,7 @@ fn tell_reason(text: Text<'_>, part: u64, fault: ScriptFault, report: &mut Repor
     }
 }
 
-/// Says where and why the script of these bytes is refused with this fault, in a few lines:
+/// Returns a few lines that say where and why the script of these bytes is refused with this fault:
 ///
 /// ```text
 /// line 7, column 31: step 3: "valeu" is no key of try_emit
@@ -148,9 +148,9 @@ fn tell_reason(text: Text<'_>, part: u64, fault: ScriptFault, report: &mut Repor
 ///   nearest: "value"
 /// ```
 ///
-/// Lines and columns count from 1, and columns count characters. Where no culprit is found, the place is that of the
-/// step or of the head, with the fault's own words; a fault that is about no place, such as `ReadFailed`, is told by
-/// these words alone.
+/// Lines and columns are numbered from 1, and columns count characters. If nothing wrong is found, the lines have the
+/// place of the step or of the head, and the fault's own words. For a fault that has no place, such as `ReadFailed`,
+/// they have only these words.
 pub fn explain_refusal(
     alloc: Global,
     bytes: &[u8],

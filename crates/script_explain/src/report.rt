@@ -1,11 +1,11 @@
-//! What is told of what is wrong in a script, and where.
+//! The message about what is wrong in a script, and where.
 
 use crate::choices::Choices;
 use crate::words::{Form, Key};
 use json_places::{Place, Spot, Text};
 use std::alloc::{AllocError, Global};
 
-/// Where in a script a value stands.
+/// Where in a script a value is.
 #[derive(Clone, Copy)]
 pub enum Owner {
     /// It is the script.
@@ -19,7 +19,7 @@ pub enum Owner {
 }
 
 impl Owner {
-    /// Returns where the items of a list that is here are.
+    /// Returns the place of the items of a list that has this place.
     pub fn of_items(self) -> Self {
         match self {
             Owner::Member(key) => Owner::Item(key),
@@ -27,7 +27,7 @@ impl Owner {
         }
     }
 
-    /// Returns the words, after a value, for one that should not be here.
+    /// Returns the words after a value that say that it is wrong in this place.
     fn denied(self) -> [&'static str; 3] {
         match self {
             Owner::Script => [" is no script", "", ""],
@@ -38,10 +38,10 @@ impl Owner {
     }
 }
 
-/// Why a look at a part of a script ended before all of it was looked at.
+/// Why the check of a part of a script ended before all of it was checked.
 #[derive(Clone, Copy)]
 pub enum Ended {
-    /// What is wrong was told.
+    /// The report says what is wrong.
     Told,
     OutOfMemory,
 }
@@ -52,24 +52,24 @@ impl From<AllocError> for Ended {
     }
 }
 
-/// A look at a part of a script: `Ok` where nothing is wrong.
+/// The result of checking a part of a script: `Ok` if nothing is wrong.
 pub type Looked = Result<(), Ended>;
 
-/// What stands before what was expected.
+/// The words before what was expected.
 pub const EXPECTED: &str = "\n  expected: ";
 
-/// The message about a script. It begins with the place of what is wrong, or with the key or the value there,
-/// and ends with `end` or `end_near`. If memory is refused something is left out, and the end says so.
+/// The message about a script. It begins with `begin` or `begin_value`, which add the place of what is wrong, and ends
+/// with `end` or `end_near`. If memory is refused, words are missing, and the end returns `OutOfMemory`.
 #[derive(Drop)]
 pub struct Report {
-    /// The part of the script that is told of, if it is known: 0 is the head, and steps count from 1.
+    /// The part of the script that has the fault, if it is known: 0 is the head, and steps are numbered from 1.
     pub part: Option<u64>,
     pub lines: String,
     pub is_out_of_memory: bool,
 }
 
 impl Report {
-    /// Remembers whether memory was refused.
+    /// Records whether memory was refused.
     pub fn note(&mut self, added: Result<(), AllocError>) {
         if added.is_err() {
             self.is_out_of_memory = true;
@@ -89,14 +89,14 @@ impl Report {
         self.note(added);
     }
 
-    /// Adds a place as a reader counts it.
+    /// Adds the line and the column of an offset.
     pub fn add_place(&mut self, text: Text<'_>, at: usize) {
         let place = Place::at(text.bytes, at);
         let added = write!(self.lines, "{place}");
         self.note(added);
     }
 
-    /// Begins with the place of an offset, and the part of the script where it is.
+    /// Begins with the place of an offset, and the part of the script that it is in.
     pub fn begin(&mut self, text: Text<'_>, at: usize) {
         self.add_place(text, at);
         match self.part {
@@ -110,7 +110,7 @@ impl Report {
         }
     }
 
-    /// Begins with the key or the value at an offset.
+    /// Begins with the place and the text of the key or the value at an offset.
     pub fn begin_value(&mut self, text: Text<'_>, at: usize) {
         self.begin(text, at);
         let (told, after) = text.told(at);
@@ -120,7 +120,7 @@ impl Report {
         }
     }
 
-    /// Words between quotes, as they are listed in a sentence.
+    /// Adds the words that may be chosen, in quotes, as a list in a sentence.
     pub fn add_choices(&mut self, choices: Choices<'_>) {
         let mut opening = "\"";
         for index in 0..usize::MAX {
@@ -134,7 +134,7 @@ impl Report {
         }
     }
 
-    /// What a value of a form is.
+    /// Adds the words for a value of a form.
     fn add_form(&mut self, form: Form) {
         match form {
             Form::OneOf(words) => {
@@ -145,7 +145,7 @@ impl Report {
         }
     }
 
-    /// Adds a key that is missing, and what its value is.
+    /// Adds a key that is missing, and the form of its value.
     pub fn add_key(&mut self, key: Key) {
         self.add(&["\"", key.word, "\", "]);
         self.add_form(key.form);
@@ -190,7 +190,7 @@ impl Report {
         self.end()
     }
 
-    /// Reports a value that has not the right form.
+    /// Reports a value that does not have the right form.
     pub fn tell_form(
         &mut self,
         text: Text<'_>,

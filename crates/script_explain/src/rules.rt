@@ -14,7 +14,7 @@ use states::state_rule;
 use std::alloc::{AllocError, Global};
 use turns::{collect_rule, turn_rule};
 
-/// Returns the rule by which a step on a flow has its answer. It is empty if the step has no such answer.
+/// Returns the rule by which a step on a flow has its answer. It is empty if the step cannot have this answer.
 fn flow_rule(flow: &Value, step: &Value, answer: &Answer) -> &'static str {
     let word = text_at(step, "do");
     match text_at(flow, "kind") {
@@ -25,8 +25,7 @@ fn flow_rule(flow: &Value, step: &Value, answer: &Answer) -> &'static str {
     }
 }
 
-/// Returns the rule by which a step on a flow of the script has its answer, in one sentence. It is empty if the step
-/// has no such answer.
+/// Returns the rule by which a step has its answer, in one sentence. It is empty if the step cannot have this answer.
 fn rule_of(flow: Option<&Value>, step: &Value, answer: &Answer) -> &'static str {
     match flow {
         _ if text_at(step, "do") == "collect" => collect_rule(answer),
@@ -55,12 +54,12 @@ fn next_rule<'a>(
     Ok(words)
 }
 
-/// Returns the rules by which the steps of a script have their answers, each in one sentence. A rule is empty if the
-/// step has no such answer.
+/// Returns the rules by which the steps of a script have their answers, each in one sentence. A rule is empty if its
+/// step cannot have this answer.
 ///
-/// Of a turn it is the rule of its command, where that changes what runs, and else that of what came of it. If a value
-/// is dropped that subscribers had still to receive, the rule says which value, and names them. Source of the rules:
-/// kotlinx.coroutines' public documentation, as docs/DEFINITIONS.md says rule by rule.
+/// The rule of a turn is that of its command if it starts or stops the chain, otherwise that of its event. If a value
+/// is dropped that subscribers had yet to receive, the rule says which value, and names up to 16 of these subscribers.
+/// Source of the rules: kotlinx.coroutines' public documentation, as docs/DEFINITIONS.md says rule by rule.
 ///
 /// # Errors
 /// `AllocError`: out of memory.

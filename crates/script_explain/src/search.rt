@@ -10,28 +10,28 @@ use crate::tasks::{Inside, Task, inside_of};
 use crate::words::{Form, Row, Shape, Version, key_named, row_named};
 use json_places::{Member, Spot, Text};
 
-/// What is looked for.
+/// What a search looks for.
 #[derive(Clone, Copy)]
 pub enum Aim {
     /// A key or a value of the wrong form.
     Shape,
-    /// A limit that is passed, where all forms are right.
+    /// A limit that is exceeded, if all forms are right.
     Limit,
 }
 
-/// A search through a part of a script, which ends where something is wrong.
+/// A search through a part of a script, which ends at the first thing that is wrong.
 #[derive(Drop)]
 struct Search<'a, 'r> {
     text: Text<'a>,
     version: Version,
     aim: Aim,
-    /// What is to be looked at.
+    /// The values to check, in order.
     tasks: Vec<Task<'a>>,
     report: &'r mut Report,
 }
 
 impl<'a> Search<'a, '_> {
-    /// Reports a member of an object that has no such key, or none in this version, as these words say.
+    /// Reports a member with an unknown key. `version` names this version if the other one knows the key.
     fn no_key(
         &mut self,
         object: Spot<'a>,
@@ -53,7 +53,7 @@ impl<'a> Search<'a, '_> {
         self.report.end_near(self.text.alloc, member.name, keys)
     }
 
-    /// Looks for a key that an object has not.
+    /// Looks for a key that the object may not have.
     fn unknown(&mut self, object: Spot<'a>, shape: Shape) -> Looked {
         let mut from = object.at.saturating_add(1);
         for _ in 0..self.text.bytes.len() {
@@ -73,7 +73,7 @@ impl<'a> Search<'a, '_> {
         Ok(())
     }
 
-    /// Looks at a value later.
+    /// Adds a value, which is checked later.
     fn add(&mut self, spot: Spot<'a>, owner: Owner, form: Form) -> Looked {
         match self.tasks.push(Task { spot, owner, form }) {
             Ok(_) => Ok(()),
@@ -81,7 +81,7 @@ impl<'a> Search<'a, '_> {
         }
     }
 
-    /// Looks at the values of an object later.
+    /// Adds the values of an object, which are checked later.
     fn add_members(&mut self, object: Spot<'a>, shape: Shape) -> Looked {
         for key in shape.keys {
             if let Some(spot) = self.text.member(object, key.word)? {
@@ -91,7 +91,7 @@ impl<'a> Search<'a, '_> {
         Ok(())
     }
 
-    /// Looks at the keys of an object: for one that it has not, and for one that it lacks. Later at its values.
+    /// Checks the keys of an object: that none is unknown, and none is missing. Its values are checked later.
     fn object(&mut self, object: Spot<'a>, shape: Shape) -> Looked {
         self.unknown(object, shape)?;
         if let Some(key) = shape.missing(self.version, object.value) {
@@ -102,7 +102,7 @@ impl<'a> Search<'a, '_> {
         self.add_members(object, shape)
     }
 
-    /// Looks at an object whose tag has the word of a row.
+    /// Checks an object whose tag names this row.
     fn row(&mut self, tagged: Tagged<'a>, found: Spot<'a>, row: Row) -> Looked {
         let shape = shape_of(row, tagged.object.value);
         if !shape.fits(self.version, tagged.object.value)
@@ -113,7 +113,7 @@ impl<'a> Search<'a, '_> {
         self.object(tagged.object, shape)
     }
 
-    /// Looks at an object whose keys its tag tells.
+    /// Checks an object whose keys depend on its tag.
     fn tagged(&mut self, object: Spot<'a>, tag: &'static str, rows: &'static [Row]) -> Looked {
         let tagged = Tagged {
             text: self.text,
@@ -133,8 +133,8 @@ impl<'a> Search<'a, '_> {
         tagged.tell_no_value(found, version, self.report)
     }
 
-    /// Looks at an item of a list, which is to have a form: later at an operator, which is looked into, and now at
-    /// another.
+    /// Checks an item of a list, which should have this form. An operator is checked later, since it has members of its
+    /// own; any other item is checked now.
     fn item(&mut self, spot: Spot<'a>, owner: Owner, form: Form) -> Looked {
         match form {
             Form::Operator => self.add(spot, owner, form),
@@ -144,7 +144,7 @@ impl<'a> Search<'a, '_> {
         }
     }
 
-    /// Looks at the items of a list, which are to have a form, up to one that is wrong.
+    /// Checks the items of a list, which should have this form, up to the first one that is wrong.
     fn items(&mut self, list: Task<'a>, form: Form) -> Looked {
         let owner = list.owner.of_items();
         let mut next = self.text.part_from(list.spot.at.saturating_add(1));
@@ -158,7 +158,7 @@ impl<'a> Search<'a, '_> {
         Ok(())
     }
 
-    /// Looks at the names of flows, and later at the flows.
+    /// Checks the names of flows. The flows are checked later.
     fn flows(&mut self, flows: Spot<'a>) -> Looked {
         let mut from = flows.at.saturating_add(1);
         for _ in 0..self.text.bytes.len() {
@@ -180,7 +180,7 @@ impl<'a> Search<'a, '_> {
         Ok(())
     }
 
-    /// Looks into a value of the right form.
+    /// Checks what is inside a value of the right form.
     fn inside(&mut self, task: Task<'a>) -> Looked {
         match inside_of(task.form, task.spot.value) {
             Inside::Nothing => Ok(()),
@@ -191,7 +191,7 @@ impl<'a> Search<'a, '_> {
         }
     }
 
-    /// Looks at the limit of a value, where limits are looked for.
+    /// Checks the limit of a value, if the search looks for limits.
     fn limit(&mut self, task: Task<'a>) -> Looked {
         if let (Owner::Member(key), Aim::Limit) = (task.owner, self.aim)
             && let Some(limited) = task.form.limited(task.spot.value)
@@ -207,7 +207,7 @@ impl<'a> Search<'a, '_> {
         Ok(())
     }
 
-    /// Looks at a value, and later at what is in it.
+    /// Checks a value, and what is inside it.
     fn look(&mut self, task: Task<'a>) -> Looked {
         if !task.form.fits(task.spot.value) {
             return self
@@ -218,7 +218,7 @@ impl<'a> Search<'a, '_> {
         self.inside(task)
     }
 
-    /// Looks at all values that are to be looked at. Each of them begins at a byte of its own.
+    /// Checks all values that were added. No two of them begin at the same byte.
     fn all(&mut self) -> Looked {
         for index in 0..self.text.bytes.len() {
             let Some(task) = self.tasks.get(index).copied() else {
@@ -230,7 +230,7 @@ impl<'a> Search<'a, '_> {
     }
 }
 
-/// Says what is wrong in a value of a script that should have this form.
+/// Reports what is wrong in a value of a script that should have this form.
 pub fn look_into<'a>(script: Script<'a>, aim: Aim, value: Task<'a>, report: &mut Report) -> Looked {
     let mut search = Search {
         text: script.text,

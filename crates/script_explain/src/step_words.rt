@@ -21,7 +21,7 @@ const FIRST: Key = key!("first", Form::Numbers(10_000), Need::MaybeInTwo);
 
 const CHAIN: Key = key!("chain", Form::Chain, Need::Always);
 
-/// A step, which is told by its tag.
+/// The row of a step, which its tag names.
 macro_rules! step {
     ($word:literal, $keys:expr) => {
         Row {

@@ -1,4 +1,4 @@
-//! Objects whose keys a tag tells: what is told of a tag that is missing or wrong.
+//! Objects whose keys depend on a tag: the reports of a tag that is missing or wrong.
 
 use crate::chain_words::shape_of;
 use crate::choices::Choices;
@@ -28,7 +28,7 @@ impl Tagged<'_> {
         report.end()
     }
 
-    /// Reports a tag whose value is no such word, or none in this version, as these words say.
+    /// Reports a tag with an unknown word. `version` names this version if the other one knows the word.
     pub fn tell_no_value(
         self,
         found: Spot<'_>,
@@ -45,7 +45,7 @@ impl Tagged<'_> {
         report.end()
     }
 
-    /// Reports a tag that stands beside the keys of another row, and not beside those of its own shape.
+    /// Reports a tag whose object has the keys of another row, and not those of its own.
     pub fn tell_other_row(
         self,
         found: Spot<'_>,
@@ -62,7 +62,7 @@ impl Tagged<'_> {
         report.end()
     }
 
-    /// Returns whether a row has a word near this one, and just the keys of the object.
+    /// Returns whether a row has another word near this one, and the object has the keys of the row.
     fn is_meant(self, row: Row, word: &str) -> Result<bool, AllocError> {
         let shape = shape_of(row, self.object.value);
         if row.word == word || !shape.fits(self.version, self.object.value) {
@@ -74,7 +74,7 @@ impl Tagged<'_> {
         )
     }
 
-    /// Returns another row than that of a word which has a word near it, and just the keys of the object.
+    /// Returns a row with another word that is near this one, if the object has the keys of that row.
     pub fn row_near(self, word: &str) -> Result<Option<Row>, AllocError> {
         for row in self.rows {
             if self.is_meant(*row, word)? {

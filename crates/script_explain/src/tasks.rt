@@ -1,4 +1,4 @@
-//! What is to be looked at in a script, and what there is to look at inside a value.
+//! The values of a script that a search checks, and what it checks inside them.
 
 use crate::chain_words::{CHAIN, operator_rows, source_shape};
 use crate::flow_words::{SCRIPT, STOP, flow_rows};
@@ -16,21 +16,21 @@ pub struct Task<'a> {
     pub form: Form,
 }
 
-/// What there is to look at inside a value.
+/// What is checked inside a value.
 #[derive(Clone, Copy)]
 pub enum Inside {
     Nothing,
     /// The members of an object.
     Members(Shape),
-    /// The members of an object, which are told by this tag of it and these rows.
+    /// The members of an object, which depend on this tag and these rows.
     Tagged(&'static str, &'static [Row]),
-    /// The items of a list, which are to have this form.
+    /// The items of a list, which should have this form.
     Items(Form),
     /// The flows of an object by their names.
     Flows,
 }
 
-/// Returns what there is to look at inside a value of the right form.
+/// Returns what is checked inside a value of the right form.
 pub fn inside_of(form: Form, value: &Value) -> Inside {
     match form {
         Form::Script => Inside::Members(SCRIPT),

@@ -1,4 +1,4 @@
-//! The forms, keys and objects of scripts, of which the tables of words are made.
+//! The forms, keys and objects of scripts, from which the tables of words are made.
 
 use crate::form::members_len;
 use serde_json::Value;
@@ -11,7 +11,7 @@ pub enum Version {
 }
 
 impl Version {
-    /// Returns what is told of a word that is known in the other version alone.
+    /// Returns the words in a message about a word that only the other version knows.
     pub fn words(self) -> &'static str {
         match self {
             Version::One => " in version 1",
@@ -20,7 +20,7 @@ impl Version {
     }
 }
 
-/// What the format asks of a value.
+/// The form that a value must have.
 #[derive(Clone, Copy)]
 pub enum Form {
     /// 1 or 2.
@@ -33,14 +33,14 @@ pub enum Form {
     OneOf(&'static [&'static str]),
     /// A text that says which keys its object has.
     Tag,
-    /// A list of at most so many whole numbers.
+    /// A list of whole numbers, with the most that it may have.
     Numbers(usize),
-    /// How many items a `flat_map` makes of one.
+    /// How many items a `flat_map` makes of one item.
     Spread,
     /// The first number and the last.
     Range,
     Entries,
-    /// An item, a turn that pends, or a fault.
+    /// An item, a pending turn, or a fault.
     Entry,
     Started,
     Chain,
@@ -54,7 +54,7 @@ pub enum Form {
     Script,
 }
 
-/// In which versions a key may be there, and whether it has to be.
+/// The versions in which a key is known, and whether it is required.
 #[derive(Clone, Copy)]
 pub enum Need {
     Always,
@@ -64,7 +64,7 @@ pub enum Need {
     MaybeInTwo,
 }
 
-/// Whether a word may be there.
+/// Whether a word is known, and whether it is required.
 #[derive(Clone, Copy)]
 pub enum Presence {
     Unknown,
@@ -73,7 +73,7 @@ pub enum Presence {
 }
 
 impl Need {
-    /// Returns whether the word may be there in a version, or has to be.
+    /// Returns whether a version knows the word, and whether it requires it.
     pub fn within(self, version: Version) -> Presence {
         match (self, version) {
             (Need::OnlyInOne, Version::Two) | (Need::OnlyInTwo | Need::MaybeInTwo, Version::One) =>
@@ -83,7 +83,7 @@ impl Need {
         }
     }
 
-    /// Returns whether the word may be there in a version.
+    /// Returns whether a version knows the word.
     pub fn is_known(self, version: Version) -> bool {
         !matches!(self.within(version), Presence::Unknown)
     }
@@ -97,7 +97,7 @@ pub struct Key {
     pub need: Need,
 }
 
-/// A key of an object: its word, what the format asks of its value, and in which versions it may be there.
+/// A key of an object: its word, the form of its value, and the versions that know it.
 macro_rules! key {
     ($word:expr, $form:expr, $need:expr) => {
         Key {
@@ -110,7 +110,7 @@ macro_rules! key {
 
 pub(crate) use key;
 
-/// Returns the key of a word, in whatever version.
+/// Returns the key with this word, in any version.
 pub fn key_named(keys: &'static [Key], word: &str) -> Option<Key> {
     for key in keys {
         if key.word == word {
@@ -120,7 +120,7 @@ pub fn key_named(keys: &'static [Key], word: &str) -> Option<Key> {
     None
 }
 
-/// An object of scripts, by the name that a reader is told, and its keys.
+/// An object of scripts: its name in messages, and its keys.
 #[derive(Clone, Copy)]
 pub struct Shape {
     pub name: &'static str,
@@ -128,7 +128,7 @@ pub struct Shape {
 }
 
 impl Shape {
-    /// Returns the first key that has to be there and is not.
+    /// Returns the first required key that is missing.
     pub fn missing(&self, version: Version, object: &Value) -> Option<Key> {
         for key in self.keys {
             if matches!(key.need.within(version), Presence::Required)
@@ -140,7 +140,7 @@ impl Shape {
         None
     }
 
-    /// Returns whether an object has each key that has to be there, and no key of another object.
+    /// Returns whether an object has all required keys, and no unknown ones.
     pub fn fits(&self, version: Version, object: &Value) -> bool {
         let mut known = 0usize;
         for key in self.keys {
@@ -161,7 +161,7 @@ pub struct Row {
     pub need: Need,
 }
 
-/// Returns the row of a word, in whatever version.
+/// Returns the row with this word, in any version.
 pub fn row_named(rows: &'static [Row], word: &str) -> Option<Row> {
     for row in rows {
         if row.word == word {
@@ -171,7 +171,8 @@ pub fn row_named(rows: &'static [Row], word: &str) -> Option<Row> {
     None
 }
 
-/// A row of a table: the word of a tag, the name of the object that has it, the object's keys, and the versions of both.
+/// A row of a table: the word of a tag, the name of the object that has it, the object's keys, and the versions that
+/// know both.
 macro_rules! row {
     ($word:expr, $name:expr, $keys:expr, $need:expr) => {
         Row {

@@ -1,4 +1,4 @@
--- The flows of a script as they are read, and as the definitions have them.
+-- The flows of a script of the reader, and those of the definitions that they stand for.
 use Rattle.std.proofs.Common.{◌≡◌, ℕ, true, Err, List, [], ◌∷◌, length, String, Global, string_bytes, string_cmp, refl, sym, ap, ◌∙◌}
 use Rattle.std.specs.List.Sorted.{IsStrictlySortedBy}
 use Rattle.std.specs.Map.{keys_of}
@@ -31,7 +31,7 @@ flows-begin es iterator count is begins sorted =
     ∙ ap (λ l. flows_after (no_flows_of (members_len (members_view es))) (members_view l)) begins
     ∙ ap (flows_after (no_flows_of (members_len (members_view es)))) (sym (ordered es sorted))
 
--- a refusal that comes first stays, whatever flows follow
+-- a fault that takes precedence stays, whatever flows follow
 pub flows-final : (fault : ScriptFault) (ms : Members) → comes_first fault ≡ true → flows_after (Err fault) ms ≡ Err fault
 flows-final fault no_members first = refl
 flows-final fault (member name d ms) first = ap (λ f. flows_after (Err f) ms) (stays-first fault (named_flow name d) first) ∙ flows-final fault ms first

@@ -1,4 +1,4 @@
--- Names as the reader keeps them, and as the definitions list them.
+-- The names that the reader keeps, and the lists of names of the definitions.
 use Rattle.std.proofs.Common.{◌≡◌, ℕ, zero, suc, ◌+◌, ◌<◌, ◌≤◌, Bool, true, false, cond, ◌||◌, nat_lt, if◌then◌else◌, List, [], ◌∷◌, ◌++◌, map, length, get_or, drop, Option, None, Some, Result, Ok, Err, Bor, refl, sym, ap, subst, ◌∙◌, arith}
 use borrow.Author.Tests.{true-ltb, false-ltb}
 use Rattle.std.proofs.Math.ListN.{set, drop_of_length-le}
@@ -43,7 +43,7 @@ position-next p f xs i x whole here is fails before =
 pub position-over : {X Y : Type 0} (p : Y → Bool) (f : X → Y) (xs : List X) (i : ℕ) (whole : Option ℕ) → length xs ≤ i → position_from p i (map f (drop i xs)) ≡ whole → None ≡ whole
 position-over p f xs i whole over before = ap (λ l. position_from p i (map f l)) (sym (drop_of_length-le xs {i = i} over)) ∙ before
 
--- the names that borrowed texts are
+-- the names in borrowed texts
 abbrev pub texts : List (Bor (List ℕ)) → List (List ℕ)
 texts keys = map (λ k. k.now) keys
 
@@ -68,7 +68,7 @@ pub map-snoc : {X Y : Type 0} (f : X → Y) (xs : List X) (x : X) → map f (xs 
 map-snoc f [] x = refl
 map-snoc f (y ∷ ys) x = ap (λ l. f y ∷ l) (map-snoc f ys x)
 
--- a name that was not there is the last one
+-- a name that is new is added at the end
 pub added : (name : Bor (List ℕ)) (keys new : List (Bor (List ℕ))) → new ≡ (if has_text name.now keys then keys else keys ++ name ∷ []) → has_text name.now keys ≡ false
     → texts keys ++ name.now ∷ [] ≡ texts new
 added name keys new is absent = sym (ap texts (is ∙ ap (λ b. if b then keys else keys ++ name ∷ []) absent) ∙ map-snoc (λ k. k.now) keys name)
@@ -85,7 +85,7 @@ names-past [] i past = refl
 names-past (x ∷ xs) zero past = absurd (omega arith)
 names-past (x ∷ xs) (suc i) past = names-past xs i (omega arith)
 
--- what a look at a borrowed row finds of a name at a place: its place among the names of a kind, of which `of` says which
+-- what is found of a name in a borrowed row: its place among the names of a kind, which `of` selects
 pub found-there : (of : NameLists → List (List ℕ)) (at : ℕ) (name : List ℕ) (items lent : List FlowNames) (i : ℕ) (k : FlowNames) (result : Result ℕ ScriptFault) → lent ≡ items → true ≡ nat_lt i (length lent)
     → k ≡ get_or lent i k → Gives (or_fault (UnknownName at) (place_of name (of (lists_of k)))) result → Gives (or_fault (UnknownName at) (place_of name (of (names_at i (map lists_of items))))) result
 found-there of at name items lent i k result same here is found =
@@ -111,7 +111,7 @@ set-past (x ∷ xs) (suc i) p past = ap (λ l. lists_of x ∷ l) (set-past xs i 
 pub introduced-again : (at : ℕ) (name : List ℕ) (row after : List NameLists) → list_any (is_known name) row ≡ true → introduced at name row after ≡ Err (DuplicateName at)
 introduced-again at name row after known = ap (λ t. if t then Err (DuplicateName at) else Ok after) known
 
--- a new name of the flow at a place, where `f` adds it
+-- the names after a new name of the flow at a place, which `f` adds
 pub added-at : (f : NameLists → NameLists) (at : ℕ) (name : List ℕ) (items : List FlowNames) (i : ℕ) (k new : FlowNames) → list_any (is_known name) (map lists_of items) ≡ false
     → i < length items → k ≡ get_or items i k → lists_of new ≡ f (lists_of k)
     → introduced at name (map lists_of items) (set (map lists_of items) i (f (names_at i (map lists_of items)))) ≡ Ok (map lists_of (set items i new))

@@ -21,7 +21,7 @@ joined : (done : List Action) (step : Action) (r : Result (List Action) ScriptFa
 joined done step (Ok rest) = ap Ok (append_assoc done (step ∷ []) rest)
 joined done step (Err fault) = refl
 
--- where a step is read, the rest of the steps gives the rest of the whole
+-- if a step is read, the steps after it give what the whole still lacks
 pub steps_more : (version : Version) (flows : List NamedHead) (steps : List Value) (i : ℕ) (value : Value) (names later : List NameLists) (done more : List Action) (step : Action) (whole : Result (List Action) ScriptFault)
     → i < length steps → value ≡ get_or steps i value → step_of version flows (i + 1) names (view value) ≡ Ok (record { step = step; names = later }) → more ≡ done ++ step ∷ []
     → result_map (λ rest. done ++ rest) (steps_of version flows (i + 1) names (items_view (drop i steps))) ≡ whole
@@ -33,7 +33,7 @@ steps_more version flows steps i value names later done more step whole here is 
     ∙ ap (λ l. result_map (λ rest. done ++ rest) (steps_of version flows (i + 1) names (items_view l))) (sym (rest_from steps i value here is))
     ∙ before
 
--- a step that is refused refuses all
+-- a step that is refused refuses all steps
 pub steps_err : (version : Version) (flows : List NamedHead) (steps : List Value) (i : ℕ) (value : Value) (names : List NameLists) (done : List Action) (whole : Result (List Action) ScriptFault) (f : ScriptFault)
     → i < length steps → value ≡ get_or steps i value → step_of version flows (i + 1) names (view value) ≡ Err f
     → result_map (λ rest. done ++ rest) (steps_of version flows (i + 1) names (items_view (drop i steps))) ≡ whole → whole ≡ Err f
@@ -71,7 +71,7 @@ too_long_is version flows vs long =
 
 -- ---- what is read key by key
 
--- where each of three keys is there, what is made of the three
+-- if each of three keys has a value, the whole is what is made of the three
 pub all-three : {A B C R : Type 0} (f : A → B → C → Option R) (oa : Option A) (ob : Option B) (oc : Option C) (a : A) (b : B) (c : C) → Some a ≡ oa → Some b ≡ ob → Some c ≡ oc
     → f a b c ≡ option_and_then (λ x. option_and_then (λ y. option_and_then (λ z. f x y z) oc) ob) oa
 all-three f oa ob oc a b c ea eb ec =
@@ -79,7 +79,7 @@ all-three f oa ob oc a b c ea eb ec =
     ∙ ap (λ o. option_and_then (λ y. option_and_then (λ z. f a y z) oc) o) eb
     ∙ ap (λ o. option_and_then (λ x. option_and_then (λ y. option_and_then (λ z. f x y z) oc) ob) o) ea
 
--- where the parts of a shared chain are not read, or what the key more says, or where both are
+-- what is read of the parts of a shared chain and one more key: nothing if either is missing, and otherwise both
 pub no-parts : {N : Type 0} (parts : Option SharedParts) (key : Option N) → None ≡ parts → None ≡ with_key parts key
 no-parts parts key none = ap (λ o. with_key o key) none
 

@@ -1,4 +1,4 @@
--- The steps of a script, as its meaning has them: a name by its place among the names of its kind, a chain by what it gives.
+-- The steps of a script, as its meaning uses them: a name is its place among the names of its kind, a chain is what it gives.
 use Rattle.std.specs.Prelude.{ℕ, ℤ, List, map, option_map, string_bytes}
 use Rattle.script_format.specs.declared.script.FlowStep.{FlowStep}
 use Rattle.script_format.specs.declared.script.Step.{Step}
@@ -18,27 +18,27 @@ pub data Action : Type 0 where
   subscribe_with : ℕ → List ℤ → Action
   collect : Build → Action
 
--- what a step that was read is
+-- a step that was read, as the definitions have it
 abbrev pub action_of : Step → Action
 action_of (step.Flow flow s) = on_flow flow s
 action_of (step.SubscribeWith flow first) = subscribe_with flow first.items
 action_of (step.Collect build) = collect (build_of build)
 
--- what the steps that were read are
+-- the steps that were read, as the definitions have them
 abbrev pub actions_of : List Step → List Action
 actions_of steps = map action_of steps
 
--- what a flow of a script that was read is
+-- a flow that was read, as the definitions have it
 abbrev pub head_of_flow : ScriptFlow → Head
 head_of_flow (flow.Shared config) = shared_flow config
 head_of_flow (flow.State initial limit) = state_flow initial limit
 head_of_flow (flow.Share chain started replay limit) = shared_chain (build_of chain) started replay limit
 head_of_flow (flow.StateIn chain started initial limit) = state_chain (build_of chain) started initial limit
 
--- what a flow with its name that was read is
+-- a flow that was read, with its name, as the definitions have it
 abbrev pub named_head : NamedFlow → NamedHead
 named_head flow = record { name = option_map string_bytes flow.name; flow = head_of_flow flow.flow }
 
--- what the flows that were read are
+-- the flows that were read, as the definitions have them
 abbrev pub heads_of : List NamedFlow → List NamedHead
 heads_of flows = map named_head flows

@@ -1,4 +1,4 @@
--- Why a script is refused, and in which order: the first fault that is found is the script's.
+-- Why a script is refused: the first fault that is found refuses it, and these definitions fix the order of the checks.
 -- Begin with `read_script`. The forms are in Format.
 use Rattle.std.specs.Prelude.{ℕ, ◌+◌, Bool, false, not, ◌||◌, nat_lt, if◌then◌else◌, ℤ, codes, List, [], ◌∷◌, ◌++◌, length, slice_get, slice_set, replicate, position, Option, Some, is_some, Result, Ok, Err, Vec}
 use Rattle.std.specs.Prelude.{option_map, option_and_then}
@@ -35,7 +35,7 @@ use Rattle.script_chain_format.specs.SourceFormat.{numbers_of, whole_numbers}
 use Rattle.script_chain_format.specs.declared.reading.version.Version.{Version}
 use Rattle.script_chain_format.specs.declared.reading.version.Version.TheVariants.{One, Two}
 
--- the most bytes, and the most steps
+-- the most bytes of a script
 abbrev pub most_bytes : ℕ
 most_bytes = 1048576
 
@@ -58,15 +58,15 @@ no_names = record { emissions = []; subscribers = [] }
 abbrev pub place_of : List ℕ → List (List ℕ) → Option ℕ
 place_of name names = position (λ known. bytes_eq name known) names
 
--- the name was introduced for the flow, for an emission or for a subscriber
+-- whether the name was introduced for the flow, as an emission or as a subscriber
 abbrev pub is_known : List ℕ → NameLists → Bool
 is_known name names = list_any (λ known. bytes_eq name known) names.emissions || list_any (λ known. bytes_eq name known) names.subscribers
 
--- one emission more
+-- the names with one more emission
 abbrev pub with_emission : List ℕ → NameLists → NameLists
 with_emission name names = record names { emissions = names.emissions ++ name ∷ [] }
 
--- one subscriber more
+-- the names with one more subscriber
 abbrev pub with_subscriber : List ℕ → NameLists → NameLists
 with_subscriber name names = record names { subscribers = names.subscribers ++ name ∷ [] }
 
@@ -74,7 +74,7 @@ with_subscriber name names = record names { subscribers = names.subscribers ++ n
 abbrev pub names_at : ℕ → List NameLists → NameLists
 names_at flow row = option_map_or (λ names. names) (slice_get row flow) no_names
 
--- a name is introduced once: those of emissions and of subscribers are in one space, whatever their flow
+-- the names after a step that introduces one; no name is introduced twice, even for another flow or another kind
 abbrev pub introduced : ℕ → List ℕ → List NameLists → List NameLists → Result (List NameLists) ScriptFault
 introduced at name row after = if list_any (is_known name) row then Err (DuplicateName at) else Ok after
 
@@ -86,11 +86,11 @@ introduces_emission flow at name row = introduced at name row (slice_set row flo
 abbrev pub introduces_subscriber : ℕ → ℕ → List ℕ → List NameLists → Result (List NameLists) ScriptFault
 introduces_subscriber flow at name row = introduced at name row (slice_set row flow (with_subscriber name (names_at flow row)))
 
--- a name is used after a step introduced it, for the flow of that step and for what that step made
+-- which emission of the flow at a place the name stands for; `UnknownName` unless an earlier step introduced it for this flow
 abbrev pub emission_at : ℕ → ℕ → List ℕ → List NameLists → Result ℕ ScriptFault
 emission_at flow at name row = or_fault (UnknownName at) (place_of name (names_at flow row).emissions)
 
--- which subscriber of the flow at a place the name stands for
+-- which subscriber of the flow at a place the name stands for; `UnknownName` unless an earlier step introduced it for this flow
 abbrev pub subscriber_at : ℕ → ℕ → List ℕ → List NameLists → Result ℕ ScriptFault
 subscriber_at flow at name row = or_fault (UnknownName at) (place_of name (names_at flow row).subscribers)
 
@@ -112,11 +112,11 @@ pub data Written : Type 0 where
 abbrev pub first_at : Data → Option Items
 first_at d = option_and_then (λ values. where_true (is_some (whole_numbers values)) (Some values)) (option_and_then as_array (get (codes "first") d))
 
--- what is expected, and what it is replaced by
+-- the expected value, and the value that replaces it
 abbrev pub pair_of : Data → Option (ℤ × ℤ)
 pair_of d = option_and_then (λ expect. option_map (λ update. (expect, update)) (i64_at (codes "update") d)) (i64_at (codes "expect") d)
 
--- a step by what it does, if its other keys have the right form
+-- the step with this verb, if its other keys have the right form
 abbrev pub written_by : FlowVerb → Data → Option Written
 written_by TryEmit d = option_map (λ value. plain (step.TryEmit value)) (i64_at (codes "value") d)
 written_by Emit d = option_and_then (λ value. option_map (λ name. emit name value) (name_at (codes "name") d)) (i64_at (codes "value") d)
@@ -143,11 +143,11 @@ pub record Named : Type 0 where
 abbrev pub named : List NameLists → Action → Named
 named names step = record { step = step; names = names }
 
--- the most first values of a subscriber's own
+-- the most first values of a subscriber
 abbrev pub most_first : ℕ
 most_first = 10000
 
--- the step on the flow at a place: its limit, then its name, looked up among those that were introduced before it
+-- the step on the flow at a place: first its limit is checked, then its name, among those that were introduced before it
 abbrev pub named_step : ℕ → ℕ → List NameLists → Written → Result Named ScriptFault
 named_step flow at names (plain s) = Ok (named names (on_flow flow s))
 named_step flow at names (emit name value) = result_map (λ after. named after (on_flow flow (step.Emit value))) (introduces_emission flow at name names)
@@ -159,7 +159,7 @@ named_step flow at names (subscribe_with name values) =
 named_step flow at names (next name) = result_map (λ place. named names (on_flow flow (step.Next place))) (subscriber_at flow at name names)
 named_step flow at names (unsubscribe name) = result_map (λ place. named names (on_flow flow (step.Unsubscribe place))) (subscriber_at flow at name names)
 
--- the flow has this name
+-- whether the flow has this name
 abbrev pub is_named : List ℕ → NamedHead → Bool
 is_named name flow = option_map_or (λ known. bytes_eq name known) flow.name false
 
@@ -167,12 +167,12 @@ is_named name flow = option_map_or (λ known. bytes_eq name known) flow.name fal
 abbrev pub place_named : List ℕ → List NamedHead → Option ℕ
 place_named name flows = position (λ flow. is_named name flow) flows
 
--- the place of the flow that a step names; in version 1 it names none, and is about the only one
+-- the place of the flow that a step names; in version 1 a step names none, and acts on the only flow
 abbrev pub place_at : Version → List NamedHead → ℕ → Data → Result ℕ ScriptFault
 place_at One flows at d = Ok 0
 place_at Two flows at d = result_then (λ name. or_fault (UnknownName at) (place_named name flows)) (or_fault (BadShape at) (name_at (codes "flow") d))
 
--- the form of its keys, then its flow, then whether that has such a step, then limits and names
+-- a step on a flow: checks the form of its keys, then its flow, then whether the flow allows the step, then limits and names
 abbrev pub flow_step_by : Version → List NamedHead → FlowVerb → ℕ → List NameLists → Data → Result Named ScriptFault
 flow_step_by version flows verb at names d =
     result_then (λ written. result_then (λ place. if allows verb (kind_at place flows) then named_step place at names written else Err (BadShape at))
@@ -182,7 +182,7 @@ flow_step_by version flows verb at names d =
 abbrev pub collected_in : Version → ℕ → Data → Result Build ScriptFault
 collected_in version at d = result_then (chain_in version at) (or_fault (BadShape at) (get (codes "chain") d))
 
--- a step by what it does: on a flow, or a collection
+-- a step by its verb: on a flow, or a collection
 abbrev pub step_by : Version → List NamedHead → Verb → ℕ → List NameLists → Data → Result Named ScriptFault
 step_by version flows (Flow verb) at names d = flow_step_by version flows verb at names d
 step_by version flows Collect at names d = result_map (λ build. named names (collect build)) (collected_in version at d)
@@ -197,7 +197,7 @@ steps_of version flows at names no_items = Ok []
 steps_of version flows at names (item d ds) =
     result_then (λ named. result_map (λ steps. named.step ∷ steps) (steps_of version flows (at + 1) named.names ds)) (step_of version flows at names d)
 
--- before the first step
+-- the names before the first step: none for each flow
 abbrev pub nothing_named : List NamedHead → List NameLists
 nothing_named flows = replicate (length flows) no_names
 
@@ -208,23 +208,23 @@ pub record Checked : Type 0 where
   pub flows : List NamedHead
   pub steps : List Action
 
--- the number of steps, then the steps
+-- the script of a head: checks the number of steps, then the steps
 abbrev pub checked : Version → List NamedHead × Items → Result Checked ScriptFault
 checked version head =
     if nat_lt most_steps (items_len head.1) then Err (TooLarge 0)
     else result_map (λ steps. record { flows = head.0; steps = steps }) (steps_of version head.0 1 (nothing_named head.0) head.1)
 
--- an object first, then its version, then its shape, then what it says
+-- the script of the data: checks that it is an object, then its version, then its head, then its steps
 abbrev pub script_of : Data → Result Checked ScriptFault
 script_of d =
     if not (is_some (as_object d)) then Err (BadShape 0)
     else result_then (λ version. result_then (checked version) (head_in version d)) (or_fault BadVersion (version_of d))
 
--- the data that the bytes are the JSON text of
+-- the data of a JSON text
 abbrev pub json_of : List ℕ → Result Data ScriptFault
 json_of bytes = if is_utf8 bytes then or_fault NotJson (read bytes) else Err NotJson
 
--- what a script says, or the first fault that is found: that of its length, of its JSON text, or of what that says
+-- what a script says, or the first fault that is found: in its length, in its JSON text, or in what the text says
 abbrev pub read_script : List ℕ → Result Checked ScriptFault
 read_script bytes = if nat_lt most_bytes (length bytes) then Err (TooLarge 0) else result_then script_of (json_of bytes)
 

@@ -1,5 +1,5 @@
 -- What the head of a script says of its flows.
--- Begin with `head_in`. A bad form anywhere in the head comes before a limit of any flow, and before their number's.
+-- Begin with `head_in`. A bad form anywhere in the head takes precedence over the limits of the flows and over the limit of their number.
 use Rattle.std.specs.Prelude.{ℕ, nat_lt, if◌then◌else◌, List, [], ◌∷◌, ◌++◌, Some, Option, option_and_then, Result, Ok, Err, codes}
 use Rattle.serde_json.specs.Data.{Data, Items, Members, no_members, member, put}
 use Rattle.serde_json.specs.Events.{members_len}
@@ -26,7 +26,7 @@ in_key_order (member key d ms) = put key d (in_key_order ms)
 abbrev pub named_flow : List ℕ → Data → Result NamedHead ScriptFault
 named_flow name d = if is_name name then result_map (λ flow. record { name = Some name; flow = flow }) (flow_in Two d) else Err (BadShape 0)
 
--- one flow more: a bad form of any of them comes before a limit of any
+-- the flows with one more; a bad form of any flow takes precedence over a limit of any
 abbrev pub with_flow : Result (List NamedHead) ScriptFault → Result NamedHead ScriptFault → Result (List NamedHead) ScriptFault
 with_flow (Ok flows) flow = result_map (λ f. flows ++ f ∷ []) flow
 with_flow (Err fault) flow = Err (first_fault fault flow)
@@ -36,15 +36,15 @@ abbrev pub flows_after : Result (List NamedHead) ScriptFault → Members → Res
 flows_after flows no_members = flows
 flows_after flows (member name d ms) = flows_after (with_flow flows (named_flow name d)) ms
 
--- before the first of so many flows
+-- no flows yet, or `TooLarge` if a script may not have this many
 abbrev pub no_flows_of : ℕ → Result (List NamedHead) ScriptFault
 no_flows_of count = if nat_lt most_flows count then Err (TooLarge 0) else Ok []
 
--- flows are made in the byte order of their names
+-- the flows of a script, in the byte order of their names
 abbrev pub named_flows : Members → Result (List NamedHead) ScriptFault
 named_flows ms = flows_after (no_flows_of (members_len ms)) (in_key_order ms)
 
--- one flow without a name, or none, in version 1, and each with its name in version 2
+-- the flows of a script: one without a name, or none, in version 1; each with its name in version 2
 abbrev pub flows_in : Version → Data → Result (List NamedHead) ScriptFault
 flows_in One d = result_then only_in (or_fault (BadShape 0) (get (codes "flow") d))
 flows_in Two d = result_then named_flows (or_fault (BadShape 0) (option_and_then as_object (get (codes "flows") d)))
@@ -54,7 +54,7 @@ abbrev pub head_keys : Version → List (List ℕ)
 head_keys One = codes "version" ∷ codes "flow" ∷ codes "steps" ∷ []
 head_keys Two = codes "version" ∷ codes "flows" ∷ codes "steps" ∷ []
 
--- the values of the steps of an object that has no other keys than a script
+-- the steps of an object that has no keys except those of a script
 abbrev pub steps_in : Version → Data → Option Items
 steps_in version d = where_true (has_only (head_keys version) d) (option_and_then as_array (get (codes "steps") d))
 

@@ -1,5 +1,6 @@
 -- What the JSON text of a script says: the configuration of a flow, and the keys of each step.
--- Begin with `config_of` and `verb_of`. Members are in Members of script_chain_format, the head is in Heads. What is refused, and in which order, is in Checks.
+-- Begin with `config_of` and `verb_of`. Members are in Members of script_chain_format, the head is in Heads. Why a script is refused, and
+-- in which order it is checked, is in Checks.
 use Rattle.std.specs.Prelude.{ℕ, ◌^◌, ◌-◌, ◌||◌, Bool, true, false, if◌then◌else◌, List, [], ◌∷◌, Option, Some, None, option_and_then, is_some, codes}
 use Rattle.std.specs.Option.{option_map_or}
 use Rattle.std.specs.Str.{bytes_eq}
@@ -20,14 +21,14 @@ use Rattle.script_format.specs.declared.verb.Kind.TheVariants as kind
 
 -- ---- the configuration of a flow
 
--- what becomes of a value without room, by its word
+-- the overflow policy that a word names
 abbrev pub overflow_named : List ℕ → Option Overflow
 overflow_named text =
     if bytes_eq text (codes "suspend") then Some Suspend
     else (if bytes_eq text (codes "drop_oldest") then Some DropOldest
     else (if bytes_eq text (codes "drop_latest") then Some DropLatest else None))
 
--- an absent limit is the greatest one
+-- the limit of a flow; without the key, the greatest one
 abbrev pub limit_at : Data → Option ℕ
 limit_at d = option_map_or (λ l. option_and_then as_u64 (as_number l)) (get (codes "limit") d) (Some (2 ^ 64 - 1))
 
@@ -41,38 +42,38 @@ config_of d =
 
 -- ---- steps
 
--- there is a flow
+-- whether there is a flow
 abbrev pub is_flow : Kind → Bool
 is_flow kind.Absent = false
 is_flow _ = true
 
--- a shared flow
+-- whether the flow is a shared flow
 abbrev pub is_shared : Kind → Bool
 is_shared kind.Shared = true
 is_shared _ = false
 
--- a state flow
+-- whether the flow is a state flow
 abbrev pub is_state : Kind → Bool
 is_state kind.State = true
 is_state _ = false
 
--- a flow into which the script emits
+-- whether scripts emit into the flow
 abbrev pub is_mutable : Kind → Bool
 is_mutable kind = is_shared kind || is_state kind
 
--- a flow with one current value
+-- whether the flow has one current value
 abbrev pub has_value : Kind → Bool
 has_value kind.State = true
 has_value kind.StateIn = true
 has_value _ = false
 
--- a flow into which a chain is shared
+-- whether a chain is shared into the flow
 abbrev pub is_sharing : Kind → Bool
 is_sharing kind.Share = true
 is_sharing kind.StateIn = true
 is_sharing _ = false
 
--- which kinds of flow have such a step
+-- whether a flow of this kind allows a step with this verb
 abbrev pub allows : FlowVerb → Kind → Bool
 allows TryEmit kind = is_mutable kind
 allows Emit kind = is_shared kind
@@ -90,11 +91,11 @@ allows Set kind = is_state kind
 allows CompareAndSet kind = is_state kind
 allows Turn kind = is_sharing kind
 
--- a subscription, which may have first values of its own
+-- the subscription with or without first values of its own
 abbrev pub subscription : Bool → FlowVerb
 subscription has_first = if has_first then SubscribeWith else Subscribe
 
--- what a step does with the values of a flow, without a subscriber, by the text of its key `do`
+-- the verb that a text names, among those on the values of a flow
 abbrev pub value_verb_named : List ℕ → Option Verb
 value_verb_named text =
     if bytes_eq text (codes "cache") then Some (Flow Cache)
@@ -103,7 +104,7 @@ value_verb_named text =
     else (if bytes_eq text (codes "set") then Some (Flow Set)
     else (if bytes_eq text (codes "compare_and_set") then Some (Flow CompareAndSet) else None))))
 
--- what a step does with the subscribers of a flow, or with its values
+-- the verb that a text names, among those on the subscribers or the values of a flow
 abbrev pub subscriber_verb_named : List ℕ → Bool → Option Verb
 subscriber_verb_named text has_first =
     if bytes_eq text (codes "subscribe") then Some (Flow (subscription has_first))
@@ -111,7 +112,7 @@ subscriber_verb_named text has_first =
     else (if bytes_eq text (codes "unsubscribe") then Some (Flow Unsubscribe)
     else (if bytes_eq text (codes "count") then Some (Flow Count) else value_verb_named text)))
 
--- what a step does by the text of its key `do`
+-- the verb for the text of the key `do`, and for whether the step has first values
 abbrev pub verb_named : List ℕ → Bool → Option Verb
 verb_named text has_first =
     if bytes_eq text (codes "collect") then Some Collect
@@ -121,12 +122,12 @@ verb_named text has_first =
     else (if bytes_eq text (codes "poll") then Some (Flow Poll)
     else (if bytes_eq text (codes "cancel") then Some (Flow Cancel) else subscriber_verb_named text has_first)))))
 
--- whether a subscription has first values of its own, which are known from version 2 on
+-- whether a step has first values for its subscriber; version 1 has none
 abbrev pub has_first : Version → Data → Bool
 has_first One d = false
 has_first Two d = is_some (get (codes "first") d)
 
--- the keys of a step, but for the one that names its flow
+-- the keys of a step, except the one that names its flow
 abbrev pub keys_of : FlowVerb → List (List ℕ)
 keys_of TryEmit = codes "do" ∷ codes "value" ∷ []
 keys_of Emit = codes "do" ∷ codes "name" ∷ codes "value" ∷ []
@@ -144,13 +145,13 @@ keys_of Set = codes "do" ∷ codes "value" ∷ []
 keys_of CompareAndSet = codes "do" ∷ codes "expect" ∷ codes "update" ∷ []
 keys_of Turn = codes "do" ∷ codes "at" ∷ []
 
--- from version 2 on a step names its flow
+-- the keys of a step; only in version 2 does a step name its flow
 abbrev pub keys_in : Version → Verb → List (List ℕ)
 keys_in One (Flow verb) = keys_of verb
 keys_in Two (Flow verb) = codes "flow" ∷ keys_of verb
 keys_in version Collect = codes "do" ∷ codes "chain" ∷ []
 
--- what a step does, if it has no other keys
+-- the verb of a step, if the step has no keys except those of the verb
 abbrev pub verb_of : Version → Data → Option Verb
 verb_of version d =
     option_and_then (λ verb. where_true (has_only (keys_in version verb) d) (Some verb))

@@ -1,4 +1,4 @@
--- What the reader's heads are in the definitions' terms. No public clause cites this module.
+-- The reader's heads, as the definitions have them. No public clause cites this module.
 use Rattle.std.specs.Prelude.{List, Result, Vec}
 use Rattle.std.specs.Borrow.{Bor}
 use Rattle.std.specs.declared.alloc.Global.{Global}
@@ -13,11 +13,11 @@ use Rattle.script_chain_format.specs.Results.{result_map}
 use Rattle.script_format.specs.Actions.{head_of_flow, named_head, heads_of}
 use Rattle.script_format.specs.Heads.{Head, NamedHead, SharedParts}
 
--- what both kinds of shared chains have, as it was read
+-- the parts that both kinds of shared chains have
 abbrev pub shared_parts_of : SharedChain → SharedParts
 shared_parts_of shared = record { chain = view shared.chain.now; started = shared.started; limit = shared.limit }
 
--- the same with what one key more says
+-- those parts, with the value of one more key
 abbrev pub parts_of : {N : Type 0} → SharedChain × N → SharedParts × N
 parts_of parts = (shared_parts_of parts.0, parts.1)
 

@@ -1,5 +1,5 @@
 -- What a script says of one flow.
--- Begin with `flow_in`. A bad form anywhere in a flow comes before a limit of its chain. The flows of a script are in Flows.
+-- Begin with `flow_in`. A bad form anywhere in a flow takes precedence over a limit of its chain. The flows of a script are in Flows.
 use Rattle.std.specs.Prelude.{ℕ, if◌then◌else◌, ℤ, List, [], ◌∷◌, slice_get, Option, Some, None, option_map, option_and_then, Result, Err, codes}
 use Rattle.std.specs.Option.{option_map_or}
 use Rattle.std.specs.Str.{bytes_eq}
@@ -30,19 +30,19 @@ pub data Head : Type 0 where
   -- with the chain, when it runs, the first value, and the most numbers
   state_chain : Build → Started → ℤ → ℕ → Head
 
--- a flow, and its name where it has one
+-- a flow, and its name if it has one
 pub record NamedHead : Type 0 where
   pub name : Option (List ℕ)
   pub flow : Head
 
--- of which kind a flow is
+-- the kind of a flow
 abbrev pub kind_of : Head → Kind
 kind_of (shared_flow config) = kind.Shared
 kind_of (state_flow initial limit) = kind.State
 kind_of (shared_chain build started replay limit) = kind.Share
 kind_of (state_chain build started initial limit) = kind.StateIn
 
--- the kind of the flow at a place, where there is one
+-- the kind of the flow at a place, or `Absent` if there is none
 abbrev pub kind_at : ℕ → List NamedHead → Kind
 kind_at place flows = option_map_or (λ named. kind_of named.flow) (slice_get flows place) kind.Absent
 
@@ -51,25 +51,25 @@ abbrev pub state_of : Data → Option Head
 state_of d = option_and_then (λ initial. option_and_then (λ limit. where_true (has_only (codes "kind" ∷ codes "initial" ∷ codes "limit" ∷ []) d) (Some (state_flow initial limit)))
     (limit_at d)) (i64_at (codes "initial") d)
 
--- when a shared chain runs, by its word
+-- when a shared chain runs, by a word
 abbrev pub started_named : List ℕ → Option Started
 started_named text = if bytes_eq text (codes "eagerly") then Some Eagerly else (if bytes_eq text (codes "lazily") then Some Lazily else None)
 
--- the key `expire` is known from version 2 on
+-- the keys of a chain that runs while it has subscribers; version 1 has no `expire`
 abbrev pub started_keys : Version → List (List ℕ)
 started_keys One = codes "stop" ∷ []
 started_keys Two = codes "stop" ∷ codes "expire" ∷ []
 
--- how long after its stop a flow forgets what it replays; without the key nothing is forgotten
+-- how long after the stop the replay cache expires; without the key it never does
 abbrev pub expire_at : Data → Option ℕ
 expire_at d = option_map_or (λ expire. option_and_then as_u64 (as_number expire)) (get (codes "expire") d) (Some never)
 
--- a chain that runs while it has subscribers: the times after which it stops and forgets
+-- a chain that runs while it has subscribers, with the times until it stops and until its replay cache expires
 abbrev pub while_subscribed : Version → Data → Option Started
 while_subscribed version d =
     where_true (has_only (started_keys version) d) (option_and_then (λ stop. option_map (λ expire. WhileSubscribed stop expire) (expire_at d)) (u64_at (codes "stop") d))
 
--- a word, or an object
+-- when a shared chain runs, by a word or by an object
 abbrev pub started_of : Version → Data → Option Started
 started_of version d = option_map_or started_named (as_str d) (while_subscribed version d)
 
@@ -77,7 +77,7 @@ started_of version d = option_map_or started_named (as_str d) (while_subscribed 
 abbrev pub started_at : Version → Data → Option Started
 started_at version d = option_and_then (started_of version) (get (codes "started") d)
 
--- what a head says of a chain that is shared, whatever the kind of its flow
+-- what a head says of a shared chain, for every kind of flow
 pub record SharedParts : Type 0 where
   pub chain : Data
   pub started : Started
@@ -90,7 +90,7 @@ shared_parts version keys d =
     where_true (has_only keys d) (Some (record { chain = chain; started = started; limit = limit })))
     (limit_at d)) (started_at version d)) (get (codes "chain") d)
 
--- those parts, with what one key more says
+-- the parts of a shared chain, with the value of one more key
 abbrev pub with_key : {N : Type 0} → Option SharedParts → Option N → Option (SharedParts × N)
 with_key shared key = option_and_then (λ parts. option_map (λ n. (parts, n)) key) shared
 
@@ -112,7 +112,7 @@ state_in_parts version d =
 abbrev pub state_in : Version → Data → Result Head ScriptFault
 state_in version d = result_then (λ parts. result_map (λ build. state_chain build parts.0.started parts.1 parts.0.limit) (chain_in version 0 parts.0.chain)) (or_fault (BadShape 0) (state_in_parts version d))
 
--- a flow by the word of its kind
+-- the flow with this kind
 abbrev pub flow_named : Version → List ℕ → Data → Result Head ScriptFault
 flow_named version kind d =
     if bytes_eq kind (codes "shared") then or_fault (BadShape 0) (option_map shared_flow (config_of d))
@@ -128,14 +128,14 @@ flow_in version d = result_then (λ kind. flow_named version kind d) (or_fault (
 abbrev pub no_flows : Data → Result (List NamedHead) ScriptFault
 no_flows d = or_fault (BadShape 0) (where_true (has_only (codes "kind" ∷ []) d) (Some []))
 
--- one flow, which needs no name
+-- a list of one flow without a name
 abbrev pub only : Head → List NamedHead
 only flow = record { name = None; flow = flow } ∷ []
 
--- the only flow of a script of version 1, by the word of its kind
+-- the only flow of a script of version 1, or none, by its kind
 abbrev pub only_named : List ℕ → Data → Result (List NamedHead) ScriptFault
 only_named kind d = if bytes_eq kind (codes "none") then no_flows d else result_map only (flow_named One kind d)
 
--- a row of the only flow of a script of version 1, or of none
+-- the only flow of a script of version 1, or none
 abbrev pub only_in : Data → Result (List NamedHead) ScriptFault
 only_in d = result_then (λ kind. only_named kind d) (or_fault (BadShape 0) (text_at (codes "kind") d))

@@ -1,4 +1,4 @@
--- What the reader's names and steps are in the definitions' terms. No public clause cites this module.
+-- The reader's names and steps, as the definitions have them. No public clause cites this module.
 use Rattle.std.specs.Prelude.{List, map}
 use Rattle.serde_json.specs.View.{items_view}
 use Rattle.script_format.specs.declared.names.FlowNames.{FlowNames}

@@ -1,6 +1,6 @@
-//! JSON flow scripts: a text that was read is a `Script`, or the first fault that it has.
+//! Reads JSON flow scripts: a text gives a `Script`, or the first fault in it.
 //!
-//! `read_script` checks all of a text before it answers. `ScriptFault` says which step a refusal is about.
+//! `read_script` checks the whole text before it returns a script. `ScriptFault` says which step was refused.
 #![tactic(auto)]
 
 mod name_form;

@@ -9,7 +9,7 @@ use indexmap::IndexSet;
 use script_chain_format::ScriptFault;
 use std::alloc::Global;
 
-/// Returns the place of a name among those of its kind, where it was introduced for the flow.
+/// Returns the place of a name among those of its kind that were introduced for the flow.
 fn place_in(names: &IndexSet<&str>, at: u64, name: &str) -> Result<usize, ScriptFault>
     ensures { Gives
         (or_fault (ScriptFault.UnknownName at)
@@ -21,7 +21,7 @@ fn place_in(names: &IndexSet<&str>, at: u64, name: &str) -> Result<usize, Script
     }
 }
 
-/// The names that were introduced for one flow. No name is in both.
+/// The names that were introduced for one flow. No name is in both sets.
 #[derive(Drop)]
 struct FlowNames<'a> {
     emissions: IndexSet<&'a str>,
@@ -65,14 +65,14 @@ impl<'a> FlowNames<'a> {
     }
 }
 
-/// The names that the steps up to here introduced, by the places of their flows. No name is there twice.
+/// The names that the steps so far introduced, by the places of their flows. No name occurs twice.
 #[derive(Drop)]
 pub struct Names<'a> {
     flows: Vec<FlowNames<'a>>,
 }
 
 impl<'a> Names<'a> {
-    /// Before the first step of a script of so many flows.
+    /// Returns no names, for a script of `count` flows.
     pub fn new(alloc: Global, count: usize) -> Result<Self, ScriptFault>
         ensures none { IfOk result (λ names. row_of names ≡ replicate count checks.no_names) }
         ensures fault { IfErr result (λ fault. fault ≡ ScriptFault.OutOfMemory) }
@@ -84,7 +84,7 @@ impl<'a> Names<'a> {
         Ok(Names { flows })
     }
 
-    /// Which emission of a flow the name stands for.
+    /// Returns which emission of a flow the name stands for.
     pub fn emission(&self, flow: usize, at: u64, name: &str) -> Result<usize, ScriptFault>
         ensures { Gives (checks.emission_at flow at name.now (row_of self.now)) result }
     {
@@ -94,7 +94,7 @@ impl<'a> Names<'a> {
         }
     }
 
-    /// Which subscriber of a flow the name stands for.
+    /// Returns which subscriber of a flow the name stands for.
     pub fn subscriber(&self, flow: usize, at: u64, name: &str) -> Result<usize, ScriptFault>
         ensures { Gives (checks.subscriber_at flow at name.now (row_of self.now)) result }
     {

@@ -1,4 +1,4 @@
-//! Reading a script, and refusing it by the first fault that is found.
+//! Reading a script, or refusing it with the first fault that is found.
 ghost use Rattle.std.specs.Prelude.{◌<◌, ◌+◌, Ok, Err};
 ghost use Rattle.serde_json.specs.View.{view, items_view};
 ghost use Rattle.script_chain_format.specs.Results.{Gives};
@@ -37,7 +37,7 @@ fn steps_of(
     Ok(checked)
 }
 
-/// Returns the script of a head of the right shape.
+/// Returns the script with these flows, if there are not too many steps and none is refused.
 fn checked(
     alloc: Global,
     version: Version,
@@ -78,7 +78,7 @@ fn json_of(alloc: Global, bytes: &[u8]) -> Result<Value, ScriptFault>
     }
 }
 
-/// Reads a script whole, and checks each step of it.
+/// Reads a whole script, and checks each of its steps.
 pub fn read_script(alloc: Global, bytes: &[u8]) -> Result<Script, ScriptFault>
     ensures { Gives (checks.read_script bytes.now) (checks.script_result result) }
 {

@@ -8,7 +8,7 @@ use flow_law::{Config, Overflow};
 use script_chain_format::{has_only, text_at, u32_at};
 use serde_json::Value;
 
-/// Returns how many numbers a flow issues, which it may leave out.
+/// Returns the most numbers that a flow issues: `u64::MAX` without the key `limit`.
 pub fn limit_at(flow: &Value) -> Option<u64>
     ensures { result ≡ format.limit_at (view flow.now) }
 {

@@ -39,7 +39,7 @@ fn pushed(mut flows: Vec<NamedFlow>, flow: NamedFlow) -> Result<Vec<NamedFlow>, 
     Ok(flows)
 }
 
-/// Returns the flows that were read, and one more. A bad form of any of them comes before a limit of any.
+/// Returns the flows with one more. A bad form of any flow takes precedence over a limit of any.
 fn with_flow(
     flows: Result<Vec<NamedFlow>, ScriptFault>,
     flow: Result<NamedFlow, ScriptFault>,
@@ -54,7 +54,7 @@ fn with_flow(
     }
 }
 
-/// Before the first of so many flows.
+/// Returns an empty list, or `TooLarge` if `count` is more than a script may have.
 fn no_flows_of(alloc: Global, count: usize) -> Result<Vec<NamedFlow>, ScriptFault>
     ensures { Gives (row.no_flows_of count) (flows_result result) }
 {
@@ -65,8 +65,7 @@ fn no_flows_of(alloc: Global, count: usize) -> Result<Vec<NamedFlow>, ScriptFaul
     }
 }
 
-/// Returns the flows of a script, in the byte order of their names, which is the one in which an object has its
-/// members.
+/// Returns the flows of a script in the byte order of their names, which is the order of an object's members.
 pub fn named_flows(
     alloc: Global,
     members: &Map<String, Value>,

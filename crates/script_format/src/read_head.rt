@@ -36,7 +36,7 @@ fn shared_of(flow: &Value) -> Option<ScriptFlow>
     Some(ScriptFlow::Shared(config_of(flow)?))
 }
 
-/// Returns the flow, if the form is right.
+/// Returns the flow, or `BadShape` if its form is wrong.
 fn formed(flow: Option<ScriptFlow>) -> Result<ScriptFlow, ScriptFault>
     ensures { Gives (or_fault (ScriptFault.BadShape 0) (option_map head_of_flow flow))
         (flow_result result) }
@@ -44,7 +44,7 @@ fn formed(flow: Option<ScriptFlow>) -> Result<ScriptFlow, ScriptFault>
     flow.ok_or(ScriptFault::BadShape(0))
 }
 
-/// Returns the flow that a head names by its kind.
+/// Returns the flow of a head with this kind.
 fn flow_named(
     alloc: Global,
     version: Version,
@@ -62,7 +62,7 @@ fn flow_named(
     }
 }
 
-/// Returns a flow of a script of this version.
+/// Returns the flow of a head, in a script of this version.
 pub fn flow_in(alloc: Global, version: Version, flow: &Value) -> Result<ScriptFlow, ScriptFault>
     ensures { Gives (heads.flow_in version (view flow.now)) (flow_result result) }
 {
@@ -82,7 +82,7 @@ fn no_flows(alloc: Global, flow: &Value) -> Result<Vec<NamedFlow>, ScriptFault>
     }
 }
 
-/// Returns a row of one flow.
+/// Returns a list of one flow without a name.
 fn only(alloc: Global, flow: ScriptFlow) -> Result<Vec<NamedFlow>, ScriptFault>
     ensures { Gives (Ok (heads.only (head_of_flow flow))) (flows_result result) }
 {
@@ -91,7 +91,7 @@ fn only(alloc: Global, flow: ScriptFlow) -> Result<Vec<NamedFlow>, ScriptFault>
     Ok(flows)
 }
 
-/// Returns a row of the only flow of a script of version 1, or of none.
+/// Returns a list of the only flow of a script of version 1, or an empty list for the kind `none`.
 fn only_named(alloc: Global, kind: &str, flow: &Value) -> Result<Vec<NamedFlow>, ScriptFault>
     ensures { Gives (heads.only_named kind.now (view flow.now)) (flows_result result) }
 {
@@ -101,7 +101,7 @@ fn only_named(alloc: Global, kind: &str, flow: &Value) -> Result<Vec<NamedFlow>,
     }
 }
 
-/// Returns a row of the only flow, or of none.
+/// Returns a list of the only flow of a script of version 1, or an empty list if it has none.
 fn only_in(alloc: Global, flow: &Value) -> Result<Vec<NamedFlow>, ScriptFault>
     ensures { Gives (heads.only_in (view flow.now)) (flows_result result) }
 {
@@ -111,7 +111,7 @@ fn only_in(alloc: Global, flow: &Value) -> Result<Vec<NamedFlow>, ScriptFault>
     }
 }
 
-/// Returns the kind of a flow, which says what steps there may be.
+/// Returns the kind of a flow, which decides what steps it allows.
 fn kind_of(flow: &ScriptFlow) -> Kind
     ensures { result ≡ heads.kind_of (head_of_flow flow.now) }
 {
@@ -123,7 +123,7 @@ fn kind_of(flow: &ScriptFlow) -> Kind
     }
 }
 
-/// Returns the kind of the flow at a place, where there is one.
+/// Returns the kind of the flow at a place, or `Absent` if there is none.
 pub fn kind_at(flows: &[NamedFlow], place: usize) -> Kind
     ensures { result ≡ heads.kind_at place (heads_of flows.now) }
 {
@@ -168,7 +168,8 @@ fn flows_in(alloc: Global, version: Version, value: &Value) -> Result<Vec<NamedF
     }
 }
 
-/// Returns the flows and the steps of a head. A bad form comes before a limit, so the steps are looked at first.
+/// Returns the flows and the steps of a head. A bad form takes precedence over a limit, so the form of the steps is
+/// checked first.
 pub fn head_in(
     alloc: Global,
     version: Version,

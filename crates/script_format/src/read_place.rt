@@ -1,4 +1,4 @@
-//! Which flow of a script a step is about.
+//! The flow of a script that a step acts on.
 ghost use Rattle.std.specs.Prelude.{◌≡◌};
 ghost use Rattle.serde_json.specs.View.{view};
 ghost use Rattle.script_chain_format.specs.Results.{Gives};
@@ -19,7 +19,7 @@ fn is_named(flow: &NamedFlow, name: &str) -> bool
     }
 }
 
-/// Returns the place of the flow of that name.
+/// Returns the place of the flow with this name.
 fn place_named(flows: &[NamedFlow], name: &str) -> Option<usize>
     ensures { result ≡ checks.place_named name.now (heads_of flows.now) }
 {
@@ -31,7 +31,7 @@ fn place_named(flows: &[NamedFlow], name: &str) -> Option<usize>
     None
 }
 
-/// Returns the place of the flow that a step names. In version 1 a step names none: it is about the only one.
+/// Returns the place of the flow that a step names. In version 1 a step names none: it acts on the only flow.
 pub fn place_at(
     version: Version,
     flows: &[NamedFlow],

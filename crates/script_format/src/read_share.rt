@@ -1,4 +1,4 @@
-//! Reading the heads that share a chain.
+//! Reading the heads of flows into which a chain is shared.
 ghost use Rattle.std.specs.Prelude.{◌≡◌, map, option_map};
 ghost use Rattle.serde_json.specs.View.{view};
 ghost use Rattle.script_format.specs.Heads as heads;
@@ -26,7 +26,7 @@ fn started_named(text: &str) -> Option<Started>
     }
 }
 
-/// Returns the keys of a start while there are subscribers: `expire` is known from version 2 on.
+/// Returns the keys of a chain that runs while it has subscribers. Version 1 has no `expire`.
 fn started_keys(version: Version) -> &'static [&'static str]
     ensures { map (λ key. key.now) result.now ≡ heads.started_keys version }
 {
@@ -36,7 +36,7 @@ fn started_keys(version: Version) -> &'static [&'static str]
     }
 }
 
-/// How long after its stop a flow forgets what it replays. Without the key nothing is forgotten.
+/// Returns how long after the stop the replay cache expires. Without the key it never does.
 fn expire_at(started: &Value) -> Option<u64>
     ensures { result ≡ heads.expire_at (view started.now) }
 {
@@ -46,7 +46,7 @@ fn expire_at(started: &Value) -> Option<u64>
     }
 }
 
-/// Returns an object with the key `stop`.
+/// Returns the start of an object with the key `stop`: the chain runs while it has subscribers.
 fn while_subscribed(version: Version, started: &Value) -> Option<Started>
     ensures { result ≡ heads.while_subscribed version (view started.now) }
 {
@@ -58,7 +58,7 @@ fn while_subscribed(version: Version, started: &Value) -> Option<Started>
     Some(Started::WhileSubscribed { stop, expire })
 }
 
-/// Returns a word, or an object.
+/// Returns when a chain runs, by a word or by an object.
 fn started_of(version: Version, value: &Value) -> Option<Started>
     ensures { result ≡ heads.started_of version (view value.now) }
 {
@@ -82,7 +82,7 @@ struct SharedChain<'a> {
     limit: u64,
 }
 
-/// Returns what they have in common, if the flow has no keys beside these.
+/// Returns the chain, its start and the limit, if the flow has no keys except these.
 fn shared_chain<'a>(version: Version, keys: &[&str], flow: &'a Value) -> Option<SharedChain<'a>>
     ensures { option_map shared_parts_of result
         ≡ heads.shared_parts version (map (λ key. key.now) keys.now) (view flow.now) }
@@ -100,7 +100,7 @@ fn shared_chain<'a>(version: Version, keys: &[&str], flow: &'a Value) -> Option<
     })
 }
 
-/// Returns a chain that is shared, and how many values are replayed.
+/// Returns the shared chain, and how many values are replayed.
 fn share_parts(version: Version, flow: &Value) -> Option<(SharedChain<'_>, u32)>
     ensures { option_map parts_of result ≡ heads.share_parts version (view flow.now) }
 {
@@ -109,7 +109,7 @@ fn share_parts(version: Version, flow: &Value) -> Option<(SharedChain<'_>, u32)>
     Some((shared, replay))
 }
 
-/// Returns a chain that is shared by a shared flow.
+/// Returns the flow of a chain that is shared into a shared flow.
 pub fn share_in(alloc: Global, version: Version, flow: &Value) -> Result<ScriptFlow, ScriptFault>
     ensures { Gives (heads.share_in version (view flow.now)) (flow_result result) }
 {
@@ -125,7 +125,7 @@ pub fn share_in(alloc: Global, version: Version, flow: &Value) -> Result<ScriptF
     })
 }
 
-/// Returns a chain that is shared, and the first value.
+/// Returns the shared chain, and the first value.
 fn state_in_parts(version: Version, flow: &Value) -> Option<(SharedChain<'_>, i64)>
     ensures { option_map parts_of result ≡ heads.state_in_parts version (view flow.now) }
 {
@@ -134,7 +134,7 @@ fn state_in_parts(version: Version, flow: &Value) -> Option<(SharedChain<'_>, i6
     Some((shared, initial))
 }
 
-/// Returns a chain that is shared by a state flow.
+/// Returns the flow of a chain that is shared into a state flow.
 pub fn state_in(alloc: Global, version: Version, flow: &Value) -> Result<ScriptFlow, ScriptFault>
     ensures { Gives (heads.state_in version (view flow.now)) (flow_result result) }
 {

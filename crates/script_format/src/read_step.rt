@@ -20,7 +20,7 @@ use std::alloc::Global;
 
 const MOST_FIRST: usize = 10_000;
 
-/// Returns whether a subscription has first values of its own, which are known from version 2 on.
+/// Returns whether a step has first values for its subscriber. Version 1 has none.
 fn has_first(version: Version, step: &Value) -> bool
     ensures { result ≡ format.has_first version (view step.now) }
 {
@@ -30,7 +30,7 @@ fn has_first(version: Version, step: &Value) -> bool
     }
 }
 
-/// Returns what a step does, if it has no keys beside those that it needs.
+/// Returns what a step does, if it has no keys except those that it needs.
 fn verb_of(version: Version, step: &Value) -> Option<Verb>
     ensures { result ≡ format.verb_of version (view step.now) }
 {
@@ -43,7 +43,8 @@ fn verb_of(version: Version, step: &Value) -> Option<Verb>
     }
 }
 
-/// Returns the step on the flow at a place, where the names are those of the steps before it.
+/// Returns the step on the flow at a place. `names` has the names of the steps before it, and gains the one that it
+/// introduces.
 fn named_step<'a>(
     alloc: Global,
     names: &mut Names<'a>,
@@ -88,7 +89,7 @@ fn named_step<'a>(
     }
 }
 
-/// Returns a step on a flow, where the names are those of the steps before it.
+/// Returns a step on a flow. `names` has the names of the steps before it, and gains the one that it introduces.
 fn flow_step<'a>(
     alloc: Global,
     version: Version,
@@ -128,7 +129,7 @@ fn collected_in(
     }
 }
 
-/// Returns the step, where the names are those of the steps before it.
+/// Returns the step. `names` has the names of the steps before it, and gains the one that it introduces.
 pub fn step_of<'a>(
     alloc: Global,
     version: Version,

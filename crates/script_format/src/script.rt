@@ -3,31 +3,31 @@
 use flow_law::{Config, Started};
 use script_chain_format::Build;
 
-/// A step about a flow. A name is known by how many names of its kind were introduced before it for that flow:
-/// emissions and subscribers are counted apart.
+/// A step on a flow. An emission or a subscriber is given by its place: how many of its kind were introduced before it
+/// for that flow.
 #[derive(Clone, Copy)]
 pub enum FlowStep {
     TryEmit(i64),
-    /// It introduces an emission.
+    /// Introduces an emission.
     Emit(i64),
-    /// With the emission.
+    /// With the place of the emission.
     Poll(usize),
-    /// With the emission.
+    /// With the place of the emission.
     Cancel(usize),
-    /// It introduces a subscriber.
+    /// Introduces a subscriber.
     Subscribe,
-    /// With the subscriber.
+    /// With the place of the subscriber.
     Next(usize),
-    /// With the subscriber.
+    /// With the place of the subscriber.
     Unsubscribe(usize),
     Cache,
     Count,
     Reset,
     Value,
     Set(i64),
-    /// With the value that is expected, and the new one.
+    /// With the expected value, and the new one.
     CompareAndSet(i64, i64),
-    /// At a moment.
+    /// With the moment of the turn.
     Turn(u64),
 }
 
@@ -35,12 +35,12 @@ pub enum FlowStep {
 pub enum Step {
     /// With the place of the flow among those of the script.
     Flow(usize, FlowStep),
-    /// With the place of the flow, and the subscriber's own first values. It introduces a subscriber.
+    /// Introduces a subscriber, with the place of its flow and its own first values.
     SubscribeWith(usize, Vec<i64>),
     Collect(Build),
 }
 
-/// What a flow of a script is made of.
+/// What a flow of a script is made from.
 #[derive(Drop)]
 pub enum ScriptFlow {
     Shared(Config),
@@ -48,14 +48,14 @@ pub enum ScriptFlow {
         initial: i64,
         limit: u64,
     },
-    /// A chain that is shared (`shareIn`).
+    /// A chain that is shared into a shared flow (`shareIn`).
     Share {
         chain: Build,
         started: Started,
         replay: u32,
         limit: u64,
     },
-    /// A chain that is shared by a state flow (`stateIn`).
+    /// A chain that is shared into a state flow (`stateIn`).
     StateIn {
         chain: Build,
         started: Started,
@@ -64,15 +64,15 @@ pub enum ScriptFlow {
     },
 }
 
-/// A flow of a script. Where it has a name, its line tells that name if it is refused when it is made, and the script
-/// is played all the same; without one, that line is all that the script writes.
+/// A flow of a script. If it is refused when it is made, its line says why. With a name, the line begins with the name,
+/// and the script is played all the same; without a name, that line is all that the script writes.
 #[derive(Drop)]
 pub struct NamedFlow {
     pub name: Option<String>,
     pub flow: ScriptFlow,
 }
 
-/// A script that was checked. A flow of it may still be refused when it is made.
+/// A checked script. One of its flows may still be refused when it is made.
 #[derive(Drop)]
 pub struct Script {
     /// In the order in which they are made.

@@ -4,7 +4,7 @@ ghost use Rattle.script_format.specs.Format as format;
 
 use script_chain_format::Version;
 
-/// What kind of flow a step is about.
+/// The kind of flow that a step acts on.
 #[derive(Clone, Copy)]
 pub enum Kind {
     /// There is no flow.
@@ -23,7 +23,7 @@ pub enum FlowVerb {
     Poll,
     Cancel,
     Subscribe,
-    /// With first values of its own.
+    /// A subscription with first values of its own.
     SubscribeWith,
     Next,
     Unsubscribe,
@@ -43,7 +43,7 @@ pub enum Verb {
     Collect,
 }
 
-/// Returns a subscription, which may have first values of its own.
+/// Returns the subscription with or without first values of its own.
 fn subscription(has_first: bool) -> FlowVerb
     ensures { result ≡ format.subscription has_first }
 {
@@ -54,7 +54,7 @@ fn subscription(has_first: bool) -> FlowVerb
     }
 }
 
-/// Returns what a step does with the values of a flow, without a subscriber.
+/// Returns the verb that a text names, among those on the values of a flow.
 fn value_verb_named(text: &str) -> Option<Verb>
     ensures { result ≡ format.value_verb_named text.now }
 {
@@ -68,7 +68,7 @@ fn value_verb_named(text: &str) -> Option<Verb>
     }
 }
 
-/// Returns what a step does with the subscribers of a flow, or with its values.
+/// Returns the verb that a text names, among those on the subscribers or the values of a flow.
 fn subscriber_verb_named(text: &str, has_first: bool) -> Option<Verb>
     ensures { result ≡ format.subscriber_verb_named text.now has_first }
 {
@@ -81,7 +81,7 @@ fn subscriber_verb_named(text: &str, has_first: bool) -> Option<Verb>
     }
 }
 
-/// Returns what a step does, by the text of its key `do`, and whether it has first values of its own.
+/// Returns the verb for the text of the key `do`. `has_first` says whether the step has first values.
 pub fn verb_named(text: &str, has_first: bool) -> Option<Verb>
     ensures { result ≡ format.verb_named text.now has_first }
 {
@@ -97,7 +97,7 @@ pub fn verb_named(text: &str, has_first: bool) -> Option<Verb>
 }
 
 impl FlowVerb {
-    /// Returns the keys of such a step, first the one that names its flow.
+    /// Returns the keys of a step with this verb. The first key names the flow.
     fn keys(self) -> &'static [&'static str]
         ensures { map (λ key. key.now) result.now ≡ codes "flow" ∷ format.keys_of self }
     {
@@ -122,7 +122,7 @@ impl FlowVerb {
 }
 
 impl Verb {
-    /// Returns the keys of such a step. In version 1 a step does not name its flow.
+    /// Returns the keys of a step with this verb. In version 1 a step does not name its flow.
     pub fn keys(self, version: Version) -> &'static [&'static str]
         ensures { map (λ key. key.now) result.now ≡ format.keys_in version self }
     {
@@ -136,7 +136,7 @@ impl Verb {
     }
 }
 
-/// Returns all but the first.
+/// Returns all keys except the first.
 fn behind_first(keys: &'static [&'static str]) -> &'static [&'static str]
     ensures { map (λ key. key.now) result.now ≡ drop 1 (map (λ key. key.now) keys.now) }
 {
@@ -147,7 +147,7 @@ fn behind_first(keys: &'static [&'static str]) -> &'static [&'static str]
 }
 
 impl Kind {
-    /// Returns whether a flow of this kind has such a step.
+    /// Returns whether a flow of this kind allows a step with this verb.
     pub fn allows(self, verb: FlowVerb) -> bool
         ensures { result ≡ format.allows verb self }
     {
@@ -176,7 +176,7 @@ impl Kind {
         !matches!(self, Kind::Absent)
     }
 
-    /// Returns a flow into which the script emits.
+    /// Returns whether scripts emit into a flow of this kind.
     fn is_mutable(self) -> bool
         ensures { result ≡ format.is_mutable self }
     {
@@ -195,14 +195,14 @@ impl Kind {
         matches!(self, Kind::State)
     }
 
-    /// Returns a flow with one current value.
+    /// Returns whether a flow of this kind has one current value.
     fn has_value(self) -> bool
         ensures { result ≡ format.has_value self }
     {
         matches!(self, Kind::State | Kind::StateIn)
     }
 
-    /// A flow into which a chain is shared.
+    /// Returns whether a chain is shared into a flow of this kind.
     fn is_sharing(self) -> bool
         ensures { result ≡ format.is_sharing self }
     {

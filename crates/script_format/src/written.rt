@@ -13,13 +13,13 @@ use serde_json::Value;
 /// A step on a flow as it is written, with the name and the value that it has.
 #[derive(Clone, Copy)]
 pub enum Written<'a> {
-    /// It has no name.
+    /// A step without a name.
     Plain(FlowStep),
     Emit(&'a str, i64),
     Poll(&'a str),
     Cancel(&'a str),
     Subscribe(&'a str),
-    /// With first values of its own, which are whole numbers.
+    /// A subscription with first values of its own, which are whole numbers.
     SubscribeWith(&'a str, &'a [Value]),
     Next(&'a str),
     Unsubscribe(&'a str),
@@ -55,7 +55,7 @@ fn subscribe_with_of(step: &Value) -> Option<Written<'_>>
     Some(Written::SubscribeWith(name, values))
 }
 
-/// Returns what is expected, and what it is replaced by.
+/// Returns the expected value, and the value that replaces it.
 fn pair_of(step: &Value) -> Option<(i64, i64)>
     ensures { result ≡ checks.pair_of (view step.now) }
 {

@@ -1,4 +1,4 @@
-//! How large a count is.
+//! The size of a count.
 ghost use Rattle.std.specs.Prelude.{◌≡◌};
 ghost use Rattle.flow_program.specs.Counting.{count_size};
 

@@ -11,7 +11,7 @@ use std::snapshot::Snapshot;
 use std::sync::Wait;
 use std::thread::{Promise, PromisedHandle, Scope, Threads};
 
-/// A thread that emits returns its seat, through which it has sent `count` numbers, from `first` on.
+/// The promise of a thread that emits: it returns its seat, through which it has sent `count` numbers, from `first` on.
 #[derive(Drop)]
 pub struct EmitsAll {
     pub seat: Snapshot<Seat<u64>>,

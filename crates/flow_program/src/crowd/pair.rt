@@ -12,7 +12,7 @@ use std::sync::Wait;
 use std::thread;
 use std::thread::{Scope, Threads};
 
-/// Sends in a thread of its own, receives in this one, and lets both callers meet: a history of the flow then has all that
+/// Sends in another thread, receives in this one, and lets both callers meet: a history of the flow then has all that
 /// they did, and nothing else. Returns what was received, or `None` if memory or a thread was refused.
 fn hand_over<'s, E, R: Threads + Wait + Sync>(
     rt: &'s R,
@@ -70,7 +70,7 @@ fn through_new_flow<R: Threads + Wait + Sync>(rt: &R, alloc: Global, count: u64)
 /// Makes a shared flow with no replay and room for 16 values, whose emitter waits for the subscriber
 /// (`BufferOverflow.SUSPEND`). One thread sends the numbers from 1 to `count`, the other receives as many values.
 ///
-/// What was received is what was sent, in order, whatever the schedule was.
+/// What was received is what was sent, in order, for every schedule.
 ///
 /// # Errors
 /// `OutOfMemory` if there is no memory, or no thread can be made.

@@ -5,7 +5,7 @@ ghost use Rattle.flow_program.specs.Callers.{Reads};
 use flow_shared::Reader;
 use std::sync::Wait;
 
-/// Receives so many values into a list that is empty and has room for them.
+/// Receives `count` values into a list that is empty and has room for them.
 pub fn receive_all<R: Wait>(
     rt: &R,
     reader: &mut Reader<'_, u64>,

@@ -19,7 +19,7 @@ pub struct Ended<'a> {
     pub got: Vec<Vec<u64>>,
 }
 
-/// Returns room for so many callers, and for the lists of the subscribers among them. `None` if memory was refused.
+/// Returns room for this many callers, and for the lists of the subscribers. `None` if memory was refused.
 fn room_for<'a>(alloc: Global, emitters: usize, subscribers: usize) -> Option<Ended<'a>>
     ensures emitters { IfSome result
         (λ r. (r.emitters.items ≡ []) × (emitters ≤ vec_capacity r.emitters)) }

@@ -7,7 +7,7 @@ use flow_shared::Emitter;
 use std::sync::Wait;
 use std::thread;
 
-/// Sends a value. If it is refused, other threads go first, and it is sent again: the receiver makes room meanwhile.
+/// Sends a value. If it is refused, lets other threads run and sends it again: the receiver makes room meanwhile.
 fn send<R: Wait>(rt: &R, emitter: &mut Emitter<'_, u64>, value: u64)
     ensures flow { emitter.new.flow ≡ emitter.old.flow }
     ensures sent { Emits (value ∷ []) emitter.old.token.knows emitter.new.token.knows }

@@ -1,4 +1,4 @@
-//! How large a crowd is.
+//! The size of a crowd.
 ghost use Rattle.std.specs.Prelude.{◌≡◌, ◌*◌};
 ghost use Rattle.flow_program.specs.CrowdSizes.{crowd_size};
 
@@ -7,13 +7,13 @@ ghost use Rattle.flow_program.specs.CrowdSizes.{crowd_size};
 pub struct CrowdSize {
     pub emitters: u32,
     pub subscribers: u32,
-    /// Of each emitter.
+    /// How many values each emitter emits.
     pub values: u32,
 }
 
 impl CrowdSize {
-    /// A crowd of 1 to 8 emitters, of at most 8 subscribers, and of at most 10,000 values from each emitter. `None` where
-    /// a number is out of that range.
+    /// Returns the size of a crowd of 1 to 8 emitters, at most 8 subscribers, and at most 10,000 values from each
+    /// emitter, or `None` if a number is out of that range.
     pub fn new(emitters: u32, subscribers: u32, values: u32) -> Option<CrowdSize>
         ensures { result ≡ crowd_size emitters subscribers values }
     {
@@ -28,7 +28,7 @@ impl CrowdSize {
         }
     }
 
-    /// How many values all emitters emit together.
+    /// Returns how many values all emitters emit together.
     pub fn emitted(self) -> u64
         ensures { result ≡ self.emitters * self.values }
     {

@@ -12,7 +12,7 @@ use std::sync::Wait;
 use std::thread::{Promise, PromisedHandle, Scope, Threads};
 use std::vec::IntoIter;
 
-/// Subscribes so many times. `None` if memory was refused.
+/// Subscribes `count` times. `None` if memory was refused.
 pub fn subscribe_all<'a, R: Wait>(
     rt: &R,
     alloc: Global,
@@ -41,7 +41,8 @@ pub fn subscribe_all<'a, R: Wait>(
     Some(readers)
 }
 
-/// A thread that reads returns its subscription, which has received `count` values, and these.
+/// The promise of a thread that reads: it returns its subscription, which has received `count` values, and these
+/// values.
 #[derive(Drop)]
 pub struct ReadsAll {
     pub subscription: Snapshot<Subscription<u64>>,
@@ -84,9 +85,9 @@ fn read_all<R: Wait>(
     (reader.into_subscription(), got)
 }
 
-/// Starts a thread that receives `count` values into this list, and hands the readers back that have no thread yet. If no
-/// thread can be made they are dropped, and unsubscribe; the values are then received here, since the emitters wait for
-/// this subscriber, too.
+/// Starts a thread that receives `count` values into this list, and returns the readers that have no thread yet. If no
+/// thread can be made, these are dropped, and unsubscribe. The values are then received here, since the emitters also
+/// wait for this subscriber.
 fn start_subscriber<'s, E, R: Wait + Sync>(
     rt: &'s R,
     scope: &Scope<'s, E>,
@@ -122,8 +123,8 @@ fn start_subscriber<'s, E, R: Wait + Sync>(
     }
 }
 
-/// Starts a thread for each subscriber, which receives `count` values. `None` if memory or a thread was refused: then no
-/// subscriber is left without a thread.
+/// Starts a thread for each subscriber, which receives `count` values. `None` if memory or a thread was refused: then
+/// no subscriber is left without a thread.
 pub fn start_subscribers<'s, E, R: Wait + Sync>(
     rt: &'s R,
     alloc: Global,
@@ -150,8 +151,8 @@ pub fn start_subscribers<'s, E, R: Wait + Sync>(
     Some(threads)
 }
 
-/// Waits until all threads have ended, and adds their subscribers, and what each of them got, to two lists that are empty
-/// and have room for them.
+/// Waits until all threads have ended, and adds their subscribers, and what each of them got, to two lists that are
+/// empty and have room for them.
 pub fn join_subscribers<'a, R: Threads>(
     rt: &R,
     flow: &'a SharedFlow<u64>,

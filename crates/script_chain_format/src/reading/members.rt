@@ -1,4 +1,4 @@
-//! The members of a JSON object, each in the form that the format asks for.
+//! Looks up members of a JSON object by their keys, and checks their form.
 ghost use Rattle.std.specs.Prelude.{◌≡◌, ◌<◌, ◌^◌, ◌==◌, ◌&&◌, option_map, map};
 ghost use Rattle.std.specs.List.{list_any};
 ghost use Rattle.std.specs.Str.{bytes_eq};
@@ -8,15 +8,15 @@ ghost use Rattle.script_chain_format.specs.Members as members;
 
 use serde_json::{Map, Value};
 
-/// Returns the number of a key, if that is a whole number from 0 to 2^64 - 1. `None` where the value is no object,
-/// where it has no such key, and where that has another value; so it is for each function here that looks for a key.
+/// Returns the number under a key, if it is a whole number from 0 to 2^64 - 1. Like each function here that looks up a
+/// key, it returns `None` if the value is not an object, has no such key, or has another kind of value under it.
 pub fn u64_at(value: &Value, key: &str) -> Option<u64>
     ensures { result ≡ members.u64_at key.now (view value.now) }
 {
     value.get(key)?.as_u64()
 }
 
-/// Returns the number of a key, if that is a whole number from 0 to 2^32 - 1.
+/// Returns the number under a key, if it is a whole number from 0 to 2^32 - 1.
 pub fn u32_at(value: &Value, key: &str) -> Option<u32>
     ensures { result ≡ members.u32_at key.now (view value.now) }
 {
@@ -27,28 +27,28 @@ pub fn u32_at(value: &Value, key: &str) -> Option<u32>
     Some(number as u32)
 }
 
-/// Returns the number of a key, if that is a whole number from -2^63 to 2^63 - 1.
+/// Returns the number under a key, if it is a whole number from -2^63 to 2^63 - 1.
 pub fn i64_at(value: &Value, key: &str) -> Option<i64>
     ensures { result ≡ members.i64_at key.now (view value.now) }
 {
     value.get(key)?.as_i64()
 }
 
-/// Returns the text of a key.
+/// Returns the text under a key.
 pub fn text_at<'a>(value: &'a Value, key: &str) -> Option<&'a str>
     ensures { option_map (λ t. t.now) result ≡ members.text_at key.now (view value.now) }
 {
     value.get(key)?.as_str()
 }
 
-/// Returns whether this is one of the keys.
+/// Returns whether the name is one of the keys.
 fn is_among(name: &str, keys: &[&str]) -> bool
     ensures { result ≡ list_any (λ key. bytes_eq name.now key.now) keys.now }
 {
     keys.iter().any(|key| name == *key)
 }
 
-/// Returns whether each member has one of the keys.
+/// Returns whether the key of each member is one of the keys.
 fn are_among(object: &Map<String, Value>, keys: &[&str]) -> bool
     ensures { result ≡
         members.are_among (map (λ key. key.now) keys.now) (members_view object.now.entries) }
@@ -61,7 +61,7 @@ fn are_among(object: &Map<String, Value>, keys: &[&str]) -> bool
     true
 }
 
-/// Returns whether it is an object that has no keys except these.
+/// Returns whether the value is an object that has no keys except these.
 pub fn has_only(value: &Value, keys: &[&str]) -> bool
     ensures { result ≡ members.has_only (map (λ key. key.now) keys.now) (view value.now) }
 {
@@ -71,7 +71,7 @@ pub fn has_only(value: &Value, keys: &[&str]) -> bool
     }
 }
 
-/// Returns the value of the key, if the object has no other.
+/// Returns the value under the key, if the object has no other key.
 pub fn only_at<'a>(value: &'a Value, key: &str) -> Option<&'a Value>
     ensures { option_map (λ v. view v.now) result ≡ members.only_at key.now (view value.now) }
 {

@@ -1,4 +1,4 @@
-//! The versions of the script members.
+//! The versions of the script format.
 ghost use Rattle.std.specs.Prelude.{◌≡◌};
 ghost use Rattle.serde_json.specs.View.{view};
 ghost use Rattle.script_chain_format.specs.Members as members;
@@ -6,12 +6,12 @@ ghost use Rattle.script_chain_format.specs.Members as members;
 use crate::reading::members::u64_at;
 use serde_json::Value;
 
-/// The version of a script's members.
+/// A version of the script format.
 #[derive(Clone, Copy)]
 pub enum Version {
-    /// One flow without a name, or none.
+    /// Version 1: a script has one flow without a name, or none.
     One,
-    /// Several flows, each with a name.
+    /// Version 2: each flow of a script has a name.
     Two,
 }
 
@@ -27,8 +27,7 @@ fn version_numbered(number: u64) -> Option<Version>
     }
 }
 
-/// Returns the version that a script names by its key `version`. `None` where that is neither of the whole numbers 1
-/// and 2.
+/// Returns the version under a script's key `version`, or `None` if that is neither of the whole numbers 1 and 2.
 pub fn version_of(script: &Value) -> Option<Version>
     ensures { result ≡ members.version_of (view script.now) }
 {

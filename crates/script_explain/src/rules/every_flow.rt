@@ -1,5 +1,5 @@
-//! The rules that shared flows and state flows have in common. Each function returns one of the sentences that it is
-//! given, by the answer of a step, and an empty one if no step of this kind has such an answer.
+//! The rules that shared flows and state flows have in common. Each function returns a sentence, by the answer of a
+//! step, or an empty one if no step of this kind has this answer.
 
 use flow_law::{FlowFault, Next};
 use flow_script::Answer;
@@ -16,7 +16,7 @@ pub fn tested_rule(answer: &Answer, if_true: &'static str, if_false: &'static st
     }
 }
 
-/// Returns the rule by which a call is refused that would take a number when all are taken.
+/// Returns the rule of a call that is refused because all numbers are taken.
 pub fn exhausted_rule(fault: FlowFault) -> &'static str {
     match fault {
         FlowFault::Exhausted => {
@@ -26,7 +26,7 @@ pub fn exhausted_rule(fault: FlowFault) -> &'static str {
     }
 }
 
-/// Returns the rule of a subscription, by what a new subscriber gets.
+/// Returns the rule of a subscription. `gets` says what a new subscriber gets.
 pub fn subscribe_rule(answer: &Answer, gets: &'static str) -> &'static str {
     match answer {
         Answer::Subscribed => gets,
@@ -35,12 +35,12 @@ pub fn subscribe_rule(answer: &Answer, gets: &'static str) -> &'static str {
     }
 }
 
-/// Returns the rule of an `unsubscribe`, by what happens when a subscriber goes.
+/// Returns the rule of an `unsubscribe`. `gone` says what happens when a subscriber has unsubscribed.
 pub fn unsubscribe_rule(answer: &Answer, gone: &'static str) -> &'static str {
     tested_rule(answer, gone, NO_SUBSCRIBER)
 }
 
-/// Returns the rule of what a subscriber receives: of a value, or of none.
+/// Returns the rule of a `next`: that for a value, or that for none.
 pub fn next_rule(answer: &Answer, value: &'static str, empty: &'static str) -> &'static str {
     match answer {
         Answer::Received(Next::Value(_)) => value,
@@ -50,7 +50,7 @@ pub fn next_rule(answer: &Answer, value: &'static str, empty: &'static str) -> &
     }
 }
 
-/// Returns the rule of a number of subscribers.
+/// Returns the rule of a `count`.
 pub fn count_rule(answer: &Answer) -> &'static str {
     match answer {
         Answer::Counted(_) => "how many subscribers there are; at first there is none",

@@ -8,7 +8,7 @@ use serde_json::Value;
 
 const ROOM: &str = "taken: there is no subscriber, or room for every subscriber";
 
-/// Returns whether emitters wait where a flow is blocked.
+/// Returns whether emitters wait while a flow is blocked.
 fn suspends(flow: &Value) -> bool {
     !matches!(text_at(flow, "overflow"), "drop_oldest" | "drop_latest")
 }
@@ -18,7 +18,7 @@ fn replays(flow: &Value) -> bool {
     number_at(flow, "replay") > 0
 }
 
-/// Returns whether a flow keeps values for slow subscribers. That of a shared chain does.
+/// Returns whether a flow keeps values for slow subscribers. The flow of a shared chain always does.
 fn has_buffer(flow: &Value) -> bool {
     text_at(flow, "kind") == "share" || replays(flow) || number_at(flow, "extra") > 0
 }
@@ -43,7 +43,7 @@ fn blocked_rule(flow: &Value, buffered: &'static str, unbuffered: &'static str) 
     }
 }
 
-/// Returns the rule of what a flow says at once of a value.
+/// Returns the rule of a `try_emit`.
 fn try_emit_rule(flow: &Value, answer: &Answer) -> &'static str {
     match answer {
         Answer::Tested(true) => taken_rule(flow),
@@ -57,7 +57,7 @@ fn try_emit_rule(flow: &Value, answer: &Answer) -> &'static str {
     }
 }
 
-/// Returns the rule of a value whose emitter may wait.
+/// Returns the rule of an `emit`, whose emitter may wait.
 fn emit_rule(flow: &Value, answer: &Answer) -> &'static str {
     match answer {
         Answer::Queued => blocked_rule(
@@ -71,7 +71,7 @@ fn emit_rule(flow: &Value, answer: &Answer) -> &'static str {
     }
 }
 
-/// Returns the rule of whether an emission waits.
+/// Returns the rule of a `poll`: whether the emission waits.
 fn poll_rule(answer: &Answer) -> &'static str {
     match answer {
         Answer::Waits(true) => {
@@ -106,7 +106,7 @@ fn values_rule(flow: &Value, values: &[i64]) -> &'static str {
     }
 }
 
-/// Returns the rule of what is replayed, which a step asks for or empties.
+/// Returns the rule of a step that reads or resets the replay cache.
 fn cache_rule(flow: &Value, step: &str, answer: &Answer) -> &'static str {
     match (step, answer) {
         ("cache", Answer::Cached(values)) => values_rule(flow, values.as_slice()),
@@ -117,7 +117,7 @@ fn cache_rule(flow: &Value, step: &str, answer: &Answer) -> &'static str {
     }
 }
 
-/// Returns the rule by which a step on a shared flow has its answer. It is empty if the step has no such answer.
+/// Returns the rule by which a step on a shared flow has its answer. It is empty if the step cannot have this answer.
 pub fn shared_rule(flow: &Value, step: &Value, answer: &Answer) -> &'static str {
     match text_at(step, "do") {
         "try_emit" => try_emit_rule(flow, answer),

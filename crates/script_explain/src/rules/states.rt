@@ -6,7 +6,7 @@ use crate::rules::every_flow::{
 use flow_law::FlowFault;
 use flow_script::Answer;
 
-/// Returns the rule of what a step does with the value of a state flow.
+/// Returns the rule of a step on the value of a state flow.
 fn value_rule(step: &str, answer: &Answer) -> &'static str {
     match (step, answer) {
         ("set", Answer::Set) => {
@@ -23,7 +23,7 @@ fn value_rule(step: &str, answer: &Answer) -> &'static str {
     }
 }
 
-/// Returns the rule by which a step on a state flow has its answer. It is empty if the step has no such answer.
+/// Returns the rule by which a step on a state flow has its answer. It is empty if the step cannot have this answer.
 pub fn state_rule(step: &str, answer: &Answer) -> &'static str {
     match step {
         "try_emit" => tested_rule(

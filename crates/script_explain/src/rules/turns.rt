@@ -24,7 +24,7 @@ fn idle_rule(flow: &Value) -> &'static str {
     }
 }
 
-/// Returns the rule of what came of a turn that neither starts nor stops the chain.
+/// Returns the rule for the event of a turn that neither starts nor stops the chain.
 fn event_rule(flow: &Value, event: Event) -> &'static str {
     match event {
         Event::Put => "a turn puts one item at most: the next one went into the flow",
@@ -37,7 +37,7 @@ fn event_rule(flow: &Value, event: Event) -> &'static str {
     }
 }
 
-/// Returns the rule of a turn: that of its command, where that changes what runs, and else that of what came of it.
+/// Returns the rule of a turn: that of its command if it starts or stops the chain, otherwise that of its event.
 fn report_rule(flow: &Value, report: &Report) -> &'static str {
     match (report.command, report.event) {
         (Command::Start, _) => start_rule(flow),
@@ -62,7 +62,7 @@ fn refused_turn_rule(fault: &ShareFault) -> &'static str {
     }
 }
 
-/// Returns the rule by which a turn has its answer. It is empty if no turn has such an answer.
+/// Returns the rule by which a turn has its answer. It is empty if no turn has this answer.
 pub fn turn_rule(flow: &Value, answer: &Answer) -> &'static str {
     match answer {
         Answer::Turned(report) => report_rule(flow, report),
@@ -84,7 +84,7 @@ fn end_rule(end: &End) -> &'static str {
     }
 }
 
-/// Returns the rule by which a collection has its answer. It is empty if no collection has such an answer.
+/// Returns the rule by which a collection has its answer. It is empty if no collection has this answer.
 pub fn collect_rule(answer: &Answer) -> &'static str {
     match answer {
         Answer::Collected(_, end) => end_rule(end),

@@ -5,7 +5,7 @@ use Rattle.flow_script.specs.Said.{said_of}
 use Rattle.flow_script.specs.ScriptMeaning.{PlayedFlow, answers_from}
 use Rattle.flow_script.proofs.playing.play_steps.Given as goal
 
--- what was answered so far and what the rest will answer is all
+-- the answers so far and those of the rest are all answers
 abbrev pub invariant-loop-step : goal.invariant-loop-step
 invariant-loop-step l = (first : List (Option PlayedFlow)) → ShowsRow l.fn.row.items first →
     (row : List (Option PlayedFlow)) × ShowsRow l.row.items row

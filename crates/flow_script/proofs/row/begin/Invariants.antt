@@ -5,7 +5,7 @@ use Rattle.flow_script.specs.Said.{all_not_made}
 use Rattle.flow_script.specs.ScriptMeaning.{PlayedFlow, after_refusals, answers_of, script_from}
 use Rattle.flow_script.proofs.row.begin.Given as goal
 
--- the refusals so far and what the rest will answer is all
+-- the refusals so far and the answers of the rest are all answers
 abbrev pub invariant-loop-named : goal.invariant-loop-named
 invariant-loop-named l =
     (row : List (Option PlayedFlow)) × ShowsRow l.row.items row

@@ -6,7 +6,7 @@ use Rattle.script_chain_format.specs.ChainFormat.{Build, ops_on, operator_at, ch
 use Rattle.script_chain_format.specs.Chains.{build_result}
 use Rattle.script_chain_format.proofs.read_chain.+chain.Given as goal
 
--- what the operators so far make, and what the rest make of that
+-- the operators that are left make the chain from what the operators so far have made
 abbrev pub invariant-chain_at-loop-op : goal.invariant-chain_at-loop-op
 invariant-chain_at-loop-op l =
     (m : Result Build ScriptFault) × Gives m (build_result l.build)

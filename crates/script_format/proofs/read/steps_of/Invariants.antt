@@ -6,7 +6,7 @@ use Rattle.script_format.specs.Actions.{actions_of, heads_of}
 use Rattle.script_format.specs.Names.{row_of}
 use Rattle.script_format.proofs.read.steps_of.Given as goal
 
--- the steps so far and what the rest is are what all is
+-- the steps so far, followed by what is read of the rest, are what is read of all steps
 abbrev pub invariant-loop-index : goal.invariant-loop-index
 invariant-loop-index l =
     result_map (λ rest. actions_of l.checked.items ++ rest) (steps_of l.version (heads_of l.flows) (l.index + 1) (row_of l.names) (items_view (drop l.index l.steps)))

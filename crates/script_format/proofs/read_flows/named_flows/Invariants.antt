@@ -7,7 +7,7 @@ use Rattle.script_format.specs.Heads.{NamedHead}
 use Rattle.script_format.specs.HeadViews.{flows_result}
 use Rattle.script_format.proofs.read_flows.named_flows.Given as goal
 
--- what the flows so far are, and what the rest make of that
+-- the flows that are left make the whole from the flows so far
 abbrev pub invariant-loop-name : goal.invariant-loop-name
 invariant-loop-name l =
     (m : Result (List NamedHead) ScriptFault) × Gives m (flows_result l.flows)
