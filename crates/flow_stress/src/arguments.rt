@@ -1,30 +1,30 @@
-//! What the program's arguments say.
+//! The arguments of the program.
 
-/// How much the flows are to be put under.
+/// The seed of a run, and its numbers of threads and rounds.
 #[derive(Clone, Copy)]
 pub struct Size {
-    /// By which the calls are chosen.
+    /// The seed by which each thread chooses its calls.
     pub seed: u64,
     pub threads: u32,
-    /// Of each thread.
+    /// The number of rounds of each thread.
     pub rounds: u32,
 }
 
 /// The threads of a crowd, and how much they send.
 #[derive(Clone, Copy)]
 pub struct CrowdSize {
-    /// By which the threads yield, and choose their calls.
+    /// The seed by which each thread chooses its calls, and when it yields.
     pub seed: u64,
     pub emitters: u32,
     pub readers: u32,
-    /// For how many values the flow has room.
+    /// The number of values that the flow has room for.
     pub capacity: u32,
-    /// Of all emitters together.
+    /// The number of values that all emitters send together.
     pub values: u32,
 }
 
 impl CrowdSize {
-    /// Returns how many values the emitter of this number sends. All together send all.
+    /// Returns how many values the emitter of this number sends. All emitters together send `values`.
     pub fn share_of(self, number: u32) -> u32 {
         let each = self.values.checked_div(self.emitters).unwrap_or(0);
         let rest = self.values.checked_rem(self.emitters).unwrap_or(0);
@@ -32,18 +32,18 @@ impl CrowdSize {
     }
 }
 
-/// What threads do at a flow.
+/// The work of threads at a flow.
 #[derive(Clone, Copy)]
 pub enum Job {
-    /// Half of them emit into a shared flow, and half of them read from it.
+    /// Half of the threads emit into a shared flow, and half of them read from it.
     Share,
-    /// Each emits into a shared flow, and reads from it.
+    /// Each thread emits into a shared flow, and reads from it.
     Exchange,
-    /// Each adds to a state flow.
+    /// Each thread adds to a state flow.
     Add,
-    /// Some send all values through a shared flow, and others receive them.
+    /// Some threads send all values through a shared flow, and others receive them.
     Crowd(CrowdSize),
-    /// Each makes calls of any kind, which are recorded.
+    /// Each thread makes calls of any kind, which are recorded.
     Record,
 }
 
@@ -59,10 +59,10 @@ impl Job {
 
 pub const MOST_THREADS: u32 = 64;
 
-/// A shared flow has room for no more values.
+/// The most values that a shared flow can have room for.
 const MOST_ROOM: u32 = 65_536;
 
-/// Which flow is recorded.
+/// The kind of the flow whose calls are recorded.
 #[derive(Clone, Copy)]
 pub enum Kind {
     /// A state flow without a lock.
@@ -77,7 +77,7 @@ pub enum Kind {
     Rendezvous,
 }
 
-/// What the program is to do.
+/// The task of the program.
 #[derive(Clone, Copy)]
 pub enum Task {
     Stress(Size),
@@ -85,7 +85,7 @@ pub enum Task {
     Record(Kind, Size),
 }
 
-/// Reads a number between two others, or equal to one. Returns None if the word is no such.
+/// Reads a number from `least` to `most`. Returns None if the word is not one.
 fn number_in(word: &str, least: u32, most: u32) -> Option<u32> {
     let number = word.parse::<u32>().ok()?;
     if least <= number && number <= most {
@@ -95,7 +95,7 @@ fn number_in(word: &str, least: u32, most: u32) -> Option<u32> {
     }
 }
 
-/// Reads the seed, the number of threads, from 4 on, and that of their rounds. Returns None if the words are no such.
+/// Reads the seed, the number of threads (at least 4) and the number of rounds. Returns None for other words.
 fn size_of(words: &[String]) -> Option<Size> {
     let [seed, threads, rounds] = words else {
         return None;
@@ -107,7 +107,7 @@ fn size_of(words: &[String]) -> Option<Size> {
     })
 }
 
-/// Reads the size of a crowd. Returns None if the words are no such.
+/// Reads the size of a crowd. Returns None for other words.
 fn crowd_size_of(words: &[String]) -> Option<CrowdSize> {
     let [seed, emitters, readers, capacity, values] = words else {
         return None;
@@ -132,14 +132,14 @@ fn kind_of(word: &str) -> Option<Kind> {
     }
 }
 
-/// Reads which flow is to be recorded, and the size. Returns None if the words are no such.
+/// Reads the kind of the flow to record, and the size. Returns None for other words.
 fn record_of(words: &[String]) -> Option<Task> {
     let kind = kind_of(words.first()?.as_str())?;
     let size = size_of(words.get(1..)?)?;
     Some(Task::Record(kind, size))
 }
 
-/// Reads what the program is to do. Returns None if the words say no such.
+/// Reads the task of the program. Returns None for other words.
 pub fn task_of(words: &[String]) -> Option<Task> {
     let rest = words.get(1..)?;
     match words.first()?.as_str() {

@@ -1,4 +1,4 @@
-//! Threads at one flow, which begin once all of them are made.
+//! Threads that call one flow. They begin once all of them are made.
 use crate::arguments::{Job, Size};
 use crate::found::{Found, NOTHING};
 use crate::recording::{Answer, Call, Entry};
@@ -11,7 +11,7 @@ use std::thread;
 use std::thread::{JoinHandle, Scope, Threads, yield_now};
 use std::time::Clock;
 
-/// What one thread is to do, and what it has recorded. The dice choose its calls.
+/// The task of one thread, and the calls that it has recorded. The dice choose its calls.
 #[derive(Drop)]
 pub struct Turn {
     pub job: Job,
@@ -22,7 +22,7 @@ pub struct Turn {
     pub found: Found,
 }
 
-/// What the work of a thread takes.
+/// The runtime that the work of a thread needs.
 pub trait Host: Wait + Clock + RandomSource + AllocGlobal {}
 
 impl<H: Wait + Clock + RandomSource + AllocGlobal> Host for H {}
@@ -41,7 +41,7 @@ pub trait Caller: Send + Drop {
 
 /// A caller whose calls can be recorded.
 pub trait Recorded: Drop {
-    /// Returns the call that this number says. No other call emits the fresh value.
+    /// Returns the call that this number stands for. No other call emits the value `fresh`.
     fn choose(number: u32, fresh: u64) -> Call;
 
     fn is_subscribed(&self) -> bool;
@@ -50,7 +50,7 @@ pub trait Recorded: Drop {
     fn make<R: Wait + Clock>(&mut self, rt: &R, call: Call) -> Option<Answer>;
 }
 
-/// One thread's caller, and what it is to do.
+/// One thread's caller, and its task.
 #[derive(Drop)]
 pub struct Worker<C: Drop> {
     pub caller: C,
@@ -190,9 +190,9 @@ where
     turns_of(alloc, workers)
 }
 
-/// Lets each worker do its work in a thread of its own, and returns the turns of all workers then. All begin once all
-/// threads are made, and their callers are dropped once all have ended. Returns None if memory is refused, or a thread:
-/// then no worker begins.
+/// Runs each worker in a thread of its own, and returns the turns of all workers. The workers begin once all threads
+/// are made, and their callers are dropped once all threads have ended. Returns None if memory is refused, or if a
+/// thread is refused: then no worker begins.
 pub fn run_all<C, R>(rt: &R, alloc: Global, workers: Vec<Worker<C>>) -> Option<Vec<Turn>>
 where
     C: Caller,
@@ -208,7 +208,7 @@ where
     })
 }
 
-/// Returns what all threads found.
+/// Returns the sum of what all threads found.
 pub fn found_by_all(turns: &[Turn]) -> Found {
     let mut all = NOTHING;
     for turn in turns {

@@ -1,4 +1,4 @@
-//! Threads of a crowd: some send values, and others receive those of all. They sleep while there is no room, or no
+//! Threads of a crowd: some send values, and others receive all of them. They sleep while there is no room, or no
 //! value.
 use crate::arguments::CrowdSize;
 use crate::crew::Turn;
@@ -16,10 +16,10 @@ use std::time::{Clock, Duration};
 /// How long a call with a time limit waits, in microseconds.
 const LIMIT: u64 = 20;
 
-/// How long a pause takes, in microseconds. A thread that waits asks 32 times before it sleeps, which takes less.
+/// How long a pause takes, in microseconds. A waiting thread tries 32 times before it sleeps, which takes less.
 const PAUSE: u64 = 200;
 
-/// Lets other threads go first, now and then, or stops so long that those that wait fall asleep.
+/// Now and then yields, or pauses for so long that waiting threads fall asleep.
 fn pause_at_random<R: Wait + Clock>(rt: &R, dice: &mut Pcg32) {
     let word = dice.next_word();
     if word % 256 == 0 {
@@ -45,9 +45,9 @@ fn is_sent<R: Wait + Clock>(
     emitter.send(rt, value).is_ok()
 }
 
-/// Sends a value. If its time was up, or memory was refused, it is sent again: the readers make room meanwhile.
+/// Sends a value. Tries again after its time limit, or if memory is refused: the readers make room meanwhile.
 ///
-/// A flow without room gets no value with a time limit: some readers may have received a value that waits.
+/// Without a buffer it sends without a time limit: some readers may already have received a value that still waits.
 fn send<R: Wait + Clock>(
     rt: &R,
     emitter: &mut Emitter<'_, u64>,
@@ -79,7 +79,7 @@ fn send_all<R: Wait + Clock>(
     }
 }
 
-/// Receives a value, with a time limit or without one. Returns None if the time was up.
+/// Receives a value, with a time limit or without one. Returns None at the limit, or if memory is refused.
 fn received<R: Wait + Clock>(
     rt: &R,
     reader: &mut Reader<'_, u64>,
@@ -93,7 +93,7 @@ fn received<R: Wait + Clock>(
     reader.receive(rt).ok()
 }
 
-/// Receives the next value, now and then with a time limit at first.
+/// Receives the next value. Now and then a try has a time limit.
 fn receive<R: Wait + Clock>(rt: &R, reader: &mut Reader<'_, u64>, dice: &mut Pcg32) -> u64 {
     for _ in rt.forever() {
         pause_at_random(rt, dice);
@@ -105,7 +105,7 @@ fn receive<R: Wait + Clock>(rt: &R, reader: &mut Reader<'_, u64>, dice: &mut Pcg
     unreachable!()
 }
 
-/// Receives all values. Each value of each emitter has to come, in its order, and nothing else.
+/// Receives all values. Checks that it got all values of each emitter, in order, and nothing else.
 fn receive_all<R: Wait + Clock>(
     rt: &R,
     reader: &mut Reader<'_, u64>,
@@ -121,7 +121,7 @@ fn receive_all<R: Wait + Clock>(
     order.found
 }
 
-/// Receives all values, and leaves. Returns None if there is no subscription.
+/// Receives all values, and unsubscribes. Returns None if there is no subscription.
 fn receive_and_leave<R: Wait + Clock>(
     rt: &R,
     subscriber: &mut Subscriber<'_, SharedCore<u64>>,

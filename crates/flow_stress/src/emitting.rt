@@ -1,4 +1,4 @@
-//! A thread that emits into a shared flow that suspends, in each of the ways that there are.
+//! A thread that emits into a shared flow that suspends, by `emit` and by `try_emit`.
 use crate::crew::Turn;
 use crate::found::{Found, NOTHING};
 use crate::order::value_of;
@@ -24,7 +24,7 @@ fn is_done_in_time<R: Wait>(rt: &R, emission: BoundEmission<'_, u64>) -> bool {
     !was_waiting
 }
 
-/// Emits a value, and waits for room, for a while. Returns whether it was emitted, or None if memory is refused.
+/// Emits a value, and waits a while for room. Returns whether it was emitted, or None if memory is refused.
 fn emit<R: Wait>(rt: &R, emitter: &mut Emitter<'_, u64>, value: u64) -> Option<bool> {
     match emitter.another().emit(rt, value) {
         EmitAnswer::Done(_emitter) => Some(true),
@@ -33,8 +33,8 @@ fn emit<R: Wait>(rt: &R, emitter: &mut Emitter<'_, u64>, value: u64) -> Option<b
     }
 }
 
-/// Emits so many times, in either way, as the dice say. A value that was not emitted comes next. Returns None if memory
-/// is refused.
+/// Emits once in each round, by the call that the dice choose. Tries a value that was not emitted again in the next
+/// round. Returns None if memory is refused.
 pub fn emit_all<R: Wait>(rt: &R, emitter: &mut Emitter<'_, u64>, turn: &mut Turn) -> Option<Found> {
     let mut place = 0u64;
     for _ in 0..turn.rounds {

@@ -43,8 +43,8 @@ fn receive<R: Wait + RandomSource + AllocGlobal, S: Stream<Item = Result<u64, Ou
     }
 }
 
-/// Emits the values of this emitter, and receives one after each, which it must: its own, or another one. Returns None
-/// if memory is refused.
+/// Emits the values of this emitter, and receives a value after each, its own or another one. Checks that it received
+/// one each time. Returns None if memory is refused.
 fn exchange<R: Wait + RandomSource + AllocGlobal>(
     rt: &R,
     emitter: &mut Emitter<'_, u64>,
@@ -61,7 +61,7 @@ fn exchange<R: Wait + RandomSource + AllocGlobal>(
     Some(order.found)
 }
 
-/// Makes so many rounds, in each of which it must read a value. Returns None if memory is refused.
+/// Subscribes, and makes all rounds. Returns None if memory is refused.
 pub fn exchange_all<R: Wait + RandomSource + AllocGlobal>(
     rt: &R,
     emitter: &mut Emitter<'_, u64>,

@@ -1,4 +1,4 @@
-//! The flows, and what threads do at them.
+//! The flows, and the jobs of threads at them.
 use crate::arguments::{CrowdSize, Job, Kind, Size};
 use crate::crew::{Caller, Turn, found_by_all, run_all, workers};
 use crate::found::Found;
@@ -13,14 +13,14 @@ use std::sync::Wait;
 use std::thread::Threads;
 use std::time::Clock;
 
-/// What came of a job: what was found, and the turns of all threads.
+/// The outcome of a job: what was found, and the turns of all threads.
 #[derive(Drop)]
 pub struct Outcome {
     pub found: Found,
     pub turns: Vec<Turn>,
 }
 
-/// Looks at a flow that all threads have called, unless their calls were recorded. Returns None if memory is refused.
+/// Checks a flow that all threads have called, unless their calls were recorded. Returns None if memory is refused.
 fn outcome_of<C: Caller, R: Wait>(
     rt: &R,
     first: &mut C,
@@ -82,8 +82,7 @@ where
     run(rt, alloc, first, job, size)
 }
 
-/// Puts one flow after the other under the calls of half or a quarter of the threads. Returns None if memory or a thread
-/// is refused.
+/// Runs half or a quarter of the threads at one flow after another. Returns None if memory or a thread is refused.
 pub fn stress<R>(rt: &R, alloc: Global, size: Size) -> Option<Found>
 where
     R: Threads + Wait + Clock + RandomSource + AllocGlobal + Sync,

@@ -1,7 +1,6 @@
 //! What a thread found.
 
-/// How often something was wrong, how many values it has read of a shared flow, and how much it has added to a state
-/// flow.
+/// The numbers of failed checks and of values read from a shared flow, and the sum that was added to a state flow.
 #[derive(Clone, Copy)]
 pub struct Found {
     pub wrong: u64,
@@ -16,14 +15,14 @@ pub const NOTHING: Found = Found {
 };
 
 impl Found {
-    /// This has to hold.
+    /// Counts a failed check unless this holds.
     pub fn check(&mut self, holds: bool) {
         if !holds {
             self.wrong = self.wrong.saturating_add(1);
         }
     }
 
-    /// Returns what both found.
+    /// Returns the sum of both.
     pub fn plus(self, other: Found) -> Found {
         Found {
             wrong: self.wrong.saturating_add(other.wrong),

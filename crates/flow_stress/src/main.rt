@@ -1,4 +1,4 @@
-//! Puts flows under the calls of many threads, and tells whether all that must hold of every run held.
+//! Puts flows under the calls of many threads, and prints how many checks failed.
 //!
 //! ```text
 //! flow_stress SEED THREADS ROUNDS
@@ -6,34 +6,35 @@
 //! flow_stress --record KIND SEED THREADS ROUNDS
 //! ```
 //!
-//! The last prints a record of calls of threads to a flow, of a kind of `arguments.rt`, which `flow_judge` reads. All
-//! threads begin once all of them are made.
+//! The last form prints a record of the calls of threads to a flow, which `flow_judge` reads. `arguments.rt` has the
+//! kinds of flows. All threads begin once all of them are made.
 //!
 //! # Calls of every kind
-//! One flow after the other is put under the calls of threads, which make their rounds as the seed says:
-//! - a shared flow that suspends (replay 2, room for 4 more). A quarter of the threads emits, polls and cancels; as many
-//!   subscribe, read by `next` and `try_next`, and leave. Each must receive of each emitter every value after the first
-//!   that came, in order, none twice;
-//! - a shared flow that drops the oldest. A quarter of the threads emits by a `SendFuture`, and then receives from a
-//!   stream: of each emitter rising values, none twice, and a value each time;
-//! - a state flow without a lock. A quarter of the threads adds 1, by an update or by a `compare_and_set` from what it
-//!   read, subscribes, reads twice and leaves: the value must never fall, and must rise where the thread added;
-//! - a state flow behind a gate. A quarter of the threads does the same by `compare_and_set`: the value must never fall.
+//! Threads call one flow after another. They make their rounds of calls, which the seed chooses:
+//! - a shared flow that suspends (replay 2, room for 4 more). A quarter of the threads emit, poll and cancel; as many
+//!   subscribe, read by `next` and `try_next`, and unsubscribe. A subscription must receive, of each emitter, every
+//!   value that follows the first one it received, in order, none twice;
+//! - a shared flow that drops the oldest. A quarter of the threads emit by a `SendFuture`, and then receive from a
+//!   stream. Each must receive a value each time, and rising values of each emitter, none twice;
+//! - a state flow without a lock. A quarter of the threads add 1, by an update or by a `compare_and_set` from the value
+//!   that they read, subscribe, read twice and unsubscribe. The value must never fall, and an update must raise it;
+//! - a state flow behind a gate. A quarter of the threads do the same by `compare_and_set`. The value must never fall.
 //!
-//! At the end no subscriber is left, each reader has read something, and both state flows have as much as all threads
-//! added.
+//! At the end no subscriber must be left, each reader must have read a value, and each state flow must have the sum of
+//! what all threads added.
 //!
 //! # A crowd
-//! Threads send so many values in all through one shared flow that suspends, and others receive them. They sleep while
-//! there is no room, or nothing to receive, and yield now and then, as the seed says; a few calls have a time limit, and
-//! are made again when it is up. Each reader must receive all values, each emitter's in its order, none twice, and
-//! nothing after them; then it leaves. If a sleeper is not woken, the program does not end.
+//! Some threads send VALUES values in all through one shared flow that suspends, and others receive them. They sleep
+//! while there is no room, or nothing to receive, and yield now and then, as the seed chooses; a few calls have a time
+//! limit, and are made again after it. Each reader must receive all values, each emitter's in its order, none twice,
+//! and nothing after them; then it unsubscribes. If a sleeper is not woken, the program does not end.
 //!
 //! # What is proved
-//! Two parts, for every schedule. If callers only update a state flow without a lock, no update is lost (`run_count` of
-//! flow_program). If threads only emit into a flow that suspends, and others receive as many values as all of these emit,
-//! each of them receives all values, each emitter's in its order (`run_crowd` of flow_program). Here each thread does
-//! other things, too, and all is tested; so is that a sleeper is woken.
+//! Two facts are proved for every schedule. If callers only update a state flow without a lock, no update is lost
+//! (`run_count` of flow_program). If threads only emit into a flow that suspends, and each of some others receives as
+//! many values as all of these emit, each of them receives all values, each emitter's in its order (`run_crowd` of
+//! flow_program). The threads of this program make other calls, too, so all that they do is only tested, and so is that
+//! a sleeper is woken.
 #![tactic(auto)]
 
 mod arguments;
@@ -75,7 +76,7 @@ fn status_of(found: Found) -> u8 {
     if found.wrong == 0 { 0 } else { WRONG }
 }
 
-/// Prints what was found, and answers the status.
+/// Prints what was found, and returns the status.
 fn tell(rt: &HostRuntime, size: Size, found: Option<Found>) -> io::Result<u8> {
     let Size {
         seed,
@@ -90,7 +91,7 @@ fn tell(rt: &HostRuntime, size: Size, found: Option<Found>) -> io::Result<u8> {
     Ok(status_of(found))
 }
 
-/// Prints what was found of a crowd, and answers the status.
+/// Prints what was found of a crowd, and returns the status.
 fn tell_crowd(rt: &HostRuntime, size: CrowdSize, found: Option<Found>) -> io::Result<u8> {
     let CrowdSize {
         seed,
@@ -128,7 +129,7 @@ fn tell_usage(rt: &HostRuntime) -> io::Result<u8> {
     Ok(REFUSED)
 }
 
-/// Prints a record of calls of all threads, and answers the status.
+/// Prints a record of the calls of all threads, and returns the status.
 fn tell_record<R: Threads + Wait + Clock + RandomSource + AllocGlobal + Sync>(
     rt: &HostRuntime,
     threads: &R,
@@ -144,7 +145,7 @@ fn tell_record<R: Threads + Wait + Clock + RandomSource + AllocGlobal + Sync>(
     Ok(0)
 }
 
-/// Does what was asked. The threads are those of `threads`.
+/// Does the task, with threads of `threads`.
 fn do_task<R: Threads + Wait + Clock + RandomSource + AllocGlobal + Sync>(
     rt: &HostRuntime,
     threads: &R,

@@ -1,29 +1,29 @@
-//! Whether what a subscriber gets is in order: of each emitter as that emitted it, and nothing twice; and of a value
-//! that never falls.
+//! Checks the order of the values that a subscriber receives: those of each emitter in the order of its emissions, none
+//! twice, and those of a state that never falls.
 use crate::arguments::MOST_THREADS;
 use crate::found::{Found, NOTHING};
 
-/// More than there are threads.
+/// A number greater than the number of threads.
 const EMITTERS: u64 = 100;
 
-/// Returns the value that the emitter of this number emits at this place, from 0. No other one is the same.
+/// Returns the value that the emitter of this number emits at this place, counted from 0. All these values differ.
 pub fn value_of(number: u32, place: u64) -> u64 {
     place.wrapping_mul(EMITTERS).wrapping_add(u64::from(number))
 }
 
-/// Which values of each emitter a subscriber is to get.
+/// The values of each emitter that a subscriber must receive.
 #[derive(Clone, Copy)]
 pub enum Gets {
-    /// Each one after the one before.
+    /// Any of them, in order, none twice.
     Rising,
-    /// Each one that follows the first that came.
+    /// Every value after the first one that it received.
     Following,
-    /// All.
+    /// All of them.
     All,
 }
 
 impl Gets {
-    /// Returns whether the value at this place may come after the one at the place before.
+    /// Returns whether the value at `place` may follow the one at `before`, or may be the first.
     fn allows(self, before: Option<u64>, place: u64) -> bool {
         let Some(before) = before else {
             return place == 0 || !matches!(self, Gets::All);
@@ -35,7 +35,7 @@ impl Gets {
     }
 }
 
-/// What a subscriber keeps of what it got: the place of the last value of each emitter, and what was wrong.
+/// The place of the last value that a subscriber received of each emitter, and what was wrong.
 #[derive(Clone, Copy)]
 pub struct Order {
     last: [Option<u64>; MOST_THREADS as usize],
@@ -44,7 +44,7 @@ pub struct Order {
 }
 
 impl Order {
-    /// Nothing came yet.
+    /// Returns the order of a subscriber that has received nothing yet.
     pub fn new(gets: Gets) -> Order {
         Order {
             last: [None; MOST_THREADS as usize],
@@ -53,7 +53,7 @@ impl Order {
         }
     }
 
-    /// The value came.
+    /// Adds a value that the subscriber received, and checks it.
     pub fn add(&mut self, value: u64) {
         let place = value / EMITTERS;
         let gets = self.gets;
@@ -66,7 +66,7 @@ impl Order {
     }
 }
 
-/// Returns whether this is what a new subscriber receives of a value that never falls: first one that is no less than
+/// Returns whether a new subscriber may receive these values of a state that never falls: a first one that is at least
 /// `last`, and then a greater one, or none.
 pub fn are_in_order(last: u64, first: Option<u64>, second: Option<u64>) -> bool {
     match (first, second) {

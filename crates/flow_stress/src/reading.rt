@@ -1,4 +1,4 @@
-//! A thread that reads from a shared flow, leaves, and subscribes again, again and again.
+//! A thread that subscribes to a shared flow, reads and unsubscribes, again and again.
 use crate::crew::Turn;
 use crate::found::{Found, NOTHING};
 use crate::order::{Gets, Order};
@@ -13,11 +13,11 @@ use std::thread::yield_now;
 /// How many calls of `next` a subscription makes.
 const CALLS: u32 = 64;
 
-/// How many further subscriptions a reader without a value makes at most.
+/// The most further subscriptions that a reader without a value makes.
 const LATE: u32 = 20_000;
 
-/// Takes the next value without waiting. There is none if another caller is inside the flow. Returns None if memory is
-/// refused, or if there is no subscription.
+/// Takes the next value without waiting; there is none while another caller is inside the flow. Returns None if memory
+/// is refused, or if there is no subscription.
 fn try_next(subscriber: &mut Subscriber<'_, SharedCore<u64>>) -> Option<Option<u64>> {
     let Some(reader) = &mut subscriber.reader else {
         return None;
@@ -29,7 +29,7 @@ fn try_next(subscriber: &mut Subscriber<'_, SharedCore<u64>>) -> Option<Option<u
     }
 }
 
-/// Reads, as the dice say. Returns None if memory is refused.
+/// Reads by the calls that the dice choose. Returns None if memory is refused.
 fn read<R: Wait>(
     rt: &R,
     subscriber: &mut Subscriber<'_, SharedCore<u64>>,
@@ -50,7 +50,7 @@ fn read<R: Wait>(
     Some(order.found)
 }
 
-/// Subscribes, reads and leaves. Returns None if memory is refused.
+/// Subscribes, reads and unsubscribes. Returns None if memory is refused.
 fn read_once<R: Wait>(
     rt: &R,
     subscriber: &mut Subscriber<'_, SharedCore<u64>>,
@@ -62,8 +62,8 @@ fn read_once<R: Wait>(
     Some(found)
 }
 
-/// Makes so many calls, by one subscription after another, and further ones until it has read a value: the flow replays
-/// what was emitted. Returns None if memory is refused.
+/// Makes the calls of all rounds, by one subscription after another. Subscribes again until it has read a value, since
+/// the flow replays what was emitted. Returns None if memory is refused.
 pub fn read_all<R: Wait>(
     rt: &R,
     subscriber: &mut Subscriber<'_, SharedCore<u64>>,

@@ -1,4 +1,4 @@
-//! Records what threads call of a flow.
+//! Records the calls of threads to a flow.
 use crate::arguments::Kind;
 use crate::crew::{Recorded, Turn};
 use crate::found::{Found, NOTHING};
@@ -59,7 +59,7 @@ pub fn record_all<C: Recorded, R: Wait + Clock>(
     Some(NOTHING)
 }
 
-/// Returns the record's text of a flow of this kind.
+/// Returns the text for a flow of this kind in a record.
 fn words_of(kind: Kind) -> &'static str {
     match kind {
         Kind::Word | Kind::State => "\"kind\": \"state\", \"initial\": 0",
@@ -74,7 +74,7 @@ fn words_of(kind: Kind) -> &'static str {
     }
 }
 
-/// Writes the first line of a record, which says what flow of this kind is called.
+/// Writes the first line of a record, which describes the flow that is called.
 pub fn write_flow<W: Write>(out: &mut W, kind: Kind) -> io::Result<()> {
     writeln!(out, "{{\"flow\": {{{}}}}}", words_of(kind))
 }

@@ -1,5 +1,4 @@
-//! Calls of a flow with the moments of their beginning and of their end, as a record has them
-//! (docs/RECORDS.md).
+//! Calls of a flow with the moments at which they began and ended, in the form of a record (docs/RECORDS.md).
 use std::io::{self, Write};
 
 /// A call of a flow.
@@ -7,7 +6,7 @@ use std::io::{self, Write};
 pub enum Call {
     Value,
     Set(u64),
-    /// With the expected value and the new one.
+    /// The expected value, and the new one.
     CompareAndSet(u64, u64),
     /// Replaces the value by the one after it.
     Update,
@@ -21,7 +20,7 @@ pub enum Call {
     ResetReplayCache,
 }
 
-/// What a call was answered.
+/// The answer to a call.
 #[derive(Clone, Copy)]
 pub enum Answer {
     Done,
@@ -30,7 +29,7 @@ pub enum Answer {
     Truth(bool),
     Empty,
     Number(u64),
-    /// With the old value and the new one.
+    /// The old value, and the new one.
     Exchange(u64, u64),
     /// A replay cache of one value.
     Cache(u64),
@@ -46,7 +45,7 @@ pub struct Entry {
     pub end: u64,
 }
 
-/// Values of a state flow are few, so that exchanges often find the value that they expect.
+/// The number of values of a state flow. It is small, so that exchanges often find the value that they expect.
 const VALUES: u64 = 3;
 
 /// Returns the value that an update puts in place of this one.
@@ -54,7 +53,7 @@ pub fn value_after(value: u64) -> u64 {
     value.wrapping_add(1) % VALUES
 }
 
-/// Returns the call of a state flow that a number says.
+/// Returns the call of a state flow that a number stands for.
 pub fn call_of_state(number: u32) -> Call {
     let rest = u64::from(number / 10);
     let value = rest % VALUES;
@@ -89,7 +88,7 @@ impl Call {
 }
 
 impl Answer {
-    /// Returns the answer that the next value is.
+    /// Returns the answer for what `next` returned.
     pub fn of(next: Option<u64>) -> Answer {
         match next {
             Some(value) => Answer::Value(value),

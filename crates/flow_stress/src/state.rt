@@ -23,7 +23,7 @@ fn try_add<R: Wait>(rt: &R, setter: &mut Setter<'_, u64>) -> Option<(u64, u64)> 
     Some((value, u64::from(is_set)))
 }
 
-/// Subscribes, reads twice, and leaves. Returns whether the values are in order, or None if memory is refused.
+/// Subscribes, reads twice, and unsubscribes. Returns whether the values are in order, or None if memory is refused.
 fn reads_in_order<R: Wait>(
     rt: &R,
     subscriber: &mut Subscriber<'_, StateCore<u64>>,
@@ -36,7 +36,7 @@ fn reads_in_order<R: Wait>(
     Some(are_in_order(last, first, second))
 }
 
-/// Makes its rounds of calls, as the dice say. The value must never fall. Returns None if memory is refused.
+/// Makes rounds of calls that the dice choose. The value must never fall. Returns None if memory is refused.
 fn add_all<R: Wait>(
     rt: &R,
     subscriber: &mut Subscriber<'_, StateCore<u64>>,

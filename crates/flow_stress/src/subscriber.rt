@@ -25,7 +25,7 @@ impl<'a, S: FlowCore + Drop> Subscriber<'a, S> {
         Subscriber::new(self.caller.another())
     }
 
-    /// Returns another caller of the same flow, which has subscribed. Returns None if memory is refused.
+    /// Returns another caller of the same flow, with a subscription. Returns None if memory is refused.
     pub fn another_reader<R: Wait>(&mut self, rt: &R) -> Option<Subscriber<'a, S>> {
         let mut made = self.another_caller();
         made.subscribe(rt)?;
@@ -55,7 +55,7 @@ impl<'a, S: FlowCore + Drop> Subscriber<'a, S> {
 }
 
 impl<S: FlowCore<Item = u64> + Drop> Subscriber<'_, S> {
-    /// Subscribes, reads, leaves or counts. Returns None for another call.
+    /// Subscribes, reads, unsubscribes or counts. Returns None for another call.
     pub fn make_of_subscriber<R: Wait>(&mut self, rt: &R, call: Call) -> Option<Answer> {
         match call {
             Call::Subscribe => {

@@ -40,7 +40,7 @@ fn try_add(setter: &mut WordSetter<'_, u64>) -> (u64, u64) {
     (value, u64::from(is_set))
 }
 
-/// Subscribes, reads twice, and leaves. Returns whether the values are in order.
+/// Subscribes, reads twice, and unsubscribes. Returns whether the values are in order.
 fn reads_in_order<R: Wait>(rt: &R, setter: &mut WordSetter<'_, u64>, last: u64) -> bool {
     let Ok(mut reader) = setter.subscribe(rt) else {
         return false;
@@ -51,7 +51,7 @@ fn reads_in_order<R: Wait>(rt: &R, setter: &mut WordSetter<'_, u64>, last: u64) 
     are_in_order(last, first, second)
 }
 
-/// Makes its rounds of calls, as the dice say. The value must never fall, and must have risen where 1 was added to it.
+/// Makes rounds of calls that the dice choose. The value must never fall, and an update must raise it.
 fn add_all<R: Wait>(rt: &R, setter: &mut WordSetter<'_, u64>, turn: &mut Turn) -> Found {
     let mut last = 0;
     let mut found = NOTHING;

@@ -1,4 +1,4 @@
--- The memory inside, as what passes its calls on has it: the arguments of such a function, and its `&self`. Assumes `Logic`.
+-- The inner allocator of `Refusing`: the arguments of a function that passes a call on to it, and its `&self`. Assumes `Logic`.
 use Rattle.std.proofs.Common.{[], ◌∷◌}
 use Rattle.std.proofs.alloc.Calls.{Al}
 use mir.Syntax.{Args, a_type, dnil, dcons}

@@ -1,4 +1,4 @@
--- `refuses` at a call: what it is handed, and what its caller has of it. Assumes `Logic`.
+-- A call of `refuses`: what it takes from its caller, and what it gives back. Assumes `Logic`.
 use Rattle.std.proofs.Common.{◌≡◌, ℕ, List, [], ◌∷◌, refl, ap}
 use mathlib.Core.Bool.{Bool}
 use seplogic.Ra.Ura.{Ura}
@@ -19,7 +19,7 @@ use denote.Triple.Spec.{triple_of}
 use Rattle.std.specs.contracts.sync.atomic.AtomicU64 as AtomicU64
 use Rattle.flow_testing.specs.contracts.memory.refuses as refuses
 
--- what is left, as memory has it
+-- the counter of what is left, as it is in memory
 abbrev Left : RattleType
 Left = AtomicU64.the_row
 
@@ -40,7 +40,7 @@ module _ {M : Type 1} {𝓤 : Ura M} (𝓛 : Logic 𝓤) (at_mem : Memory → SP
       feq_i ! (List Val) (vptr p.0 p.1 ∷ []) (vptr p.0 p.1 ∷ []) refl $ fjoin ! $
       nothing ! $ move ! (1 ∷ []) $ fjoin ! $ nothing ! $ move ! (2 ∷ []) $ join ! $ join ! $ nothing ! $ move ! (1 ∷ []) $ done !
 
-  -- some answer, and the lifetime's token again
+  -- the call gives a boolean, and returns the lifetime's token
   pub refuses_gives : (v : Val) → ent 𝓤 ((Refuses 𝓛 at_mem run).post (at_refuses 𝓛 at_mem run κ q p) v)
       (H.⇛ (ex 𝓤 (λ (r : Bool). guard 𝓤 (v ≡ vbool r) (A.lft κ q))))
   refuses_gives v =

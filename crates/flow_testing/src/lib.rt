@@ -1,5 +1,5 @@
-//! What the tests of several crates share: a value that holds more than what it means, memory that is refused, and a
-//! place where threads begin at once.
+//! Parts that the tests of several crates share: a value that refuses a copy, an allocator that refuses an allocation,
+//! and a barrier for threads.
 #![tactic(auto)]
 
 mod limited;

@@ -1,4 +1,4 @@
-//! A value of which one copy is refused.
+//! A value that refuses one of its copies.
 ghost use Rattle.std.specs.Prelude.{◌≡◌};
 ghost use Rattle.std.specs.Ordering.{int_eq};
 ghost use Rattle.flow_law.specs.Values.{whole_exact};
@@ -7,7 +7,7 @@ use flow_law::{FlowFault, FlowValue};
 use std::cell::Cell;
 use std::marker::Model;
 
-/// A number that counts its copies. Two of them are the same value where their numbers are, whatever they count.
+/// A number that counts its copies. Two values are the same if their numbers are equal, whatever their counts.
 #[derive(Drop)]
 pub struct CopyLimited<'a> {
     number: i64,
@@ -22,7 +22,7 @@ impl<'a> Model for CopyLimited<'a> {
     ghost view = { λ value. value.number };
 }
 
-/// Returns whether this one is refused.
+/// Counts a copy. Returns whether it is refused.
 fn refuses(copies: &Cell<u64>) -> bool {
     let left = copies.get();
     if left > 0 {
@@ -32,14 +32,15 @@ fn refuses(copies: &Cell<u64>) -> bool {
 }
 
 impl<'a> CopyLimited<'a> {
-    /// The copy that takes `copies` from 1 to 0 is refused, and no later one is. With 0 none is refused.
+    /// Returns a value of this number. The copy that takes `copies` from 1 to 0 is refused, and no later one. With 0
+    /// none is refused.
     pub fn new(number: i64, copies: &'a Cell<u64>) -> CopyLimited<'a>
         ensures { result ≡ number }
     {
         CopyLimited { number, copies }
     }
 
-    /// Returns what the value means.
+    /// Returns the number.
     pub fn number(&self) -> i64
         ensures { result ≡ self.now }
     {

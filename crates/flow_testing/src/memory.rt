@@ -1,17 +1,16 @@
-//! Memory of which one allocation is refused.
+//! An allocator that refuses one allocation.
 use std::alloc::{AllocError, Allocator};
 use std::sync::atomic::{AtomicU64, Ordering};
 
-/// Memory that passes each call on, and refuses one allocation. A `&` to it is an allocator, for one thread or several.
-///
-/// Where a list grows, that is an allocation, too.
+/// An allocator that refuses one allocation, and passes all other calls to another allocator. A `&` to it is an
+/// allocator, too, for one thread or several. The growth of a list counts as an allocation.
 pub struct Refusing<B: Allocator> {
     inner: B,
     left: AtomicU64,
 }
 
 impl<B: Allocator> Refusing<B> {
-    /// Memory that refuses nothing yet.
+    /// Returns an allocator that refuses nothing yet.
     pub fn new(inner: B) -> Refusing<B> {
         Refusing {
             inner,
@@ -19,12 +18,12 @@ impl<B: Allocator> Refusing<B> {
         }
     }
 
-    /// The allocation of this number is refused, from 1 on, and no other one. With 0 none of the next 2^63 is.
+    /// Refuses the allocation of this number, counted from 1 from now on, and no other; with 0, none of the next 2^63.
     pub fn refuse(&self, number: u64) {
         self.left.store(number, Ordering::SeqCst);
     }
 
-    /// Returns whether the refusal is still to come.
+    /// Returns whether an allocation will still be refused.
     pub fn is_waiting(&self) -> bool {
         let left = self.left.load(Ordering::SeqCst);
         left > 0 && left <= u64::MAX / 2
@@ -37,7 +36,7 @@ impl<B: Allocator> Drop for Refusing<B> {
     }
 }
 
-/// Returns whether this one is refused.
+/// Counts an allocation. Returns whether it is refused.
 fn refuses(left: &AtomicU64) -> bool {
     left.fetch_sub(1, Ordering::SeqCst) == 1
 }

@@ -2,7 +2,7 @@
 use std::sync::atomic::{AtomicBool, AtomicU64, Ordering};
 use std::thread::yield_now;
 
-/// How often a waiting thread looks for the others. It yields after each look, so this takes some seconds at least.
+/// How often a waiting thread checks for the others. It yields after each check, so this takes some seconds at least.
 const LOOKS: u32 = 20_000_000;
 
 /// A barrier for threads, with a bound on the wait.
@@ -36,7 +36,7 @@ impl Start {
         self.is_late.store(true, Ordering::SeqCst);
     }
 
-    /// Returns whether all threads came before any of them gave up.
+    /// Returns whether all threads arrived before any of them gave up.
     pub fn is_kept(&self) -> bool {
         let came = self.came.load(Ordering::SeqCst);
         came == self.threads && !self.is_late.load(Ordering::SeqCst)

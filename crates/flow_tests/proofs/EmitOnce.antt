@@ -1,4 +1,4 @@
--- From what a whole run of an emit future gives to how often its seat has emitted.
+-- How often a seat has emitted after a whole run of its emit future.
 use Rattle.std.proofs.Common.{◌≡◌, ℕ, ◌+◌, inl, inr, true, false, List, [], ◌∷◌, ◌∙◌}
 use Rattle.flow_law.specs.declared.outcome.Emit.TheVariants.{Done, Queued}
 use Rattle.flow_law.specs.declared.call.SharedCall.TheVariants as call

@@ -1,4 +1,4 @@
--- From the laws of flows to what a caller concludes to whom a flow was lent.
+-- What a caller that borrows a flow can conclude, from the laws of flows.
 use Rattle.std.proofs.Common.{inl, inr, ◌⊎◌, Result, Ok, ◌≡◌, ◌≢◌, ℕ, ◌+◌, ◌≤◌, List, [], ◌∷◌, ◌++◌, length, drop, Option, Some, None, refl, sym, ap, ◌∙◌, subst}
 use Rattle.std.specs.List.{slice_get}
 use Rattle.std.specs.Option.{option_map_or}
@@ -42,7 +42,7 @@ use Rattle.flow_word.specs.Tokens.{Token, Origin}
 use Rattle.flow_tests.specs.LentFlows.{HasAll, ReadsInOrder, beside_after, IsNewest}
 
 module _ {T : Type 0} (u : ℕ) where
-  -- u is there and has nothing to receive, and nothing changes
+  -- u is a subscriber that has nothing to receive, and the state does not change
   abbrev HasNone : SharedFlowState T → SharedFlowState T → Type 0
   HasNone s new = (p : ℕ) × (position_of u s.subscribers ≡ Some p) × (own_of u s.subscribers ≡ []) × (drop p (values s) ≡ []) × (new ≡ s)
 
@@ -67,7 +67,7 @@ module _ {T : Type 0} (u : ℕ) where
       from [] none is = found none (position_of u s.subscribers) refl is
       from (v ∷ own) some is = absurd (cc)
 
-  -- to whom Empty was replied has all
+  -- a subscriber that got the reply Empty has received all
   pub has_all : (first : SharedFlowState T) (before later : Knowledge (Said (SharedCall T) (SharedReply T))) → AddsOne (IsHistory shared_flow first) before (call.TakeNext u) (reply.Received Empty) later
       → Delivers u first.config later.seen → HasAll u first.config later.seen
   has_all first before later a d = record {
@@ -105,7 +105,7 @@ module _ {T : Type 0} (u : ℕ) where
       all : received u later.seen ≡ taken u first.config later.seen ++ (own u first.config later.seen ++ box u first.config later.seen)
       all = sym d.replies ∙ sym (append-nil (taken u first.config later.seen)) ∙ ap (λ l. taken u first.config later.seen ++ l) (λ i. sym none_own i ++ sym none_left i)
 
--- the same, as the contracts of `next` and `seen_by_subscription` say it
+-- `has_all` in the words of the contracts of `next` and `seen_by_subscription`
 pub has_all_now : {T : Type 0} (flow : gated.Origin (SharedFlowState T)) (old : SharedNumbered T) (answer : Result (Next T) FlowFault) (next now : SharedNumbered T) → Nexts shared_flow flow old answer next → next.number ≡ old.number → now ≡ next
     → ((u : ℕ) → Delivers u flow.first.config now.token.knows.seen) → answer ≡ Ok Empty → HasAll now.number flow.first.config now.token.knows.seen
 has_all_now {T} flow old answer next now called number same delivers empty =
@@ -115,7 +115,7 @@ has_all_now {T} flow old answer next now called number same delivers empty =
     (has_all old.number flow.first old.token.knows next.token.knows answered.1 (subst (λ (h : History T). Delivers old.number flow.first.config h) seen (delivers old.number)))
 
 module _ {A : Type 0} where
-  -- the beginning of a list with some elements left out is one
+  -- the beginning of a subsequence is a subsequence
   beginning_of : (xs ys zs : List A) → IsSubsequence (xs ++ ys) zs → IsSubsequence xs zs
   beginning_of [] ys zs is = tt
   beginning_of (x ∷ xs) ys [] is = absurd is
@@ -124,7 +124,7 @@ module _ {A : Type 0} where
     | inr rest ↦ inr (beginning_of (x ∷ xs) ys zs rest)
   ]
 
--- a subscriber that is there has read in order
+-- what a subscriber has received is in order
 pub reads_in_order : {T : Type 0} (u : ℕ) (config : Config) (h : History T) → Lags u config h → ReadsInOrder u config h
 reads_in_order u config h lags = record {
   in_order = beginning_of _ (box u config h) _ lags.in_order;
@@ -140,7 +140,7 @@ module _ {T : Type 0} (u : ℕ) where
   last_agrees m [] e agrees = agrees.0
   last_agrees m (x ∷ xs) e agrees = last_agrees (follows u m x.what.call x.what.reply) xs e agrees.1
 
--- who reads the current value has the newest one
+-- a caller that reads the current value gets the newest one
 pub is_newest : {T : Type 0} (first : StateFlowState T) (before after : Knowledge (Said (StateCall T) (StateReply T))) (v : T) → AddsOne (IsStateHistory first) before GetValue (Got v) after
     → Conflates first.value after.seen → IsNewest first.value after.seen v
 is_newest {T} first before after v a conflates = λ u unreached reached.
@@ -148,7 +148,7 @@ is_newest {T} first before after v a conflates = λ u unreached reached.
     let agrees = subst (AgreeAll u m) a.grows.1 (conflates u unreached reached) in
     ap (λ (z : StateHistory T). cache (beside_after u m z).shared) a.grows.1 ∙ ap (λ (z : Beside T). cache z.shared) (after_last u m h e) ∙ last_agrees u m h e agrees
 
--- the same, as the contracts of `value` and `seen` say it
+-- `is_newest` in the words of the contracts of `value` and `seen`
 pub is_newest_now : {T : Type 0} (flow : Origin T) (old next now : Token T) (v : T) → CallsAtOnceIn state_flow flow.first old GetValue (Got v) next → now ≡ next → Conflates flow.first.value now.knows.seen
     → IsNewest flow.first.value now.knows.seen v
 is_newest_now {T} flow old next now v called same conflates = let seen = ap (λ (t : Token T). t.knows.seen) same in

@@ -1,4 +1,4 @@
--- From the contracts of `set` and `value` to what a caller reads back.
+-- What a caller reads back, from the contracts of `set` and `value`.
 use Rattle.std.proofs.Common.{◌≡◌, Bool, true, false, List, [], ◌∷◌, ◌++◌, Result, Ok, Err, IfOk, refl, sym, ap, ◌∙◌, subst, append_assoc}
 use Rattle.flow_law.specs.declared.fault.FlowFault.{FlowFault}
 use Rattle.flow_law.specs.declared.history.HistoryEvent.{HistoryEvent}

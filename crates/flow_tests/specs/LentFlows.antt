@@ -1,4 +1,4 @@
--- What a caller to whom a flow was lent concludes by the laws of flows.
+-- What a caller that borrows a flow can conclude from the laws of flows.
 use Rattle.std.specs.Prelude.{◌≡◌, ◌≢◌, ℕ, ◌+◌, ◌<◌, List, [], ◌∷◌, ◌++◌, length, drop}
 use Rattle.flow_law.specs.declared.config.Config.{Config}
 use Rattle.flow_law.specs.declared.config.Overflow.TheVariants.{DropOldest}
@@ -11,25 +11,25 @@ use Rattle.flow_law.specs.Waiting.{from_flow}
 use Rattle.flow_law.specs.Conflation.{Beside, beside, follows}
 
 module _ {T : Type 0} where
-  -- The subscriber has received all that was delivered to it. Of a flow that has a buffer and does not drop the oldest, those
-  -- are its own first values and then each value that was emitted since it came.
+  -- The subscriber has received all that was delivered to it. If the flow has a buffer and does not drop the oldest, it has
+  -- received its own first values, and then each value from the position at which it entered.
   pub record HasAll (u : ℕ) (config : Config) (h : History T) : Type 0 where
     pub delivered : received u h ≡ delivered u config h
     pub emitted : config.overflow ≢ DropOldest → 0 < capacity (state_after config h)
         → received u h ≡ (began u config h).first ++ drop (began u config h).entry (values (state_after config h))
 
-  -- What the subscriber received of the flow's values so far was emitted since it entered: nothing comes twice, and nothing
-  -- out of order. If the flow has a buffer and does not drop the oldest, the subscriber has missed nothing.
+  -- The values that the subscriber has received from the flow are values from the position at which it entered, in order, none
+  -- twice. If the flow has a buffer and does not drop the oldest, the subscriber has missed none so far.
   pub record ReadsInOrder (u : ℕ) (config : Config) (h : History T) : Type 0 where
     pub in_order : IsSubsequence (from_flow u (first_state config) h) (emitted_since_entry u config h)
     pub whole : config.overflow ≢ DropOldest → 0 < config.replay + config.extra
         → (rest : List T) × (emitted_since_entry u config h ≡ from_flow u (first_state config) h ++ rest)
 
-  -- the shared flow beside a state flow, after a history of it
+  -- the shared flow that follows a state flow, after this history of the state flow
   abbrev pub beside_after : ℕ → Beside T → StateHistory T → Beside T
   beside_after u m [] = m
   beside_after u m (e ∷ es) = beside_after u (follows u m e.what.call e.what.reply) es
 
-  -- a shared flow that keeps the newest value, and into which all was emitted that was set, has this value in its cache
+  -- a shared flow that keeps only the newest value, and emits each value that was set, has just this value in its replay cache
   abbrev pub IsNewest : T → StateHistory T → T → Type 0
   IsNewest first h v = (u unreached : ℕ) → length h < unreached → cache (beside_after u (beside unreached first) h).shared ≡ v ∷ []

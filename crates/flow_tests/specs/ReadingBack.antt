@@ -1,4 +1,4 @@
--- What a caller of a state flow learns that sets a value and then reads the current one.
+-- What a caller of a state flow knows after it has set a value and then read the current one.
 use Rattle.std.specs.Prelude.{◌≡◌, true, List, [], ◌∷◌, ◌++◌}
 use Rattle.flow_law.specs.declared.history.Knowledge.{Knowledge}
 use Rattle.flow_law.specs.declared.history.Said.{Said}
@@ -11,20 +11,20 @@ use Rattle.flow_law.specs.OneHistory.{said}
 use Rattle.flow_law.specs.StateFlow.{StateHistory}
 
 module _ {T : Type 0} where
-  -- the value that a call leaves
+  -- the value after a call, where v is the value before
   abbrev pub value_by : T → StateCall T → StateReply T → T
   value_by v (Set x) r = x
   value_by v (TryEmit x) r = x
   value_by v (CompareAndSet a b) (Answered true) = b
   value_by v _ _ = v
 
-  -- the value that was set last, where v was there before
+  -- the value after a history, where v is the value before
   abbrev pub value_after : T → StateHistory T → T
   value_after v [] = v
   value_after v (e ∷ es) = value_after (value_by v e.what.call e.what.reply) es
 
-  -- The history has grown by events of others, the caller's `set`, events of others and its reading. What it read is what
-  -- it set, or what others set after it.
+  -- The history has grown by events of other callers, the caller's `set`, events of other callers, and the caller's `value`.
+  -- The value that it read is the one that it set, or the last one that other callers set after that.
   pub record ReadsBack (before : Knowledge (Said (StateCall T) (StateReply T))) (value found : T) (after : Knowledge (Said (StateCall T) (StateReply T))) : Type 0 where
     pub earlier : StateHistory T
     pub between : StateHistory T

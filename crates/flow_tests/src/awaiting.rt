@@ -1,4 +1,4 @@
-//! A caller that waits for a flow by a future.
+//! A caller that waits for an emission by a future.
 ghost use Rattle.std.specs.Prelude.{◌≡◌, IfOk};
 ghost use Rattle.flow_shared.specs.EmitFutures.{EmitsOne, sent_token};
 
@@ -12,7 +12,7 @@ use std::sync::Wait;
 
 /// Emits a value, and waits until the emission is done.
 ///
-/// However often the future was polled, the seat has made one `emit` more.
+/// The seat has then made one more `emit`, however often the future was polled.
 pub fn send<R: Wait + RandomSource + AllocGlobal, T: FlowValue>(
     rt: &R,
     flow: &SharedFlow<T>,

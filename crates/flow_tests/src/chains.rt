@@ -1,5 +1,4 @@
-//! Callers of cold chains: one that is proved from a list to what was collected, and tests of worked examples, of how
-//! often a chain is asked, and of chains as streams.
+//! Callers of cold chains with contracts, and tests of chains: worked examples, counts of asks, and chains as streams.
 mod asks;
 mod callers;
 mod gives;

@@ -1,8 +1,8 @@
-//! What a call answered, beside what it is to answer.
+//! Compares what a call returned with what it should return.
 use std::fmt::Debug;
 use std::process::Abort;
 
-/// The answer of the call at this place is the one that is wanted.
+/// Ends the test unless the call at this place returned the answer that is wanted.
 pub fn compare<T: PartialEq + Debug + Drop>(rt: &impl Abort, place: usize, answer: T, wanted: T) {
     assert_eq!(rt; answer, wanted, "call {place}");
 }

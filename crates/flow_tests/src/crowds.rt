@@ -3,7 +3,7 @@ use crate::compare::compare;
 use flow_program::{CrowdSize, run_crowd, run_pair};
 use std::process::Abort;
 
-/// Emitters, subscribers, values of each emitter, and what each subscriber is to get.
+/// The numbers of emitters, of subscribers, of values of each emitter, and of values that each subscriber must get.
 static CROWDS: &[(u32, u32, u32, u64)] = &[
     (1, 1, 50, 50),
     (2, 2, 50, 100),
@@ -13,7 +13,8 @@ static CROWDS: &[(u32, u32, u32, u64)] = &[
     (3, 2, 0, 0),
 ];
 
-/// Whether the numbers from `first` to before `end` are there, one after the other, whatever is between them.
+/// Returns whether the values contain each number from `first` to the one before `end` once, in order. Other numbers
+/// may be between them.
 fn is_in_order(values: &[u64], first: u64, end: u64) -> bool {
     let mut next = first;
     for value in values {
@@ -27,7 +28,7 @@ fn is_in_order(values: &[u64], first: u64, end: u64) -> bool {
     next == end
 }
 
-/// Each emitter's values came, in its order.
+/// Checks that all values of each emitter were received, in order.
 fn check_order(rt: &impl Abort, place: usize, got: &[u64], size: CrowdSize) {
     let mut first = 0u64;
     for _ in 0..size.emitters {
@@ -37,7 +38,7 @@ fn check_order(rt: &impl Abort, place: usize, got: &[u64], size: CrowdSize) {
     }
 }
 
-/// Each list has so many values, those of each emitter in its order.
+/// Checks that each list has `count` values, and those of each emitter in order.
 fn check_lists(rt: &impl Abort, place: usize, lists: &[Vec<u64>], size: CrowdSize, count: u64) {
     for list in lists {
         compare(rt, place, list.len() as u64, count);

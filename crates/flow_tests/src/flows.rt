@@ -1,4 +1,4 @@
-//! New flows of whole numbers and new readers of them, none of which is refused, and what is in their caches.
+//! New flows of whole numbers, new readers of them, and their replay caches. A test ends if one of them is refused.
 ghost use Rattle.std.specs.Prelude.{◌≡◌};
 
 use crate::compare::compare;
@@ -9,14 +9,14 @@ use std::alloc::{Allocator, Global};
 use std::process::Abort;
 use std::sync::Wait;
 
-/// Makes a shared flow, and its first seat.
+/// Returns a new shared flow and its first seat.
 pub fn new_flow(rt: &impl Abort, alloc: Global, config: Config) -> (SharedFlow<i64>, Seat<i64>)
     ensures { result.1.table_id ≡ result.0.table_id }
 {
     SharedFlow::new(alloc, config).expect(rt, "a flow")
 }
 
-/// Makes a state flow that begins with this value and issues at most so many numbers, and its first seat.
+/// Returns a new state flow that begins with this value and issues at most this many numbers, and its first seat.
 pub fn new_state_flow(
     rt: &impl Abort,
     alloc: Global,
@@ -28,7 +28,7 @@ pub fn new_state_flow(
     StateFlow::new(alloc, value, limit).expect(rt, "a flow")
 }
 
-/// Makes a word state that begins with this value and issues at most so many numbers, and its first seat.
+/// Returns a new word state that begins with this value and issues at most this many numbers, and its first seat.
 pub fn new_word_state(
     rt: &impl Abort,
     alloc: Global,
@@ -51,7 +51,7 @@ pub fn new_reader<'a, R: Wait + Abort, A: Allocator + Copy>(
     emitter.subscribe(rt).expect(rt, "a reader")
 }
 
-/// Subscribes to a state.
+/// Subscribes to a state flow.
 pub fn new_state_reader<'a, R: Wait + Abort, A: Allocator + Copy>(
     rt: &R,
     setter: &mut Setter<'a, i64, A>,
@@ -70,7 +70,7 @@ pub fn new_word_reader<'a, R: Wait + Abort>(
     setter.subscribe(rt).expect(rt, "a reader")
 }
 
-/// Compares the cache that a caller reads.
+/// Compares the replay cache that a caller reads.
 pub fn reads_cache<R: Wait + Abort>(
     rt: &R,
     flow: &SharedFlow<i64>,

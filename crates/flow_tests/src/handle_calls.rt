@@ -1,4 +1,4 @@
-//! Calls on handles of shared flows by tests that compare what is answered, and use no clause of the contracts.
+//! Calls on handles of shared flows without contracts, for tests that only compare what is returned.
 use flow_law::{Exhausted, NumberError, OutOfMemory, Rejected};
 use flow_shared::{Emitter, Reader};
 use std::sync::Wait;
@@ -13,7 +13,7 @@ pub fn receive<R: Wait>(rt: &R, reader: &mut Reader<'_, i64>) -> Result<i64, Out
     reader.receive(rt)
 }
 
-/// Emits a value if it need not wait for room. Returns whether the flow took it.
+/// Emits a value unless it would have to wait for room. Returns whether the flow took it.
 pub fn try_emit<R: Wait>(
     rt: &R,
     emitter: &mut Emitter<'_, i64>,

@@ -1,4 +1,4 @@
-//! Tests of handles: of each call that it answers what the flow's own call answers. The values come from kotlinx.coroutines'
+//! Tests of handles: each call returns what the flow's own call returns. The values are from kotlinx.coroutines'
 //! documentation.
 mod answers;
 mod dropping;

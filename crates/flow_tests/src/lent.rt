@@ -1,4 +1,4 @@
-//! Callers to whom a flow was lent: they know nothing of who made it and of what other threads do, and rely on its laws.
+//! Callers that borrow a flow. They know nothing of its maker or of other threads, and rely on its laws.
 ghost use Rattle.std.specs.Prelude.{◌≡◌, Ok};
 ghost use Rattle.flow_law.specs.declared.outcome.Next.TheVariants.{Empty};
 ghost use Rattle.flow_law.specs.Laws.{NoIdleQueue};
@@ -10,7 +10,7 @@ use flow_shared::{Seat, SharedFlow, Subscription};
 use flow_word::{WordSeat, WordState};
 use std::sync::Wait;
 
-/// Emits a value if it need not wait: no value waits in the queue then, unless the flow is blocked.
+/// Emits a value unless it would have to wait. After the call no value waits in the queue, unless the flow is blocked.
 pub fn emit_one<R: Wait, T: FlowValue>(
     rt: &R,
     flow: &SharedFlow<T>,
@@ -26,9 +26,9 @@ pub fn emit_one<R: Wait, T: FlowValue>(
     taken
 }
 
-/// Receives the next value: what the subscriber received so far was emitted since it subscribed, in order; with a buffer,
-/// unless the flow drops the oldest, nothing is left out. If there is no next value, the subscriber has received all that
-/// was delivered to it.
+/// Receives the next value. The values of the flow that the subscriber has received so far are from the position at
+/// which it entered on, in order; with a buffer, unless the flow drops the oldest, none is missed. If there is no next
+/// value, the subscriber has received all that was delivered to it.
 pub fn next_in_order<R: Wait, T: FlowValue>(
     rt: &R,
     flow: &SharedFlow<T>,
@@ -46,7 +46,7 @@ pub fn next_in_order<R: Wait, T: FlowValue>(
     next
 }
 
-/// Reads the current value: it is the newest of those that were set in what the seat has seen.
+/// Returns the current value, which is the newest one in the history that the seat has seen.
 pub fn read_newest<T: Packed>(flow: &WordState<T>, seat: &mut WordSeat<T>) -> T
     requires { seat.old.table_id ≡ flow.now.table_id }
     ensures table { seat.new.table_id ≡ flow.now.table_id }

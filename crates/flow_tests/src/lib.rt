@@ -1,12 +1,13 @@
-//! Tests of flows, of cold chains, of sharings, of the checker and of the program, and callers of flows of which something is
-//! proved. What each call answers is proved, for every schedule; here the values come from kotlinx.coroutines' documentation.
+//! Tests of flows, of cold chains, of sharings, of the checker and of the program, and callers of flows with contracts.
+//! What each call replies is proved, for every schedule; the tests compare it with values from kotlinx.coroutines'
+//! documentation.
 //!
-//! The tests with threads look at the rest: that calls succeed, that callers wait no longer than they have to, and what
-//! comes of several threads that do more than `run_count`, `run_crowd` and `run_pair`, for which it is proved.
+//! The tests with threads check what is not proved: that calls succeed, that callers wait no longer than they have to,
+//! and the results of threads that do more than `run_count`, `run_crowd` and `run_pair`, whose results are proved.
 //!
-//! A worked example is a list of calls, each with what it is to answer. Another module makes the calls. All tests are in
-//! this crate: each crate of tests is linked, and proves anew how the values of flows are dropped. `word` is no
-//! `cfg(test)`: `./wrong_bodies` tries an edit of its `celsius.rt`, and proves only what the library has.
+//! A worked example is a list of calls, each with what it must return. Another module makes the calls. All tests are in
+//! this crate, since each crate of tests is linked, and proves anew how the values of flows are dropped. `word` is not
+//! under `cfg(test)`, since `./wrong_bodies` tries an edit of its `celsius.rt`, and proves only what is in the library.
 #![tactic(auto)]
 
 #[cfg(test)]

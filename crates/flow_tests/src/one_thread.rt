@@ -1,5 +1,5 @@
-//! Tests of flows for one thread, and of values that own memory. The values come from kotlinx.coroutines' documentation of
-//! `MutableSharedFlow`, `BufferOverflow` and `MutableStateFlow`.
+//! Tests of flows for one thread, and of values that own memory. What calls must return is from kotlinx.coroutines'
+//! documentation of `MutableSharedFlow`, `BufferOverflow` and `MutableStateFlow`.
 mod drains;
 mod held;
 mod hints;

@@ -1,6 +1,6 @@
-//! Worked examples are played with the first allocation refused, then with the second one, until a run has none that is.
-//! A step that is refused is taken again. Whatever is refused, the answers are those of the documentation; and where memory
-//! refuses nothing no step is refused.
+//! Plays worked examples with the first allocation refused, then with the second one, until nothing is refused in a
+//! run. A refused step is taken again. Whichever allocation is refused, the answers are those of the documentation;
+//! without a refused allocation no step is refused.
 
 mod on_flows;
 mod on_shared_flows;

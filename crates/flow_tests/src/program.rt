@@ -1,6 +1,6 @@
-//! Whole runs of the program over memory: readers and writers that give or take little, or fail. The cases of `cases/` at the
-//! top of the repository, arguments, texts that are no script, and scripts at each limit and above it are played by the program
-//! as it was built (`.ci/cases`, `.ci/hostile`).
+//! Whole runs of the program on readers and writers in memory, which give or take little, or fail. `.ci/cases` and
+//! `.ci/hostile` run the built program on the cases of `cases/`, on arguments, on texts that are no script, and on
+//! scripts at each limit and above it.
 use flow_program::run;
 use flow_script::Watched;
 use std::alloc::AllocGlobal;
@@ -14,12 +14,12 @@ mod played;
 mod streams;
 mod vectors;
 
-/// What a run of the program takes, and a test that fails.
+/// The runtime that a run of the program needs, and a failing test.
 pub trait Host: Abort + Threads + Wait + Sync + AllocGlobal {}
 
 impl<H: Abort + Threads + Wait + Sync + AllocGlobal> Host for H {}
 
-/// Runs the program on what a reader gives, and compares the status and what was printed.
+/// Runs the program on the bytes of a reader, and compares the status and what was printed.
 pub fn expect<H: Host, R: Read + Drop>(rt: &H, name: &str, script: R, status: u8, lines: &[u8]) {
     let mut printed = Vec::new(rt.alloc());
     let mut input = Watched::new(script);
@@ -29,7 +29,7 @@ pub fn expect<H: Host, R: Read + Drop>(rt: &H, name: &str, script: R, status: u8
     assert_eq!(rt; answered, status, "the status of {name}");
 }
 
-/// What was printed is what is wanted.
+/// Compares what was printed with what is wanted.
 pub fn compare<H: Host>(rt: &H, name: &str, printed: &[u8], wanted: &[u8]) {
     let printed = str::from_utf8(printed).unwrap_or("no UTF-8");
     let wanted = str::from_utf8(wanted).unwrap_or("no UTF-8");

@@ -1,4 +1,4 @@
-//! A caller who sets a value and reads the current one.
+//! A caller that sets a value and reads the current one.
 ghost use Rattle.std.specs.Prelude.{◌≡◌, IfOk};
 ghost use Rattle.flow_tests.specs.ReadingBack.{ReadsBack};
 
@@ -6,9 +6,9 @@ use flow_law::{FlowFault, FlowValue};
 use flow_shared::{StateFlow, StateSeat};
 use std::sync::Wait;
 
-/// Sets a value and reads the current one: that is the value, or one that another caller set after it.
+/// Sets a value and returns the current one: the value itself, or one that another caller set after it.
 ///
-/// It follows from the contracts of `set` and `value` alone, whatever other threads do.
+/// This follows from the contracts of `set` and `value` only, whatever other threads do.
 pub fn set_and_read<R: Wait, T: FlowValue>(
     rt: &R,
     flow: &StateFlow<T>,

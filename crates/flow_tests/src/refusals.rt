@@ -1,6 +1,5 @@
-//! Out of memory: worked examples whose every call is made again where it is refused. They are run with the first
-//! allocation refused, with the second one, and so on, until a run has none that is. Whatever is refused, the replies are
-//! those of the documentation.
+//! Out of memory: worked examples that make a refused call again. They run with the first allocation refused, with the
+//! second one, and so on, until nothing is refused in a run. The replies are always those of the documentation.
 
 mod awaiting;
 mod chains;

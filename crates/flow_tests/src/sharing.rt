@@ -1,8 +1,8 @@
-//! Tests of sharings. The answers are those of the rules of `SharingStarted`, of `shareIn` (a buffer of 64 values at
-//! least) and of `stateIn`.
+//! Tests of sharings. The answers follow the rules of `SharingStarted`, of `shareIn` (a buffer of at least 64 values)
+//! and of `stateIn`.
 //!
-//! A worked example is a list of steps, each with what it is to answer. Another module takes the steps. The cases of
-//! `cases/share.toml` play such examples over flows for one thread.
+//! A worked example is a list of steps, each with what it must return. Another module takes the steps. The cases of
+//! `cases/share.toml` are examples of this kind over flows for one thread.
 
 mod beside;
 mod expiry;

@@ -1,4 +1,4 @@
-//! Worked examples of flows: steps, each with what it is to answer. Another module takes the steps.
+//! Worked examples of flows: steps, each with what it must return. Another module takes the steps.
 use flow_law::{Config, Drained, FlowFault, Next, Overflow};
 
 /// The configuration of a flow without a buffer (`MutableSharedFlow()`).
@@ -9,7 +9,7 @@ pub const UNBUFFERED: Config = Config {
     limit: u64::MAX,
 };
 
-/// The emission need not wait any more.
+/// The emission no longer waits.
 pub const DONE: Result<bool, FlowFault> = Ok(false);
 
 /// The emission waits.
@@ -18,20 +18,20 @@ pub const WAITS: Result<bool, FlowFault> = Ok(true);
 /// The flow took or dropped the value.
 pub const TAKEN: Result<bool, FlowFault> = Ok(true);
 
-/// Of which kind a flow is.
+/// The kind of a flow.
 pub enum Kind {
     Shared(Config),
-    /// It begins at 0, and issues at most so many numbers.
+    /// A state flow that begins with 0 and issues at most this many numbers.
     State(u64),
 }
 
-/// A worked example: of which kind the flow is, and steps on it.
+/// A worked example: the kind of the flow, and steps on it.
 pub struct Example {
     pub kind: Kind,
     pub steps: &'static [Step],
 }
 
-/// A step on a flow, and what it answers. Emissions and subscribers are named by the order in which they came, from 0.
+/// A step on a flow, and what it returns. Emissions and subscribers are numbered from 0 in the order of their making.
 #[derive(Clone, Copy)]
 pub enum Step {
     /// The value, and whether the flow took or dropped it.
@@ -50,7 +50,7 @@ pub enum Step {
     Current(i64),
     Set(i64),
     SetNow(i64),
-    /// The value that is expected, the update, and whether it was set.
+    /// The expected value, the new one, and whether it was set.
     CompareAndSet(i64, i64, bool),
     ResetRefused(FlowFault),
     Cache(&'static [i64]),
@@ -67,6 +67,6 @@ pub enum Step {
     DropSubscription(usize),
     Count(u64),
     CountNow(u64),
-    /// A subscriber, how many values it takes at most, why it stopped, and the values.
+    /// A subscriber, the most values that it takes, why the drain stopped, and the values.
     Drain(usize, usize, Drained, &'static [i64]),
 }

@@ -1,4 +1,4 @@
-//! Values by their numbers: whole numbers, and values whose copies take memory.
+//! Values that stand for numbers: whole numbers, and boxed numbers, whose copies take memory.
 use crate::compare::compare;
 use flow_law::{Boxed, FlowValue, Next};
 use std::alloc::{Allocator, Global};
@@ -6,10 +6,10 @@ use std::process::Abort;
 
 /// A value that stands for a number.
 pub trait Numbered: FlowValue {
-    /// Where it lies.
+    /// The allocator of the value.
     type Memory: Allocator + Copy;
 
-    /// Where memory is refused, it is asked for again.
+    /// Returns the value of this number. Asks for memory once more if it is refused.
     fn of(rt: &impl Abort, memory: Self::Memory, number: i64) -> Self;
 
     fn number(&self) -> i64;
@@ -45,7 +45,7 @@ impl<A: Allocator + Copy> Numbered for Boxed<i64, A> {
     }
 }
 
-/// A list of these values. Where its growth is refused, it is asked for again.
+/// Returns a list of the values of these numbers. Asks for memory once more if its growth is refused.
 pub fn list_of<T: Numbered>(
     rt: &impl Abort,
     memory: T::Memory,
@@ -60,7 +60,7 @@ pub fn list_of<T: Numbered>(
     values
 }
 
-/// What was received, by its number.
+/// Returns the number of the value that was received.
 pub fn by_number<T: Numbered>(next: Next<T>) -> Next<i64> {
     match next {
         Next::Value(value) => Next::Value(value.number()),
@@ -69,7 +69,7 @@ pub fn by_number<T: Numbered>(next: Next<T>) -> Next<i64> {
     }
 }
 
-/// The values of the step at this place have these numbers.
+/// Compares the numbers of the values of the step at this place.
 pub fn are<T: Numbered>(rt: &impl Abort, place: usize, values: &[T], numbers: &[i64]) {
     compare(rt, place, values.len(), numbers.len());
     for index in 0..numbers.len() {

@@ -1,4 +1,4 @@
-//! Tests of the word state: worked examples by one caller and by several threads, packs, and a message between threads.
+//! Tests of the word state: worked examples of one caller and of several threads, packs, and a message between threads.
 #[cfg(test)]
 mod caller;
 pub mod celsius;

@@ -1,4 +1,4 @@
--- What the core has of the readings is the replay cache, and an emission adds its value to that.
+-- The values that the core holds are its replay cache, and an emission adds its value to them.
 use Rattle.std.proofs.Common.{◌≡◌, ℕ, ◌+◌, ◌-◌, Bool, true, false, List, [], ◌∷◌, ◌++◌, length, drop, refl, sym, ap, ◌∙◌, arith, length-append, length-drop}
 use Rattle.std.specs.Prelude.{Ok, Err, Result, Vec, IfOk, if◌then◌else◌}
 use Rattle.std.proofs.lemmas.List.{drop-drop, drop-append-le, map-append, length-map}
@@ -15,7 +15,7 @@ use Rattle.flow_law.specs.SharedHistory.{Replies, after, reply_by}
 use Rattle.flow_law.specs.Standing.{Core, StandsFor, least_position, first_needed}
 use Rattle.use_flows.specs.Readings.{IsUnread, last, latest_of, with_reading}
 
--- the last of the last values and of what follows them are the last of all
+-- dropping all but the last n values first does not change the last n values of the whole
 last-append : {T : Type 0} (n : ℕ) (xs ys : List T) → last n (last n xs ++ ys) ≡ last n (xs ++ ys)
 last-append n xs ys =
     let all = length xs - n in
@@ -50,7 +50,7 @@ module _ {T : Type 0} where
       ∙ sym (last-append s.config.replay (values s) (x ∷ []))
       ∙ ap (λ l. last s.config.replay (l ++ x ∷ [])) (sym (cache_is_last s unread))
 
-  -- where nobody subscribed an emission is appended
+  -- an emission without a subscriber is appended
   is_appended : (s : SharedFlowState T) → IsUnread s → emit_case s ≡ appends
   is_appended s unread = rw unread.nobody refl
 
@@ -82,7 +82,7 @@ module _ {T : Type 0} where
       ∙ ap (λ l. last old.config.replay (l ++ x ∷ [])) (sym (kept old s stands unread)) in
       λ i. record { most = (most ∙ replay) i; values = list i }
 
-  -- a cache that was given is the readings
+  -- the replay cache that a call returned is the list of readings
   pub latest_is : {A : Type 0} (core : Core T) (s : SharedFlowState T) (result : Result (Vec T A) FlowFault) → StandsFor core s → IsUnread s
       → Replies s call.ReplayCache (cache_reply result) → IfOk result (λ latest. latest.items ≡ (latest_of core).values)
   latest_is core s (Err fault) stands unread said = tt

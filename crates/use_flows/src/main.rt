@@ -1,5 +1,4 @@
-//! Flows as a program uses them: on one thread, between two, as chains, and inside a type of one's own of which
-//! something is proved.
+//! A program that uses flows: on one thread, between threads, as chains, and inside a type with contracts of its own.
 #![tactic(auto)]
 
 mod chains;
@@ -29,7 +28,7 @@ fn main(rt: HostRuntime) -> Result<()> {
     show_best(&rt)
 }
 
-/// Prints what threads have added up.
+/// Prints the sums that threads have computed.
 fn print_sums(rt: &HostRuntime, sum: i64, consumers: [i64; 3], shared: i64) -> io::Result<()> {
     let [a, b, c] = consumers;
     println!(rt; "the sum is {sum}")?;
@@ -37,7 +36,7 @@ fn print_sums(rt: &HostRuntime, sum: i64, consumers: [i64; 3], shared: i64) -> i
     println!(rt; "shared between threads: {shared}")
 }
 
-/// Shows what functions with contracts of their own do.
+/// Calls the functions of `setting`, and prints what they return.
 fn show_best(rt: &HostRuntime) -> Result<()> {
     let mut flow = StateCore::new(rt.alloc(), 1i64, u64::MAX);
     let read = setting::set_and_read(&mut flow, 7)?;

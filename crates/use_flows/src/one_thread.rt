@@ -1,5 +1,5 @@
-//! Flows on one thread: a shared flow, a reader that is greeted and takes all at once, a state flow, and one of values
-//! of one's own.
+//! Flows on one thread: a shared flow, a reader that drains a flow, a state flow, and a state flow whose values have a
+//! type of your own.
 mod drained;
 mod moved;
 mod position;

@@ -8,7 +8,7 @@ use std::thread::{Threads, join};
 
 type Consumers<'a> = (Reader<'a, i64>, Reader<'a, i64>, Reader<'a, i64>);
 
-/// Returns what each consumer has added up.
+/// Returns the sum that each consumer computes.
 pub fn add_up<R: Wait + Threads + Sync>(rt: &R, alloc: Global) -> Result<[i64; 3], FlowFault> {
     let (flow, seat) = SharedFlow::new(alloc, Config::new().extra(16))?;
     let mut p = flow.emitter(seat);
@@ -25,7 +25,7 @@ fn subscribe_all<'a, R: Wait>(
     Ok((p.subscribe(rt)?, p.subscribe(rt)?, p.subscribe(rt)?))
 }
 
-/// Runs producers and consumers side by side.
+/// Runs the producers and the consumers at the same time.
 fn run_all<R: Wait + Threads + Sync>(
     rt: &R,
     p: &mut Emitter<'_, i64>,

@@ -1,4 +1,4 @@
-//! The last readings of a sensor: a type of one's own round a shared flow, and what is proved of it.
+//! A type of your own over a shared flow: it keeps the last readings of a sensor, and its contracts say which.
 ghost use Rattle.std.specs.Prelude.{◌≡◌, [], IfOk, OnOk, OnErr};
 ghost use Rattle.use_flows.specs.Readings.{with_reading};
 
@@ -7,7 +7,7 @@ use flow_law::{Config, FlowFault, FlowValue};
 use std::alloc::Global;
 use std::marker::Model;
 
-/// The last readings of a sensor, at most as many as it was made for. A shared flow keeps them as its replay cache.
+/// The last readings of a sensor, at most as many as `new` was given. A shared flow keeps them in its replay cache.
 #[derive(Drop)]
 pub struct Readings<T: FlowValue> {
     flow: SharedCore<T>,
@@ -24,7 +24,7 @@ impl<T: FlowValue> Model for Readings<T> {
 }
 
 impl<T: FlowValue> Readings<T> {
-    /// Returns no readings yet. Refused as `TooLarge` where `most` is above 65,536.
+    /// Returns an empty list of readings. Fails with `TooLarge` if `most` is above 65,536.
     pub fn new(alloc: Global, most: u32) -> Result<Self, FlowFault>
         ensures { IfOk result (λ readings. readings ≡ record { most = most; values = [] }) }
     {
@@ -32,7 +32,7 @@ impl<T: FlowValue> Readings<T> {
         Ok(Readings { flow })
     }
 
-    /// Adds a reading. The oldest one goes where there are too many.
+    /// Adds a reading. Drops the oldest one if there are too many.
     pub fn add(&mut self, value: T) -> Result<(), FlowFault>
         ensures added { OnOk result (self.new ≡ with_reading value self.old) }
         ensures refused { OnErr result (self.new ≡ self.old) }
@@ -41,7 +41,7 @@ impl<T: FlowValue> Readings<T> {
         Ok(())
     }
 
-    /// Copies of the last readings, the oldest first.
+    /// Returns copies of the last readings, the oldest first.
     pub fn latest(&self) -> Result<Vec<T>, FlowFault>
         ensures { IfOk result (λ latest. latest.items ≡ self.now.values) }
     {

@@ -1,4 +1,4 @@
-//! The state of a screen: one thread sets it, and another one follows it until a page is there.
+//! The state of a screen: one thread sets it, and another one reads it until the page is ready.
 ghost use Rattle.std.proofs.Common.{rules};
 
 use flow_law::{FlowFault, FlowValue, Text};
@@ -32,14 +32,14 @@ impl FlowValue for Screen {
     ghost is_same_exact = { Prim.search rules };
 }
 
-/// Loads a page at the second try.
+/// Sets the states of a screen whose page loads at the second try.
 fn load<R: Wait>(rt: &R, screen: &mut Setter<'_, Screen>, page: Text) {
     screen.set(rt, Screen::Failed(503));
     screen.set(rt, Screen::Loading);
     screen.set(rt, Screen::Ready(page));
 }
 
-/// Waits for a page. A slow reader skips states, and always gets the most recent one.
+/// Waits until the page is ready, and returns it. A slow reader skips states, and always gets the most recent one.
 fn page_of<R: Wait>(rt: &R, screen: &mut StateReader<'_, Screen>) -> Result<Text, FlowFault> {
     for _ in rt.forever() {
         if let Screen::Ready(page) = screen.changed(rt)? {

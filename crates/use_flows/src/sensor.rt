@@ -1,4 +1,4 @@
-//! The last readings of a sensor, in a type of one's own of which something is proved.
+//! A caller of `Readings`, a type with contracts of its own.
 use crate::readings::Readings;
 use anyhow::Result;
 use flow_law::FlowFault;

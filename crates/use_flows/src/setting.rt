@@ -1,4 +1,4 @@
-//! Contracts of one's own: what is set is what is read, and a best offer is at least each offer.
+//! Contracts of your own: a value that was set is the one that is read, and the best offer is at least each offer.
 ghost use Rattle.std.specs.Prelude.{◌≡◌, ◌≤ℤ◌, IfOk};
 
 use flow_core::StateCore;

@@ -6,8 +6,8 @@ use std::ops::Range;
 use std::sync::Wait;
 use std::thread::{Threads, join};
 
-/// Returns what the reading thread has added up. Where no thread can be made, `join` calls its first closure last: the
-/// reader then finds all that was sent.
+/// Returns the sum that the reading thread computes. If no thread can be made, `join` calls its first closure last, and
+/// the reader finds all values in the flow.
 pub fn add_up<R: Wait + Threads + Sync>(rt: &R, alloc: Global) -> Result<i64, FlowFault> {
     let (flow, seat) = SharedFlow::new(alloc, Config::new().extra(16))?;
     let mut emitter = flow.emitter(seat);
@@ -20,7 +20,7 @@ pub fn add_up<R: Wait + Threads + Sync>(rt: &R, alloc: Global) -> Result<i64, Fl
     sent.and(sum)
 }
 
-/// Sends the values one after the other, and waits where there is no room.
+/// Sends the values in order, and waits while there is no room.
 pub fn send<R: Wait>(
     rt: &R,
     emitter: &mut Emitter<'_, i64>,
@@ -32,7 +32,7 @@ pub fn send<R: Wait>(
     Ok(())
 }
 
-/// Adds up the next values, so many. The thread sleeps until each is there.
+/// Returns the sum of the next `count` values. The thread sleeps while it waits for one.
 pub fn sum_of<R: Wait>(rt: &R, reader: &mut Reader<'_, i64>, count: u32) -> Result<i64, FlowFault> {
     let mut sum = 0i64;
     for _ in 0..count {

@@ -7,7 +7,7 @@ use crate::compare::compare;
 use flow_cold::{Asked, Chain, Cold, OfRange, law_asks_left};
 use std::cell::Cell;
 
-/// Counts how often a chain is asked.
+/// A chain that counts how often it is asked.
 #[derive(Drop)]
 struct Counted<'a, C> {
     chain: C,
@@ -49,7 +49,7 @@ impl<'a, C: Cold> Cold for Counted<'a, C> {
     ghost limited = { λ l s. C.limited l s.chain };
 }
 
-/// The numbers from 1 to 5.
+/// Returns a chain of the numbers from 1 to 5 that counts its asks.
 fn one_to_five(asks: &Cell<u32>) -> Counted<'_, OfRange> {
     Counted {
         chain: OfRange::new(1, 5),
@@ -57,7 +57,7 @@ fn one_to_five(asks: &Cell<u32>) -> Counted<'_, OfRange> {
     }
 }
 
-/// Nothing is asked after the last item of a take.
+/// A `take` asks for nothing after its last item.
 #[test]
 fn a_take_asks_no_more_than_it_gives(rt: HostRuntime) {
     let asks = Cell::new(0);
@@ -65,7 +65,7 @@ fn a_take_asks_no_more_than_it_gives(rt: HostRuntime) {
     compare(&rt, 0, asks.get(), 2 * COLLECTIONS);
 }
 
-/// A scan gives its initial value without asking.
+/// A `scan` gives its initial value without an ask.
 #[test]
 fn a_scan_asks_once_less_than_it_gives(rt: HostRuntime) {
     let asks = Cell::new(0);

@@ -1,4 +1,4 @@
-//! What a chain gives, beside what it is to give.
+//! Compares what a chain gives with what it should give.
 use crate::compare::compare;
 use flow_cold::{Chain, Cold, End, Entry, OfList, ScriptChain, Scripted, Source, collect_all};
 use std::alloc::Global;
@@ -40,7 +40,7 @@ pub fn gives_once<C: Cold<Item = i64>>(
     compare(rt, place, got.end, end);
 }
 
-/// The first items of the chain are these, as many as are taken.
+/// Takes the first items of the chain, and compares them.
 pub fn begins_with<C: Cold<Item = i64>>(
     rt: &impl Abort,
     alloc: Global,
@@ -55,13 +55,13 @@ pub fn begins_with<C: Cold<Item = i64>>(
     gives(rt, alloc, place, first, items, End::Completed);
 }
 
-/// The chain of a list.
+/// Returns the chain of a list.
 pub fn list(rt: &impl Abort, alloc: Global, items: &[i64]) -> ScriptChain {
     let items = items.to_vec(alloc).expect(rt, "memory");
     ScriptChain::source(Source::List(OfList::new(items)))
 }
 
-/// The chain of a script.
+/// Returns a chain that gives these entries.
 pub fn script(rt: &impl Abort, alloc: Global, entries: &[Entry<i64>]) -> Scripted<i64> {
     let mut copies = Vec::new(alloc);
     for entry in entries {
@@ -76,7 +76,7 @@ pub fn script(rt: &impl Abort, alloc: Global, entries: &[Entry<i64>]) -> Scripte
     Scripted::new(copies)
 }
 
-/// It gives 5, pends, gives 6 and fails.
+/// The entries of a chain that gives 5, is pending once, gives 6 and fails.
 pub static FAILS_AFTER_TWO: &[Entry<i64>] = &[
     Entry::Item(5),
     Entry::Pending,

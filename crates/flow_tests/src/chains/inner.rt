@@ -4,12 +4,12 @@ use crate::chains::gives::gives;
 use flow_cold::{Chain, ChainFault, End, Entry, OfRange, Scripted};
 use std::alloc::Global;
 
-/// The sum, or the fault of one that is out of range.
+/// Returns the sum, or the fault `Overflow` if it is out of range.
 pub fn sum(x: i64, y: i64) -> Result<i64, ChainFault> {
     x.checked_add(y).ok_or(ChainFault::Overflow)
 }
 
-/// A list of the item twice.
+/// Returns a list of the item twice.
 pub fn listed(alloc: Global, x: i64) -> Result<Vec<i64>, ChainFault> {
     let mut items = Vec::new(alloc);
     if items.push(x).is_err() {
@@ -21,7 +21,7 @@ pub fn listed(alloc: Global, x: i64) -> Result<Vec<i64>, ChainFault> {
     Ok(items)
 }
 
-/// A chain of the item twice.
+/// Returns a chain of the item twice.
 pub fn opened(alloc: Global, x: i64) -> Result<Scripted<i64>, ChainFault> {
     let mut entries = Vec::new(alloc);
     if entries.push(Entry::Item(x)).is_err() {
@@ -53,7 +53,7 @@ fn items_become_chains(rt: HostRuntime) {
     );
 }
 
-/// The inner chain's own closure captures the item.
+/// The closure of the inner chain captures the item.
 #[test]
 fn items_become_chains_with_closures(rt: HostRuntime) {
     let chain = OfRange::new(1, 3).flat_map_concat(|x| {

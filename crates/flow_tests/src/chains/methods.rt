@@ -1,4 +1,4 @@
-//! Chains as one writes them: operators as methods over plain closures, and terminal operators.
+//! Chains as programs write them: operators as methods over plain closures, and terminal operators.
 
 use crate::chains::gives::{FAILS_AFTER_TWO, begins_with, gives, list, script};
 use crate::chains::inner::sum;
@@ -51,7 +51,7 @@ fn a_take_of_nothing_is_refused(rt: HostRuntime) {
     compare(&rt, 0, refused, Some(ChainFault::NotPositive));
 }
 
-/// Of 1, 5 and 2 the last is below 3, but comes after 5, which is not.
+/// Of the items 1, 5 and 2 only 1 is dropped: 2 is below 3, but it follows 5, which is not.
 #[test]
 fn first_items_are_dropped_while_they_pass(rt: HostRuntime) {
     let below = list(&rt, rt.alloc(), &[1, 5, 2]).drop_while(|x| *x < 3);
@@ -107,7 +107,7 @@ fn a_failing_chain_comes_to_its_fault(rt: HostRuntime) {
     compare(&rt, 3, failing.single(), Ok(None));
 }
 
-/// `singleOrNull` gives nothing of several items, and asks no more than two.
+/// `singleOrNull` gives nothing if there are several items, and asks for no more than two.
 #[test]
 fn a_chain_comes_to_one_item(rt: HostRuntime) {
     compare(&rt, 0, OfRange::new(1, 4).first(), Ok(Some(1)));

@@ -1,4 +1,4 @@
-//! Memory that is wanted inside a chain is the end of the chain, and no refusal of the collection.
+//! Out of memory inside a chain: the chain ends with a fault, and the collection itself does not fail.
 
 use crate::compare::compare;
 use crate::one_thread::limited::{are, list_of};
@@ -37,7 +37,7 @@ fn a_refused_copy_ends_a_list(rt: HostRuntime) {
     gives(&rt, rt.alloc(), &mut list, &[1, 2, 3], End::Completed);
 }
 
-/// `Distinct` copies each item that it keeps: the fourth copy is its second.
+/// `Distinct` copies each item that it keeps. The fourth copy is its second one.
 #[test]
 fn a_refused_copy_ends_a_chain(rt: HostRuntime) {
     let copies = Cell::new(4);

@@ -1,5 +1,5 @@
-//! Chains that take memory: those whose closures take it, and those that are built at run time. After a refusal a collection
-//! gives all.
+//! Chains that take memory: in their closures, or when they are built at run time. After a refusal, the next collection
+//! gives all items.
 
 use crate::chains::gives::gives_once;
 use crate::chains::inner::{listed, opened};
@@ -12,7 +12,7 @@ use std::alloc::Global;
 use std::cell::Cell;
 use std::process::Abort;
 
-/// Whether this call is refused: that which takes `calls` from 1 to 0. With 0 none is.
+/// Counts a call. Returns whether it is refused: the call that takes `calls` from 1 to 0 is, and with 0 none is.
 fn refuses(calls: &Cell<u64>) -> bool {
     let left = calls.get();
     calls.set(left.saturating_sub(1));
@@ -33,10 +33,10 @@ fn opened_unless(alloc: Global, calls: &Cell<u64>, x: i64) -> Result<Scripted<i6
     opened(alloc, x)
 }
 
-/// Each of 1, 2 and 3 twice.
+/// The items of the chains: each of 1, 2 and 3 twice.
 const ALL: &[i64] = &[1, 1, 2, 2, 3, 3];
 
-/// A call of the chain's closure is refused: that is the chain's end after these items. The next collection gives all.
+/// Refuses a call of the chain's closure. The chain ends with a fault after these items; the next collection gives all.
 fn refused_at<C: Cold<Item = i64>>(
     rt: &impl Abort,
     alloc: Global,
@@ -54,7 +54,7 @@ fn refused_at<C: Cold<Item = i64>>(
     gives_once(rt, alloc, 1, chain, ALL, End::Completed);
 }
 
-/// Each of the three calls of the chain's closure is refused in turn.
+/// Refuses each of the three calls of the chain's closure in turn.
 fn refused_at_each<C: Cold<Item = i64>>(rt: &impl Abort, alloc: Global, calls: &Cell<u64>, chain: C)
     requires { C.CanAsk chain }
 {
@@ -80,7 +80,7 @@ fn a_refused_inner_chain_ends_a_chain(rt: HostRuntime) {
     refused_at_each(&rt, alloc, &calls, made);
 }
 
-/// A chain that is built at run time, collected: the first three sums of 1, 2 ...
+/// Collects a chain that is built at run time: the first three sums of 0, 1, 2 and so on.
 fn collected(alloc: Global) -> Result<Collected<i64>, ChainFault> {
     let range = ScriptChain::source(Source::Range(OfRange::new(1, 5)));
     let scanned = range.then(
@@ -94,7 +94,7 @@ fn collected(alloc: Global) -> Result<Collected<i64>, ChainFault> {
     collect_all(alloc, &mut chain)
 }
 
-/// Where memory is refused it is built and collected once more. `rt try --test --fail-alloc N` refuses the allocation N.
+/// Builds and collects the chain once more if memory is refused, as by `rt try --test --fail-alloc N`.
 #[test]
 fn a_chain_is_built(rt: HostRuntime) {
     let got = match collected(rt.alloc()) {

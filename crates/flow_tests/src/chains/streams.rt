@@ -1,4 +1,4 @@
-//! A chain as a stream gives what a collection gives.
+//! A chain as a stream gives the items that a collection gives.
 
 use crate::chains::gives::{FAILS_AFTER_TWO, gives, script};
 use crate::compare::compare;

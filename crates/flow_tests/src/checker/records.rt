@@ -1,4 +1,4 @@
-//! Records in few words, and what comes of one.
+//! Short ways to write records of state flows, and their outcomes.
 use flow_check::{
     FaultKind, Record, StateAnswer, StateEntry, StateOperation, Timed, Verdict, check_state,
     state_goes_wrong,
@@ -6,7 +6,7 @@ use flow_check::{
 use std::alloc::{AllocError, Global};
 use std::process::Abort;
 
-/// What came of a record.
+/// The outcome of a record: a verdict, or why it is refused.
 #[derive(Clone, Copy, Debug, PartialEq)]
 pub enum Outcome {
     Legal,
@@ -17,7 +17,7 @@ pub enum Outcome {
 }
 
 impl Outcome {
-    /// What comes of calls that are no record.
+    /// Returns the outcome of calls that are refused as a record.
     pub fn of_fault(kind: FaultKind) -> Outcome {
         match kind {
             FaultKind::EndsEarly => Outcome::EndsEarly,
@@ -34,7 +34,7 @@ impl Outcome {
     }
 }
 
-/// Asks that this came of the record in a row of a test.
+/// Compares the outcome of a record with the one that a row of a test wants.
 pub fn expect(
     rt: &impl Abort,
     row: usize,
@@ -46,7 +46,7 @@ pub fn expect(
     Ok(())
 }
 
-/// A call that was answered, from one moment to another.
+/// Returns a call that began and ended at these moments.
 pub fn call(
     operation: StateOperation,
     answer: StateAnswer,
@@ -63,7 +63,7 @@ pub fn call(
     }
 }
 
-/// A call that was not over when the record was made.
+/// Returns a call that had not ended when the record was made.
 pub fn pending(operation: StateOperation, begin: u64) -> Timed<StateEntry> {
     Timed {
         call: StateEntry {
@@ -75,7 +75,7 @@ pub fn pending(operation: StateOperation, begin: u64) -> Timed<StateEntry> {
     }
 }
 
-/// Makes a list of the calls of each caller.
+/// Returns a list of the calls of each caller.
 pub fn callers_of(
     alloc: Global,
     rows: &[&[Timed<StateEntry>]],
@@ -99,7 +99,7 @@ pub fn judge(
     }
 }
 
-/// Returns the order in which a history explains these calls, or none if they are not legal.
+/// Returns the order in which a history explains these calls, or None if no order was found.
 pub fn order_of(
     alloc: Global,
     rows: &[&[Timed<StateEntry>]],
@@ -114,7 +114,7 @@ pub fn order_of(
     })
 }
 
-/// Returns the first moment at which these calls go wrong, if they do.
+/// Returns the first moment at which these calls become illegal, if they do.
 pub fn wrong_moment(
     alloc: Global,
     rows: &[&[Timed<StateEntry>]],

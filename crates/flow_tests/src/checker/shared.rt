@@ -1,4 +1,4 @@
-//! Records of shared flows. Each says in its comment why it is legal or illegal.
+//! Records of shared flows. The comments say why a record is legal or illegal.
 use crate::checker::records::{Outcome, expect};
 use crate::checker::shared_records::{call, judge};
 use flow_check::SharedAnswer;
@@ -7,13 +7,13 @@ use flow_check::SharedOperation::{Emit, EmitReturned, Next, Subscribe, TryEmit};
 use flow_law::{Config, Overflow};
 use std::alloc::{AllocError, Global};
 
-/// When `emit` returned, what the subscriber received at moment 5, and the verdict.
+/// The moment at which `emit` returned, what the subscriber received at moment 5, and the verdict.
 const RENDEZVOUS: &[(u64, SharedAnswer<'static>, Outcome)] = &[
     // The value is received before `emit` returns.
     (9, Value(3), Outcome::Legal),
     // `emit` returned before the value was received.
     (4, Value(3), Outcome::Illegal),
-    // It returned, and the subscriber never received the value.
+    // `emit` returned, and the subscriber never received the value.
     (9, Empty, Outcome::Illegal),
 ];
 
@@ -39,7 +39,7 @@ fn judges_a_rendezvous(rt: HostRuntime) -> Result<(), AllocError> {
     Ok(())
 }
 
-/// What a flow does without room, what `tryEmit` answers then, what the subscriber receives, and the verdict.
+/// What a flow does without room, what `tryEmit` returns then, what the subscriber receives, and the verdict.
 const FULL: &[(Overflow, bool, u64, Outcome)] = &[
     // `tryEmit` is refused, drops the oldest value, or drops the new one.
     (Overflow::Suspend, false, 1, Outcome::Legal),
@@ -70,7 +70,7 @@ fn full(
     judge(alloc, config, &[&emitter, &reader])
 }
 
-/// The subscriber has a whole buffer of values to receive.
+/// The subscriber is a full buffer behind.
 #[test]
 fn judges_full_buffers(rt: HostRuntime) -> Result<(), AllocError> {
     for (place, (overflow, is_taken, received, wanted)) in FULL.iter().enumerate() {

@@ -1,4 +1,4 @@
-//! Records of shared flows in few words, and what comes of one.
+//! Short ways to write records of shared flows, and their outcomes.
 use crate::checker::records::Outcome;
 use flow_check::{
     Record, SharedAnswer, SharedEntry, SharedOperation, Timed, check_shared, shared_goes_wrong,
@@ -8,7 +8,7 @@ use std::alloc::{AllocError, Global};
 
 type Recorded = Timed<SharedEntry<'static>>;
 
-/// A call that was answered, from one moment to another.
+/// Returns a call that began and ended at these moments.
 pub fn call(
     operation: SharedOperation<'static>,
     answer: SharedAnswer<'static>,
@@ -25,7 +25,7 @@ pub fn call(
     }
 }
 
-/// Makes a list of the calls of each caller.
+/// Returns a list of the calls of each caller.
 fn callers_of(alloc: Global, rows: &[&[Recorded]]) -> Result<Vec<Vec<Recorded>>, AllocError> {
     let mut callers = Vec::new(alloc);
     for row in rows {
@@ -42,7 +42,7 @@ pub fn judge(alloc: Global, config: Config, rows: &[&[Recorded]]) -> Result<Outc
     }
 }
 
-/// Returns the first moment at which these calls go wrong, if they do.
+/// Returns the first moment at which these calls become illegal, if they do.
 pub fn wrong_moment(
     alloc: Global,
     config: Config,

@@ -1,4 +1,4 @@
-//! Records of state flows. Each says in its comment why it is legal or illegal.
+//! Records of state flows. The comments say why a record is legal or illegal.
 use crate::checker::records::Outcome::{BeginsEarly, EndsEarly, GaveUp, Illegal, Legal};
 use crate::checker::records::{Outcome, call, expect, judge, order_of, pending};
 use flow_check::StateAnswer::{Done, Value};
@@ -7,19 +7,19 @@ use std::alloc::AllocError;
 
 const TURNS: u64 = 10_000;
 
-/// When a set of 1 was over, when a read began, which ended at 3, what it gave, and the verdict.
+/// The moments at which a `set` of 1 ended and a read began (it ended at 3), the value that was read, and the verdict.
 const READS: &[(u64, u64, u64, Outcome)] = &[
-    // It was set before the read began.
+    // The value was set before the read began.
     (1, 2, 0, Illegal),
     (1, 2, 1, Legal),
-    // Both overlap, or touch in one moment: either may come first.
+    // The calls overlap, or share a moment: either may come first.
     (2, 1, 0, Legal),
     (2, 2, 0, Legal),
-    // It was never set to 2.
+    // The value was never set to 2.
     (2, 1, 2, Illegal),
 ];
 
-/// `value` gives the value that was set last.
+/// `value` returns the value that was set last.
 #[test]
 fn judges_reads(rt: HostRuntime) -> Result<(), AllocError> {
     for (place, (end, begin, value, wanted)) in READS.iter().enumerate() {
@@ -35,7 +35,7 @@ fn judges_reads(rt: HostRuntime) -> Result<(), AllocError> {
     Ok(())
 }
 
-/// A set that was not over may have happened, or not yet.
+/// A `set` that had not ended may or may not have happened yet.
 #[test]
 fn judges_pending_calls(rt: HostRuntime) -> Result<(), AllocError> {
     for value in 0..2 {
@@ -46,14 +46,14 @@ fn judges_pending_calls(rt: HostRuntime) -> Result<(), AllocError> {
     Ok(())
 }
 
-/// When a caller's first set was over, when its second one began and was over, and what comes of it.
+/// The moments at which a caller's first `set` ended, and its second one began and ended, and the outcome.
 const OF_ONE_CALLER: &[(u64, u64, u64, Outcome)] = &[
     (2, 1, 3, BeginsEarly),
     (2, 5, 4, EndsEarly),
     (2, 2, 3, Legal),
 ];
 
-/// A record of which a caller's calls overlap, or of which a call ends before it begins, is refused.
+/// A record is refused if the calls of one caller overlap, or if a call ends before it begins.
 #[test]
 fn refuses_records(rt: HostRuntime) -> Result<(), AllocError> {
     for (place, (first_end, begin, end, wanted)) in OF_ONE_CALLER.iter().enumerate() {
@@ -76,7 +76,7 @@ fn gives_up(rt: HostRuntime) -> Result<(), AllocError> {
     expect(&rt, 0, found, GaveUp)
 }
 
-/// The first read comes before the set that it overlaps, and the second one after it.
+/// The first read precedes the `set` that it overlaps, and the second read follows it.
 #[test]
 fn gives_the_order(rt: HostRuntime) -> Result<(), AllocError> {
     let reads = [call(Read, Value(0), 1, 2), call(Read, Value(1), 4, 5)];

@@ -1,4 +1,4 @@
-//! The first moments at which records go wrong, and what was known of a record before.
+//! The first moments at which records become illegal, and the part of a record that was known before a moment.
 use crate::checker::records::{call, callers_of, wrong_moment};
 use crate::checker::shared_records;
 use flow_check::StateAnswer::{Done, Value};
@@ -8,7 +8,7 @@ use flow_law::Config;
 use std::alloc::{AllocError, Global};
 use std::process::Abort;
 
-/// A read goes wrong when it ends, however the calls after it are answered.
+/// A record becomes illegal when the wrong read ends, whatever later calls return.
 #[test]
 fn finds_when_a_read_goes_wrong(rt: HostRuntime) -> Result<(), AllocError> {
     let set = call(Set(1), Done, 0, 1);
@@ -18,7 +18,7 @@ fn finds_when_a_read_goes_wrong(rt: HostRuntime) -> Result<(), AllocError> {
     Ok(())
 }
 
-/// While the set was not over, it may not have happened yet.
+/// The `set` may not have happened before it ended.
 #[test]
 fn finds_nothing_wrong(rt: HostRuntime) -> Result<(), AllocError> {
     let set = call(Set(1), Done, 0, 6);
@@ -27,7 +27,7 @@ fn finds_nothing_wrong(rt: HostRuntime) -> Result<(), AllocError> {
     Ok(())
 }
 
-/// A value that was emitted before a subscription without replay is received when `next` ends.
+/// Without a replay a `next` receives a value from before its subscription: this is illegal when `next` ends.
 #[test]
 fn finds_when_a_value_is_received_late(rt: HostRuntime) -> Result<(), AllocError> {
     let emitted = shared_records::call(
@@ -53,7 +53,7 @@ fn finds_when_a_value_is_received_late(rt: HostRuntime) -> Result<(), AllocError
     Ok(())
 }
 
-/// When each of two calls ended: None of one that had not begun, Some(None) of one that was not over.
+/// The moments at which two calls ended: None if the call had not begun, Some(None) if it had not ended.
 type Ends = (Option<Option<u64>>, Option<Option<u64>>);
 
 fn ends_of(known: &Record<StateEntry>) -> Ends {
@@ -63,7 +63,7 @@ fn ends_of(known: &Record<StateEntry>) -> Ends {
     }
 }
 
-/// When the call at this place ended.
+/// Returns the moment at which the call at this place ended.
 fn end_of(calls: &[Timed<StateEntry>], place: usize) -> Option<Option<u64>> {
     Some(calls.get(place)?.end)
 }
@@ -80,7 +80,7 @@ fn is_cut(
     Ok(())
 }
 
-/// Before a moment a call that ended at it was pending, and one that began at it had not begun.
+/// Before a moment, a call that ends at it is pending, and a call that begins at it has not begun.
 #[test]
 fn cuts_records(rt: HostRuntime) -> Result<(), AllocError> {
     let sets = [call(Set(1), Done, 0, 3), call(Set(2), Done, 3, 4)];

@@ -1,4 +1,4 @@
-//! Tasks that sleep until a flow has something for them, polled by hand.
+//! Tasks that sleep until a flow has a value or room for them, polled by hand.
 use crate::compare::compare;
 use crate::flows::{new_flow, new_reader};
 use crate::handle_calls::next;
@@ -11,7 +11,7 @@ use std::process::Abort;
 use std::random::RandomSource;
 use std::sync::Wait;
 
-/// Polls once. Returns what a subscriber receives, or `None` if the future is pending.
+/// Polls once. Returns what the subscriber receives, or `None` if the future is pending.
 fn received(
     task: &MockTask,
     future: &mut ReceiveFuture<'_, i64>,
@@ -30,7 +30,7 @@ fn sent(task: &MockTask, future: &mut SendFuture<'_, i64>) -> Option<bool> {
     }
 }
 
-/// The subscriber's task sleeps after its first poll, and after its second one. An emission wakes it.
+/// Checks that the subscriber's task sleeps after its first two polls, and that an emission wakes it.
 fn is_woken(
     rt: &impl Abort,
     task: &MockTask,
@@ -48,7 +48,7 @@ fn is_woken(
     compare(rt, 3, received(task, receive), Some(Ok(7)));
 }
 
-/// The emitter's task is woken once each subscriber has the value.
+/// Checks that the emitter's task is woken once each subscriber has received the value.
 fn wakes_emitter<R: Wait + Abort>(
     rt: &R,
     task: &MockTask,
@@ -61,7 +61,8 @@ fn wakes_emitter<R: Wait + Abort>(
     compare(rt, 7, sent(task, send), Some(true));
 }
 
-/// A task of a subscriber sleeps until 7 is emitted, and the emitter's task until that subscriber and a reader have it.
+/// Checks that a subscriber's task sleeps until 7 is emitted, and the emitter's task until that subscriber and a reader
+/// have received it.
 fn follow<R: Wait + RandomSource + AllocGlobal + Abort>(
     rt: &R,
     receive: &mut ReceiveFuture<'_, i64>,
@@ -85,7 +86,7 @@ fn follow_all<R: Wait + RandomSource + AllocGlobal + Abort>(
     follow(rt, &mut receive, &mut reader, &mut send);
 }
 
-/// Without a buffer a reader sleeps until a value is emitted, and the emitter until each reader has it.
+/// Without a buffer a reader sleeps until a value is emitted, and the emitter until each reader has received it.
 #[test]
 fn a_reader_and_its_emitter_sleep_until_they_go_on(rt: HostRuntime) {
     let (flow, seat) = new_flow(&rt, rt.alloc(), Config::new());

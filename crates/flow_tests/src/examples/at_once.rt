@@ -1,4 +1,4 @@
-//! Calls of emissions that do not wait for other callers.
+//! Emissions by calls that do not wait for other callers.
 ghost use Rattle.std.specs.Prelude.{◌≡◌};
 
 use crate::compare::compare;
@@ -18,7 +18,7 @@ fn cancel(flow: &SharedFlow<i64>, emission: Emission<i64>) -> Option<bool>
     }
 }
 
-/// Polls an emission that waits, and cancels it.
+/// Polls an emission. Cancels it if it still waits and returns what `cancel` returns; otherwise returns `None`.
 fn poll(flow: &SharedFlow<i64>, emission: Emission<i64>) -> Option<bool>
     requires { emission.token.table_id ≡ flow.now.table_id }
 {
@@ -28,7 +28,7 @@ fn poll(flow: &SharedFlow<i64>, emission: Emission<i64>) -> Option<bool>
     }
 }
 
-/// Emits 7. Returns `None` if that is done at once, and else whether the emission waited until it was polled and cancelled.
+/// Emits 7. If the emission waits, polls and cancels it, and returns whether it still waited; otherwise returns `None`.
 fn emit(flow: &SharedFlow<i64>, seat: Seat<i64>) -> Option<bool>
     requires { seat.table_id ≡ flow.now.table_id }
 {
@@ -38,7 +38,7 @@ fn emit(flow: &SharedFlow<i64>, seat: Seat<i64>) -> Option<bool>
     }
 }
 
-/// With room for one value the first emission is done, and the second one waits.
+/// Emits twice with room for one value: the first emission is done, and the second one waits.
 fn emit_twice<R: Wait + Abort>(rt: &R, subscribed: &mut Subscribed<'_>) {
     let seat = subscribed.flow.seat(&mut subscribed.seat);
     compare(rt, 0, emit(subscribed.flow, seat), None);

@@ -1,4 +1,4 @@
-//! What becomes of emissions.
+//! Worked examples of emissions: values that wait, are dropped, offered or cancelled.
 use crate::steps::Kind::Shared;
 use crate::steps::Step::{
     Cache, Cancel, Count, DropEmission, DropSubscription, Emit, Next, Poll, Subscribe, TryEmit,
@@ -100,7 +100,7 @@ pub static EXAMPLES: &[Example] = &[
             Next(1, &Empty),
         ],
     },
-    // A late subscriber is offered the value too.
+    // A late subscriber is offered the value, too.
     Example {
         kind: Shared(UNBUFFERED),
         steps: &[
@@ -115,7 +115,7 @@ pub static EXAMPLES: &[Example] = &[
             Next(2, &Empty),
         ],
     },
-    // Emitters go on when the last subscriber leaves.
+    // Emitters no longer wait when the last subscriber unsubscribes.
     Example {
         kind: Shared(Config {
             replay: 1,

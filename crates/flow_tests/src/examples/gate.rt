@@ -8,7 +8,7 @@ use std::alloc::Global;
 use std::process::Abort;
 use std::sync::Wait;
 
-/// It begins at 0 again after 2^64 events.
+/// A state that counts the events of its history. After 2^64 events the count is 0 again.
 #[derive(Drop)]
 struct Count {
     events: u64,
@@ -20,7 +20,7 @@ impl Guarded for Count {
     ghost stands = { λ _ count history. count.events ≡ length history % 2 ^ 64 };
 }
 
-/// One event.
+/// The one kind of event.
 #[derive(Drop)]
 struct Once;
 
@@ -39,7 +39,7 @@ fn add_one(held: Held<'_, Count>) -> Seat<Count>
     held.leave(&Once)
 }
 
-/// Two seats that met have seen one history.
+/// Lets two seats meet: after that both have seen the same history.
 fn meet_in_one_history(
     gate: &Gate<Count>,
     one: Seat<Count>,
@@ -53,7 +53,7 @@ fn meet_in_one_history(
     gate.meet(one, other)
 }
 
-/// A new gate, and its seat.
+/// Returns a new gate and its first seat.
 fn new_gate(rt: &impl Abort, alloc: Global) -> (Gate<Count>, Seat<Count>)
     ensures { result.1.table_id ≡ result.0.table_id }
 {
@@ -63,7 +63,7 @@ fn new_gate(rt: &impl Abort, alloc: Global) -> (Gate<Count>, Seat<Count>)
     }
 }
 
-/// A gate without a caller inside was closed, and has had so many events.
+/// Checks that the gate was closed without a caller inside, and had this number of events.
 fn had(rt: &impl Abort, closed: Option<Count>, events: u64) {
     match closed {
         Some(count) => compare(rt, 2, count.events, events),
@@ -71,7 +71,7 @@ fn had(rt: &impl Abort, closed: Option<Count>, events: u64) {
     }
 }
 
-/// One seat enters, and the other one after it has left.
+/// Enters by one seat, and by the other one after the first has left. Returns the other seat.
 fn enter_in_turn<R: Wait + Abort>(
     rt: &R,
     gate: &Gate<Count>,
@@ -101,7 +101,8 @@ fn who_is_inside_keeps_others_out(rt: HostRuntime) {
     had(&rt, gate.close_with(other), 2);
 }
 
-/// One seat adds an event and meets the other one. Each of them then adds one, and the second one leaves once more.
+/// Adds an event by one seat, which then meets the other one. Adds one by each of them, and then enters and leaves by
+/// the other one.
 fn meet_and_go_on<R: Wait>(rt: &R, gate: &Gate<Count>, seat: Seat<Count>, other: Seat<Count>)
     requires { (seat.table_id ≡ gate.now.table_id) × (other.table_id ≡ gate.now.table_id) }
 {

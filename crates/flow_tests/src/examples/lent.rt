@@ -1,4 +1,4 @@
-//! Callers to whom a flow was lent, by the values that they get.
+//! Compares the values that callers of a borrowed flow get.
 use crate::compare::compare;
 use crate::examples::subscribed::{Subscribed, lend};
 use crate::flows::new_word_state;
@@ -8,7 +8,7 @@ use flow_law::Next::{Empty, Value};
 use std::process::Abort;
 use std::sync::Wait;
 
-/// A subscriber receives what was emitted, and then nothing.
+/// Checks that a subscriber receives what was emitted, and then nothing.
 fn receives_all<R: Wait + Abort>(rt: &R, subscribed: &mut Subscribed<'_>) {
     let taken = emit_one(rt, subscribed.flow, &mut subscribed.seat, 1);
     compare(rt, 0, taken, Ok(true));
@@ -23,7 +23,7 @@ fn subscriber_of_a_lent_flow_receives_all(rt: HostRuntime) {
     lend(&rt, Config::new().extra(1), receives_all);
 }
 
-/// A word state of 5 is set to 9.
+/// A word state that begins with 5 is set to 9.
 #[test]
 fn reader_of_a_lent_word_state_gets_the_newest_value(rt: HostRuntime) {
     let (flow, mut seat) = new_word_state(&rt, rt.alloc(), 5, 1);

@@ -9,7 +9,7 @@ use flow_shared::{Seat, SharedFlow, StateFlow, StateSeat};
 use std::process::Abort;
 use std::sync::Wait;
 
-/// Two seats each emit a value, and meet: both read both values.
+/// Emits a value by each of two seats, which then meet: each reads both values.
 fn emit_and_meet<R: Wait + Abort>(
     rt: &R,
     flow: &SharedFlow<i64>,
@@ -27,7 +27,7 @@ fn emit_and_meet<R: Wait + Abort>(
     reads_cache(rt, flow, other, &[1, 2]);
 }
 
-/// A subscription meets a seat that has emitted, and receives the first value.
+/// Lets a subscription meet a seat that has emitted: it receives the first value.
 fn meet_subscriber<R: Wait + Abort>(rt: &R, subscribed: &mut Subscribed<'_>) {
     let mut other = subscribed.flow.seat(&mut subscribed.seat);
     emit_and_meet(rt, subscribed.flow, &mut subscribed.seat, &mut other);
@@ -42,7 +42,7 @@ fn seats_and_a_subscription_of_a_shared_flow_have_met(rt: HostRuntime) {
     lend(&rt, Config::new().replay(2), meet_subscriber);
 }
 
-/// Two seats meet, and read the value that one of them set.
+/// Lets two seats meet: both read the value that one of them has set.
 fn set_and_meet<R: Wait + Abort>(
     rt: &R,
     flow: &StateFlow<i64>,
@@ -60,7 +60,7 @@ fn set_and_meet<R: Wait + Abort>(
     compare(rt, 2, flow.value(rt, other), Ok(5));
 }
 
-/// A subscription meets a seat, and receives what that seat set last.
+/// Lets a subscription meet a seat: it receives the value that the seat set last.
 fn set_and_receive<R: Wait + Abort>(
     rt: &R,
     flow: &StateFlow<i64>,

@@ -16,7 +16,7 @@ use std::random::RandomSource;
 use std::sync::Wait;
 use std::thread::join;
 
-/// Polls a future, which is pending, and asks for another poll.
+/// Polls a future. Checks that it is pending and asks to be polled again, and returns it.
 fn asks_again<R: RandomSource + AllocGlobal + Abort, F>(rt: &R, future: F) -> F
 where
     F: Future<Output: Drop>,
@@ -29,7 +29,7 @@ where
     future
 }
 
-/// Returns whether the value was still on its way; `None` if there was nothing to cancel.
+/// Cancels an emission. Returns whether it still waited, or `None` if there was nothing to cancel.
 fn cancelled<R: Wait>(rt: &R, emit: EmitFuture<'_, i64>) -> Option<bool> {
     match emit.cancel(rt) {
         Some((_seat, was_waiting)) => Some(was_waiting),
@@ -37,7 +37,7 @@ fn cancelled<R: Wait>(rt: &R, emit: EmitFuture<'_, i64>) -> Option<bool> {
     }
 }
 
-/// The emission of 7 is pending, and its value is still on its way when it is cancelled.
+/// Emits 7. Checks that the emission is pending, and still waits when it is cancelled.
 fn is_cancelled<R: Wait + RandomSource + AllocGlobal + Abort>(
     rt: &R,
     subscribed: &mut Subscribed<'_>,
@@ -47,7 +47,7 @@ fn is_cancelled<R: Wait + RandomSource + AllocGlobal + Abort>(
     compare(rt, 2, cancelled(rt, emit), Some(true));
 }
 
-/// Then there is nothing to receive. The future gives its subscription back.
+/// Checks that there is nothing to receive after the cancel, and that the future returns its subscription.
 fn receives_nothing<R: Wait + RandomSource + AllocGlobal + Abort>(
     rt: &R,
     subscribed: &mut Subscribed<'_>,
@@ -74,7 +74,7 @@ fn sends<R: Wait + RandomSource + AllocGlobal>(
     matches!(send(rt, flow, seat, 7), Ok(Sent::Done(_)))
 }
 
-/// Receives the next value, if none is refused.
+/// Receives the next value. Returns `None` if memory is refused.
 fn receives<R: Wait + RandomSource + AllocGlobal>(
     rt: &R,
     flow: &SharedFlow<i64>,

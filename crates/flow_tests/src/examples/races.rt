@@ -1,4 +1,4 @@
-//! A cancel and a read that race on two threads: whichever comes first, the subscribers get what is documented of the flow.
+//! A `cancel` and a `next` that race on two threads. Whichever is first, the subscribers receive what is documented.
 use crate::compare::compare;
 use crate::flows::{new_flow, new_reader};
 use crate::handle_calls::{next, try_emit};
@@ -11,13 +11,13 @@ use std::process::Abort;
 use std::sync::Wait;
 use std::thread::{Threads, join, yield_now};
 
-/// The number of races at least.
+/// The least number of races.
 const LEAST_RACES: u32 = 100;
 
-/// The number of races at most. They end earlier when each of the two calls has come first.
+/// The greatest number of races. They end earlier once each of the two calls has been first.
 const MOST_RACES: u32 = 10_000;
 
-/// Waits until the other thread is there. In every fourth run it lets the other thread go first.
+/// Waits until the other thread has begun. In every fourth run it then yields, so that the other thread can be first.
 fn begin(start: &Start, run: u32) {
     start.wait();
     if run % 4 == 0 {
@@ -27,13 +27,13 @@ fn begin(start: &Start, run: u32) {
     }
 }
 
-/// What the reader receives, if anything.
+/// Reads once. Returns the value that the reader receives, if any.
 fn read<R: Wait>(rt: &R, start: &Start, run: u32, reader: &mut Reader<'_, i64>) -> Option<i64> {
     begin(start, run);
     next(rt, reader).unwrap_or(None)
 }
 
-/// Whether the emission waited until it was cancelled.
+/// Cancels the emission. Returns whether it waited until then.
 fn waited<R: Wait>(rt: &R, start: &Start, run: u32, emission: BoundEmission<'_, i64>) -> bool {
     begin(start, run);
     cancel(rt, emission)
@@ -56,8 +56,8 @@ fn read_beside_cancel<R: Threads + Wait + Abort + Sync>(
     )
 }
 
-/// With a buffer of one value, 2 waits for room, and is cancelled while the subscriber makes room. Either the cancel comes first,
-/// and no subscriber receives 2, or the subscriber does. Returns whether the cancel came first.
+/// Emits 2 into a full buffer of one value, and cancels the emission while the subscriber makes room. The subscriber
+/// receives 2 only if its read is first. Returns whether the cancel was first.
 fn waits_for_room<R: Threads + Wait + Abort + Sync>(
     rt: &R,
     run: u32,
@@ -72,8 +72,8 @@ fn waits_for_room<R: Threads + Wait + Abort + Sync>(
     was_waiting
 }
 
-/// Without a buffer, 7 is offered to two subscribers, and is cancelled while one of them reads. The reader receives 7 or nothing,
-/// and the other one nothing. Returns whether the cancel came first.
+/// Offers 7 to two subscribers without a buffer, and cancels the emission while one of them reads. That one receives 7
+/// or nothing, and the other one nothing. Returns whether the cancel was first.
 fn is_offered<R: Threads + Wait + Abort + Sync>(
     rt: &R,
     run: u32,
@@ -89,7 +89,7 @@ fn is_offered<R: Threads + Wait + Abort + Sync>(
     taken == None
 }
 
-/// Races the two calls at a new flow with room for so many values. Returns whether the cancel came first.
+/// Races the two calls at a new flow with room for this number of values. Returns whether the cancel was first.
 fn race<R: Threads + Wait + Abort + Sync>(rt: &R, alloc: Global, run: u32, room: u32) -> bool {
     let (flow, seat) = new_flow(rt, alloc, Config::new().extra(room));
     let mut emitter = flow.emitter(seat);
@@ -99,7 +99,7 @@ fn race<R: Threads + Wait + Abort + Sync>(rt: &R, alloc: Global, run: u32, room:
     }
 }
 
-/// Races the two calls until each of them came first.
+/// Races the two calls until each of them has been first.
 fn race_often<R: Threads + Wait + Abort + Sync>(rt: &R, alloc: Global, room: u32) {
     let mut cancelled_first = 0u32;
     for run in 0..MOST_RACES {

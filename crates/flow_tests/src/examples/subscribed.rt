@@ -1,4 +1,4 @@
-//! A caller of a new flow, and a subscriber, which tests borrow.
+//! A seat and a subscription of a new flow, which tests borrow.
 ghost use Rattle.std.specs.Prelude.{◌≡◌};
 
 use crate::flows::new_flow;
@@ -18,7 +18,7 @@ pub struct Subscribed<'a> {
     ghost subscription_of_flow: { subscription.token.table_id ≡ flow.now.table_id },
 }
 
-/// Subscribes, which is not refused.
+/// Subscribes. Ends the test if that is refused.
 pub fn new_subscription<R: Wait + Abort>(
     rt: &R,
     flow: &SharedFlow<i64>,
@@ -31,7 +31,7 @@ pub fn new_subscription<R: Wait + Abort>(
     flow.subscribe(rt, seat).expect(rt, "a subscription")
 }
 
-/// Lends a new flow's caller and subscriber.
+/// Calls a function with a seat and a subscription of a new flow.
 pub fn lend<R, F>(rt: &R, config: Config, call: F)
 where
     R: Wait + Abort + AllocGlobal,

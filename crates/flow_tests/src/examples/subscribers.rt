@@ -24,7 +24,7 @@ static EXAMPLES: &[Example] = &[
             Next(0, &Empty),
         ],
     },
-    // A slow subscriber loses the oldest.
+    // A slow subscriber loses the oldest value.
     Example {
         kind: Shared(Config {
             extra: 1,
@@ -45,7 +45,7 @@ static EXAMPLES: &[Example] = &[
             Next(0, &Empty),
         ],
     },
-    // A reset leaves old subscribers what they have.
+    // After a reset old subscribers still receive their values.
     Example {
         kind: Shared(Config {
             replay: 2,
@@ -88,7 +88,7 @@ static EXAMPLES: &[Example] = &[
             TryEmit(3, Err(Exhausted)),
         ],
     },
-    // An own value lets an emission wait.
+    // A subscriber's own first value makes an emission wait.
     Example {
         kind: Shared(UNBUFFERED),
         steps: &[
@@ -100,7 +100,7 @@ static EXAMPLES: &[Example] = &[
             Poll(0, false),
         ],
     },
-    // A cancel leaves an own value.
+    // A cancel does not take away a subscriber's own first value.
     Example {
         kind: Shared(UNBUFFERED),
         steps: &[
@@ -119,7 +119,7 @@ static EXAMPLES: &[Example] = &[
         }),
         steps: &[SubscribeWithRefused(&[1, 2], Exhausted)],
     },
-    // A shared flow gives all that is there.
+    // A drain of a shared flow takes all values that the subscriber can receive.
     Example {
         kind: Shared(Config {
             extra: 4,
@@ -138,7 +138,7 @@ static EXAMPLES: &[Example] = &[
         kind: State(u64::MAX),
         steps: &[Subscribe, Set(5), Drain(0, 9, Drained::Empty, &[5])],
     },
-    // A subscriber gets no value twice in a row.
+    // A subscriber receives no value twice in a row.
     Example {
         kind: State(u64::MAX),
         steps: &[

@@ -10,7 +10,7 @@ use std::process::Abort;
 use std::sync::Wait;
 use std::thread::{Threads, join};
 
-/// Sets a value. Returns whether it is read then, or the one that another thread set.
+/// Sets a value, and reads the current one. Returns whether that is a value that one of the two threads set.
 fn reads_what_was_set<R: Wait>(
     rt: &R,
     flow: &StateFlow<i64>,
@@ -23,7 +23,7 @@ fn reads_what_was_set<R: Wait>(
     found == Ok(9) || found == Ok(4)
 }
 
-/// Two set 9 and 4 at once, and each reads one of these.
+/// Sets 9 and 4 from two threads at once. Checks that each thread reads one of these.
 fn set_from_two_threads<R: Threads + Wait + Abort + Sync>(
     rt: &R,
     flow: &StateFlow<i64>,
@@ -51,7 +51,7 @@ fn a_thread_reads_what_it_set_or_what_another_set(rt: HostRuntime) {
     compare(&rt, 1, value == 9 || value == 4, true);
 }
 
-/// Emits a value that the flow takes, and gives the seat back.
+/// Emits a value that the flow takes, and returns the seat.
 fn emit<R: Wait + Abort>(rt: &R, flow: &SharedFlow<i64>, seat: Seat<i64>, value: i64) -> Seat<i64>
     requires { seat.table_id ≡ flow.now.table_id }
     ensures { result.table_id ≡ flow.now.table_id }
@@ -61,7 +61,7 @@ fn emit<R: Wait + Abort>(rt: &R, flow: &SharedFlow<i64>, seat: Seat<i64>, value:
     seat
 }
 
-/// Sends the seat to a new thread, which emits the value. The seat comes back when that thread has ended.
+/// Sends the seat to a new thread, which emits the value. Returns the seat once that thread has ended.
 fn emit_on_a_thread<R: Wait + Threads + Abort + Sync>(
     rt: &R,
     flow: &SharedFlow<i64>,
@@ -75,7 +75,7 @@ fn emit_on_a_thread<R: Wait + Threads + Abort + Sync>(
     seat
 }
 
-/// The flow that is closed then has what both threads emitted, and no subscriber.
+/// The flow, once it is closed, has the values that both threads emitted, and no subscriber.
 #[test]
 fn a_seat_goes_to_two_threads_in_turn(rt: HostRuntime) {
     let (flow, seat) = new_flow(&rt, rt.alloc(), Config::new().replay(2));

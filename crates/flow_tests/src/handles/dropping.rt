@@ -1,4 +1,4 @@
-//! A flow that ends while a task sleeps.
+//! A flow that is dropped while a task sleeps.
 ghost use Rattle.std.specs.Prelude.{◌≡◌};
 
 use crate::compare::compare;
@@ -9,14 +9,14 @@ use futures::test::MockTask;
 use std::process::Abort;
 use std::sync::Wait;
 
-/// Polls a future, and takes the subscription out of it. Its waker stays in the flow. Returns whether it still had the
-/// subscription, since it waits.
+/// Polls a future, and takes the subscription out of it; its waker stays in the flow. Returns whether the future was
+/// pending and still had the subscription.
 fn poll_and_leave(task: &MockTask, mut future: ReceiveFuture<'_, i64>) -> bool {
     let waits = task.poll(&mut future).is_pending();
     waits & future.into_subscription().is_some()
 }
 
-/// Leaves the task's waker in the flow, and gives the seat back.
+/// Leaves the task's waker in the flow, and returns the seat.
 fn leave_waker<R: Wait + Abort>(
     rt: &R,
     task: &MockTask,
@@ -32,7 +32,7 @@ fn leave_waker<R: Wait + Abort>(
     emitter.into_seat()
 }
 
-/// A flow that ends wakes the tasks whose wakers it has.
+/// A flow that is dropped wakes the tasks whose wakers it has.
 #[test]
 fn the_end_of_a_flow_wakes_its_sleepers(rt: HostRuntime) {
     let (flow, seat) = new_flow(&rt, rt.alloc(), Config::new());

@@ -1,4 +1,4 @@
-//! Emissions that wait, through a handle.
+//! Emissions that wait, by handles.
 use crate::compare::compare;
 use crate::handle_calls::next;
 use crate::handles::answers::pause;
@@ -7,7 +7,7 @@ use std::process::Abort;
 use std::sync::Wait;
 use std::time::Clock;
 
-/// Returns the emission, which has to wait.
+/// Returns the emission. Ends the test unless it has to wait.
 pub fn queued<'a, R: Abort, E: Drop>(
     rt: &R,
     answer: EmitAnswer<'a, i64, E>,
@@ -19,7 +19,7 @@ pub fn queued<'a, R: Abort, E: Drop>(
     }
 }
 
-/// Emits a value by another handle, which has to wait.
+/// Emits a value by another handle. Returns the emission, which has to wait.
 pub fn emission_of<'a, R: Wait + Abort>(
     rt: &R,
     emitter: &mut Emitter<'a, i64>,
@@ -45,7 +45,7 @@ fn try_poll<'a>(emission: BoundEmission<'a, i64>) -> Option<BoundEmission<'a, i6
     }
 }
 
-/// Emits a value without a buffer: the emission waits until the subscriber has it.
+/// Emits a value without a buffer. Checks that the emission waits until the subscriber has received it.
 pub fn poll_until_received<R: Wait + Abort>(
     rt: &R,
     emitter: &mut Emitter<'_, i64>,
@@ -73,7 +73,7 @@ pub fn try_cancel(emission: BoundEmission<'_, i64>) -> bool {
     }
 }
 
-/// Emits a value, and cancels its emission when another one waits behind it. Returns whether it waited.
+/// Emits a value, and cancels its emission once another one waits behind it. Returns whether it waited.
 pub fn cancel_late<R: Wait + Clock + Abort>(
     rt: &R,
     emitter: &mut Emitter<'_, i64>,

@@ -36,7 +36,7 @@ fn each_error_stands_for_a_fault(rt: HostRuntime) {
     }
 }
 
-/// What `?` makes of a refusal that hands its value back.
+/// Returns the fault that `?` makes of a refusal that hands its value back.
 fn fault_of(answer: Result<(), Rejected<i64, Busy>>) -> Result<(), FlowFault> {
     answer?;
     Ok(())

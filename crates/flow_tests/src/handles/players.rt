@@ -1,5 +1,4 @@
-//! The calls of worked examples are made on handles, whatever flow these are of. Call 7 of example 3 has the place 307, all
-//! counted from 0.
+//! Makes the calls of worked examples on handles of any flow. Call 7 of example 3, counted from 0, has the place 307.
 use std::alloc::AllocGlobal;
 use std::process::Abort;
 use std::random::RandomSource;
@@ -7,9 +6,9 @@ use std::sync::Wait;
 use std::thread::{Threads, join};
 use std::time::Clock;
 
-/// Handles on which calls of a kind are made.
+/// Handles that make calls of one kind.
 pub trait Makes<C> {
-    /// Makes a call, and compares what it answers.
+    /// Makes a call, and compares what it returns.
     fn make<R: Wait + Clock + Abort + RandomSource + AllocGlobal>(
         &mut self,
         rt: &R,
@@ -18,9 +17,9 @@ pub trait Makes<C> {
     );
 }
 
-/// Readers that have an end of a kind.
+/// Readers that end in ways of one kind.
 pub trait Ends<E> {
-    /// Makes an end, and compares what comes of it.
+    /// Ends the reader in this way, and compares the result.
     fn end<R: Wait + Abort + RandomSource + AllocGlobal>(self, rt: &R, place: usize, end: &E);
 }
 
@@ -35,7 +34,7 @@ where
     }
 }
 
-/// Makes all calls of a thread that reads, and the end of its reader.
+/// Makes all calls of a thread that reads, and ends its reader.
 fn read_all<R, C, E, H>(rt: &R, mut reader: H, place: usize, calls: &[C], end: &E)
 where
     R: Wait + Clock + Abort + RandomSource + AllocGlobal,
@@ -45,7 +44,7 @@ where
     reader.end(rt, place, end);
 }
 
-/// Makes these calls on one thread, and those of a reader on another one. The latter have places from 50 on.
+/// Makes these calls on one thread, and those of a reader on another one, whose places begin at 50.
 pub fn meet<R, C, E, S, D>(
     rt: &R,
     handle: &mut S,

@@ -1,5 +1,5 @@
-//! Waits whose requests for memory are refused, each in turn. A thread without memory for its waker lets other threads go
-//! first and asks again, so the answer is the one that it has with memory.
+//! Waits whose requests for memory are refused, one in each run. A thread without memory for its waker yields and tries
+//! again, so the wait returns the same as with memory.
 use crate::compare::compare;
 use crate::flows::{new_reader, new_state_reader};
 use flow_law::{Config, Rejected};
@@ -10,14 +10,14 @@ use std::process::Abort;
 use std::sync::Wait;
 use std::time::{Clock, Duration};
 
-/// More requests than one wait makes.
+/// A number greater than that of the requests of one wait.
 const REQUESTS: u64 = 6;
 
 fn a_millisecond() -> Duration {
     Duration::from_millis(1)
 }
 
-/// Sends a value, and again if it is refused. Returns whether it was taken.
+/// Sends a value, and once more if it is refused. Returns whether it was taken.
 fn send_again<R: Wait + Clock, A: Allocator + Copy>(
     rt: &R,
     emitter: &mut Emitter<'_, i64, A>,
@@ -29,7 +29,7 @@ fn send_again<R: Wait + Clock, A: Allocator + Copy>(
     }
 }
 
-/// Nothing comes in time, whatever is refused. Then a value comes, and the next one finds no room in time.
+/// Checks that nothing is received in time, and that a value finds no room in time, whichever request is refused.
 fn waits_in_vain<R: Wait + Clock + Abort, A: Allocator + Copy>(
     rt: &R,
     emitter: &mut Emitter<'_, i64, A>,
@@ -45,7 +45,7 @@ fn waits_in_vain<R: Wait + Clock + Abort, A: Allocator + Copy>(
     compare(rt, 1, sent, Some(SendEnd::Cancelled));
 }
 
-/// Makes a flow and a reader, which are not refused memory, and refuses one request of each wait.
+/// Makes a flow and a reader without a refusal, and then refuses one request of each wait.
 fn refuse_waits<R: Wait + Clock + Abort, A: Allocator + Copy>(
     rt: &R,
     memory: A,
@@ -72,7 +72,7 @@ fn exceeds_eight(value: &i64) -> bool {
     *value > 8
 }
 
-/// The state does not change in time, whatever is refused.
+/// Checks that the state does not change in time, whichever request is refused.
 fn changes_in_vain<R: Wait + Clock + Abort, A: Allocator + Copy>(
     rt: &R,
     setter: &mut Setter<'_, i64, A>,
@@ -90,7 +90,7 @@ fn changes_in_vain<R: Wait + Clock + Abort, A: Allocator + Copy>(
     compare(rt, 2, found, Ok(None));
 }
 
-/// Makes a state flow and a reader, which are not refused memory, and refuses one request of each wait.
+/// Makes a state flow and a reader without a refusal, and then refuses one request of each wait.
 fn refuse_state_waits<R: Wait + Clock + Abort, A: Allocator + Copy>(
     rt: &R,
     memory: A,

@@ -2,7 +2,7 @@
 use flow_law::{Config, OutOfMemory, Overflow};
 use flow_shared::DrainEnd;
 
-/// How many milliseconds an hour has. No test takes so long: a sleeper that is not woken fails.
+/// An hour in milliseconds. No test takes this long: a sleeper that is not woken fails.
 const HOUR: u64 = 3_600_000;
 
 /// A worked example: the configuration of a flow, and calls on its handles.
@@ -18,74 +18,74 @@ pub struct Meeting {
     pub emits: &'static [Call],
     /// The calls of another emitter and of the only reader, on the other thread.
     pub reads: &'static [Call],
-    /// What comes of the reader then.
+    /// How the reader ends.
     pub end: End,
 }
 
-/// The end of a reader.
+/// How a reader ends.
 pub enum End {
     Unsubscribe,
     Drop,
-    /// Its stream gives these.
+    /// Its stream gives these items.
     Stream(&'static [Result<i64, OutOfMemory>]),
 }
 
-/// A call, and what it answers.
+/// A call, and what it returns.
 #[derive(Drop)]
 pub enum Call {
     /// The value, and whether the flow took it.
     TryEmit(i64, bool),
-    /// No number is left, and the value comes back.
+    /// The value, which is handed back, since no number is left.
     TryEmitRefused(i64),
     Send(i64),
-    /// No number is left, and the value comes back.
+    /// The value, which is handed back, since no number is left.
     SendRefused(i64),
-    /// How many milliseconds it waits at most, and the value, which the flow takes.
+    /// The most milliseconds that it waits, and the value, which the flow takes.
     SendInTime(u64, i64),
     /// Sends the numbers from 1 to this one.
     SendUpTo(i64),
-    /// How many subscribers there are.
+    /// The number of subscribers.
     Count(u64),
     TryCount(u64),
-    /// How many values the cache has.
+    /// The number of values in the replay cache.
     CacheLength(usize),
     Reset,
     TryReset,
     Seen,
-    /// Another emitter and another reader meet the emitter, and leave.
+    /// The emitter meets another emitter and another reader, which are then dropped.
     Meet,
-    /// An emitter that is made through the reader emits the value.
+    /// An emitter that is made by the reader emits the value.
     EmitByReader(i64),
     /// The value is emitted while there is another reader, which is dropped.
     EmitBesideReader(i64),
     /// Whether another reader gets a number.
     Subscribe(bool),
-    /// The same, with values of its own, of which there are none.
+    /// Whether another reader gets a number, with an empty list of first values of its own.
     SubscribeWith(bool),
     Next(Option<i64>),
     TryNext(Option<i64>),
     Receive(i64),
-    /// How many milliseconds it waits at most, and what comes.
+    /// The most milliseconds that it waits, and what it receives.
     ReceiveInTime(u64, Option<i64>),
-    /// Receives the second value, and may receive the first one before.
+    /// Receives the second value, and may receive the first one before it.
     ReceiveAfter(i64, i64),
-    /// How many values are taken at most, how it ends, and how many were there.
+    /// The most values that are taken, how the drain ends, and how many values it took.
     Drain(usize, DrainEnd, usize),
-    /// Receives the numbers from 1 to this one. Another reader comes and goes before each of them.
+    /// Receives the numbers from 1 to this one. Another reader subscribes and is dropped before each of them.
     ReceiveBesideReaders(i64),
     /// The emission of the value waits until the reader has received it.
     PollUntilReceived(i64),
     /// The emission of the value waits, and is cancelled.
     Cancel(i64),
     TryCancel(i64),
-    /// It is cancelled when another emission waits behind it.
+    /// The emission is cancelled once another one waits behind it.
     CancelLate(i64),
     DropEmission(i64),
-    /// A future that sends the value, and whether it waits. It is dropped.
+    /// The value that a future sends, and whether the future waits. It is dropped.
     PollSend(i64, bool),
-    /// What a future of a new reader receives. It is dropped.
+    /// The value that a future of a new reader receives. The future is dropped.
     PollReceive(Option<i64>),
-    /// A future of a new reader loses a `select` before it is polled. It is dropped.
+    /// A future of a new reader loses a `select` before it is polled, and is dropped.
     LoseSelect,
     /// Lets the other thread fall asleep.
     Pause,
@@ -107,7 +107,7 @@ const UNBUFFERED: Config = Config {
 };
 
 pub static EXAMPLES: &[Example] = &[
-    // An emitter emits what its reader reads. The flow has a cache of one value and room for one more.
+    // A reader receives what its emitter emits. The flow has a replay cache of one value and room for one more.
     Example {
         config: Config {
             replay: 1,
@@ -135,7 +135,7 @@ pub static EXAMPLES: &[Example] = &[
             Seen,
         ],
     },
-    // An emitter that was made through a reader emits as the first does. Another reader that left is no longer counted.
+    // An emitter that a reader made emits like the first one. Another reader is no longer counted once it is dropped.
     Example {
         config: Config {
             extra: 8,
@@ -150,8 +150,8 @@ pub static EXAMPLES: &[Example] = &[
             Next(Some(2)),
         ],
     },
-    // A value that is there is received at once. A wait ends in time: as `withTimeoutOrNull`, null if nothing came, and
-    // else the value.
+    // A value that was emitted is received at once. A wait ends in time, like `withTimeoutOrNull`: with the value, or
+    // with null if none was emitted.
     Example {
         config: Config {
             extra: 2,
@@ -168,7 +168,7 @@ pub static EXAMPLES: &[Example] = &[
             ReceiveInTime(0, None),
         ],
     },
-    // A refusal hands the value back: two readers got the two numbers.
+    // A refusal hands the value back. The two numbers were issued to two readers.
     Example {
         config: Config {
             extra: 8,
@@ -198,8 +198,8 @@ pub static EXAMPLES: &[Example] = &[
             TryEmit(2, true),
         ],
     },
-    // A future that waits for a value and is dropped ends its subscription, after a poll, and before one if it loses a
-    // `select`. A value goes from one future to another.
+    // A future that waits for a value ends its subscription when it is dropped, after a poll, or before its first poll
+    // if it loses a `select`. A value that one future sends is received by another one.
     Example {
         config: Config {
             replay: 1,
@@ -215,7 +215,7 @@ pub static EXAMPLES: &[Example] = &[
             Next(Some(6)),
         ],
     },
-    // A flow without a buffer: an emission waits until the subscriber has its value. No reader receives the value of a
+    // Without a buffer an emission waits until the subscriber has received its value. No reader receives the value of a
     // cancelled or dropped emission or of a dropped future.
     Example {
         config: UNBUFFERED,
@@ -231,7 +231,7 @@ pub static EXAMPLES: &[Example] = &[
 ];
 
 pub static MEETINGS: &[Meeting] = &[
-    // Without a buffer `emit` suspends until each subscriber has received the value, or has left.
+    // Without a buffer `emit` suspends until each subscriber has received the value, or has unsubscribed.
     Meeting {
         config: UNBUFFERED,
         emits: &[SendInTime(HOUR, 7), Count(0)],
@@ -244,15 +244,15 @@ pub static MEETINGS: &[Meeting] = &[
         reads: &[Pause],
         end: End::Drop,
     },
-    // The subscriber gets 2 only, after 1 was cancelled.
+    // The subscriber receives only 2, since 1 was cancelled.
     Meeting {
         config: UNBUFFERED,
         emits: &[Pause, SendInTime(HOUR, 2)],
         reads: &[CancelLate(1), ReceiveInTime(HOUR, Some(2))],
         end: End::Drop,
     },
-    // A reader sleeps while another one leaves and an emission is dropped, and gets the next value: 6 or 7, since a
-    // subscriber that is there may receive an offered value before it is withdrawn.
+    // A reader sleeps while another reader and an emission are dropped, and receives the next value: 6 or 7, since a
+    // subscriber may receive an offered value before it is cancelled.
     Meeting {
         config: UNBUFFERED,
         emits: &[Pause, Meet, DropEmission(6), SendInTime(HOUR, 7)],
@@ -266,7 +266,7 @@ pub static MEETINGS: &[Meeting] = &[
         reads: &[ReceiveInTime(HOUR, Some(1))],
         end: End::Drop,
     },
-    // Each emission waits for every subscriber that there is, and only a drop ends the others.
+    // Each emission waits for every subscriber, and the other readers end only by a drop.
     Meeting {
         config: UNBUFFERED,
         emits: &[SendUpTo(2000)],

@@ -1,4 +1,4 @@
-//! Calls on an emitter of a shared flow, each with what it is to answer.
+//! Makes calls on an emitter of a shared flow, and compares what they return.
 use crate::compare::{compare, no_such_call};
 use crate::flows::new_reader;
 use crate::handle_calls::{send, try_emit};
@@ -45,7 +45,7 @@ impl<'a> Makes<Call> for Emitter<'a, i64> {
     }
 }
 
-/// Makes a call that counts or resets, and compares what it answers.
+/// Makes a call that counts or resets, and compares what it returns.
 fn ask<R: Wait + Clock + Abort + RandomSource + AllocGlobal>(
     rt: &R,
     emitter: &mut Emitter<'_, i64>,
@@ -71,7 +71,7 @@ fn emit_beside_reader<R: Wait + Abort>(rt: &R, emitter: &mut Emitter<'_, i64>, v
     try_emit(rt, emitter, value) == Ok(true)
 }
 
-/// Another emitter and another reader meet the emitter, and leave.
+/// Lets the emitter meet another emitter and another reader, and drops these.
 fn meet<R: Wait + Abort>(rt: &R, emitter: &mut Emitter<'_, i64>) {
     let mut other = emitter.another();
     emitter.meet(&mut other);
@@ -84,7 +84,7 @@ fn subscribe_with<R: Wait + AllocGlobal>(rt: &R, emitter: &mut Emitter<'_, i64>)
     emitter.subscribe_with(rt, Vec::new(rt.alloc())).is_ok()
 }
 
-/// Makes a call of another emitter or reader, and compares what it answers.
+/// Makes a call of another emitter or reader, and compares what it returns.
 fn call_another<R: Wait + Clock + Abort + RandomSource + AllocGlobal>(
     rt: &R,
     emitter: &mut Emitter<'_, i64>,
@@ -104,7 +104,7 @@ fn call_another<R: Wait + Clock + Abort + RandomSource + AllocGlobal>(
     }
 }
 
-/// Emits a value at once, and cancels its emission. Returns whether it waited.
+/// Emits a value without waiting for other callers, and cancels its emission. Returns whether it waited.
 fn emit_now_and_cancel<R: Wait + Abort>(
     rt: &R,
     emitter: &mut Emitter<'_, i64>,
@@ -113,7 +113,7 @@ fn emit_now_and_cancel<R: Wait + Abort>(
     cancel(rt, queued(rt, emitter.another().emit_now(value)))
 }
 
-/// Makes a call of an emission or a future of its own, and compares what it answers.
+/// Makes a call of a new emission or future, and compares what it returns.
 fn wait<R: Wait + Clock + Abort + RandomSource + AllocGlobal>(
     rt: &R,
     emitter: &mut Emitter<'_, i64>,
@@ -143,7 +143,7 @@ fn send_up_to<R: Wait>(rt: &R, emitter: &mut Emitter<'_, i64>, last: i64) -> boo
     true
 }
 
-/// Makes one of the other calls, and compares what it answers.
+/// Makes one of the other calls, and compares what it returns.
 fn go_on<R: Wait + Clock + Abort + RandomSource + AllocGlobal>(
     rt: &R,
     emitter: &mut Emitter<'_, i64>,

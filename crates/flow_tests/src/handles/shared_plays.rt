@@ -1,4 +1,4 @@
-//! The worked examples over shared flows are played.
+//! Plays the worked examples over shared flows.
 ghost use Rattle.std.specs.Prelude.{◌≡◌};
 
 use crate::flows::{new_flow, new_reader};
@@ -13,7 +13,7 @@ use std::sync::Wait;
 use std::thread::Threads;
 use std::time::Clock;
 
-/// Subscribes. Returns the reader that the subscription makes when it is bound again.
+/// Subscribes, takes the subscription out of its reader, and returns a reader that is bound to it again.
 fn bound_again<'a, R: Wait + Abort>(
     rt: &R,
     flow: &'a SharedFlow<i64>,
@@ -43,7 +43,7 @@ fn calls_of_shared_flows(rt: HostRuntime) {
     }
 }
 
-/// Plays an example on two threads. The calls of the thread that reads have places from 50 on.
+/// Plays an example on two threads. The places of the calls of the reading thread begin at 50.
 fn play_meeting<R: Wait + Clock + Threads + Abort + RandomSource + AllocGlobal + Sync>(
     rt: &R,
     place: usize,

@@ -1,4 +1,4 @@
-//! Calls on a reader of a shared flow, each with what it is to answer.
+//! Makes calls on a reader of a shared flow, and compares what they return.
 use crate::compare::{compare, no_such_call};
 use crate::flows::new_reader;
 use crate::handle_calls::{next, receive, try_emit};
@@ -25,12 +25,12 @@ fn drain<R: Wait + AllocGlobal>(
     (end, values.len())
 }
 
-/// Emits a value by an emitter that is made through the reader. Returns whether it was taken.
+/// Emits a value by an emitter that the reader makes. Returns whether it was taken.
 fn emit_by_reader<R: Wait>(rt: &R, reader: &mut Reader<'_, i64>, value: i64) -> bool {
     try_emit(rt, &mut reader.another(), value) == Ok(true)
 }
 
-/// Returns whether the last value comes, as the next one or after the first one.
+/// Returns whether the reader receives the value `last`, either next or after the value `first`.
 fn receive_after<R: Wait>(rt: &R, reader: &mut Reader<'_, i64>, first: i64, last: i64) -> bool {
     let received = receive(rt, reader);
     if received == Ok(first) {
@@ -39,7 +39,7 @@ fn receive_after<R: Wait>(rt: &R, reader: &mut Reader<'_, i64>, first: i64, last
     received == Ok(last)
 }
 
-/// Makes a call of the reader, and compares what it answers.
+/// Makes a call of the reader, and compares what it returns.
 fn read<R: Wait + Clock + Abort + AllocGlobal>(
     rt: &R,
     reader: &mut Reader<'_, i64>,
@@ -67,8 +67,7 @@ fn read<R: Wait + Clock + Abort + AllocGlobal>(
     }
 }
 
-/// Receives the numbers from 1 to the last one, and has another reader come and go before each of them. Returns whether
-/// all came.
+/// Receives the numbers from 1 to `last`; makes and drops another reader before each. Returns whether it got all.
 fn receive_beside_readers<R: Wait + Abort>(
     rt: &R,
     emitter: &mut Emitter<'_, i64>,
@@ -92,7 +91,7 @@ pub struct Handles<'a> {
 }
 
 impl<'a> Handles<'a> {
-    /// A reader, and an emitter that is made through it.
+    /// Returns a reader, and an emitter that it makes.
     pub fn of(mut reader: Reader<'a, i64>) -> Handles<'a> {
         Handles {
             emitter: reader.another(),
@@ -129,7 +128,7 @@ impl<'a> Makes<Call> for Handles<'a> {
     }
 }
 
-/// The stream of a reader gives these values.
+/// Compares the values that the stream of a reader gives.
 fn read_stream<R: Wait + Abort + RandomSource + AllocGlobal>(
     rt: &R,
     reader: Reader<'_, i64>,

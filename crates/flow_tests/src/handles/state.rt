@@ -1,69 +1,69 @@
 //! Worked examples over setters and readers of state flows, on one thread and on two. Each flow begins with the value 7.
 
-/// A worked example on two threads. The reader has got 7 before.
+/// A worked example on two threads. The reader has received 7 before.
 pub struct Meeting {
     /// The calls of a setter, on one thread.
     pub sets: &'static [Call],
     /// The calls of the only reader, on the other thread.
     pub reads: &'static [Call],
-    /// What comes of the reader then.
+    /// How the reader ends.
     pub end: End,
 }
 
-/// The end of a reader.
+/// How a reader ends.
 pub enum End {
     Drop,
-    /// A future of it gives the value, and no other one comes.
+    /// Its future gives this value, and it receives no other one.
     Changed(i64),
-    /// The next value of its stream is this one.
+    /// Its stream gives this value next.
     Stream(i64),
 }
 
-/// A call of a state flow or a word state, and what it answers. Either has most of them.
+/// A call of a state flow or a word state, and what it returns. Each of them has most of these calls.
 #[derive(Drop)]
 pub enum Call {
     Value(i64),
     Set(i64),
     TrySet(i64),
     TryEmit(i64),
-    /// The value that is expected, the new one, and whether it was set.
+    /// The expected value, the new one, and whether it was set.
     CompareAndSet(i64, i64, bool),
     /// Sets the numbers from 8 to this one.
     SetUpTo(i64),
-    /// A state flow does not support it.
+    /// A state flow refuses this call as unsupported.
     Reset,
-    /// How many subscribers there are.
+    /// The number of subscribers.
     Count(u64),
-    /// How many values the cache has.
+    /// The number of values in the replay cache.
     CacheLength(usize),
     Seen,
-    /// Adds one. A state flow has no memory for a value above 7, so not all of them are done.
+    /// Adds one, and whether that is done. The function for a state flow refuses a sum above 7 as out of memory.
     Update(bool),
-    /// Adds one, and answers the value before.
+    /// Adds one, and returns the value before.
     GetAndUpdate(Option<i64>),
-    /// Adds one, and answers the value after.
+    /// Adds one, and returns the value after.
     UpdateAndGet(Option<i64>),
     Next(Option<i64>),
     TryNext(Option<i64>),
     ReaderSeen,
     Changed(i64),
-    /// How many milliseconds it waits at most, and what comes.
+    /// The most milliseconds that it waits, and what it receives.
     ChangedInTime(u64, Option<i64>),
-    /// Waits for changes until the value is this one. Each value is above the one before.
+    /// Waits for changes until the value is this one. Each value is greater than the one before.
     Follow(i64),
-    /// Waits for a value that is greater than the first number.
+    /// Waits for a value that is greater than the first number, and receives the second one.
     WaitFor(i64, i64),
-    /// How many milliseconds it waits at most for a value that is greater than the next number, and what comes.
+    /// The most milliseconds that it waits for a value greater than the next number, and what it receives.
     WaitInTime(u64, i64, Option<i64>),
-    /// How many subscribers there are beside another reader, which is dropped.
+    /// The number of subscribers while there is another reader, which is then dropped.
     CountBesideReader(u64),
-    /// How many subscribers there are beside a stream, which is dropped.
+    /// The number of subscribers while there is a stream, which is then dropped.
     CountBesideStream(u64),
-    /// Another setter and another reader meet this setter.
+    /// The setter meets another setter and another reader.
     Meet,
-    /// Another reader leaves. So many subscribers are left.
+    /// The number of subscribers after another reader has unsubscribed.
     Unsubscribe(u64),
-    /// The first value of another reader, which went through a future and leaves at once.
+    /// The first value of another reader, which was in a future before, and unsubscribes after it.
     NextOfNew(i64),
     /// Lets the other thread fall asleep.
     Pause,
@@ -76,7 +76,7 @@ use Call::{
 };
 
 pub static STATE: &[&[Call]] = &[
-    // A setter sets what its reader reads.
+    // A reader reads what its setter sets.
     &[
         Value(7),
         Set(1),
@@ -99,14 +99,14 @@ pub static STATE: &[&[Call]] = &[
         TryNext(None),
         ReaderSeen,
     ],
-    // A stream that is dropped ends its subscription, and so does a reader that leaves at once. A new reader gets the
-    // state, and a future that is not polled gives its reader back.
+    // A stream that is dropped ends its subscription, and `try_unsubscribe` ends that of a reader. A new reader
+    // receives the state, and a future that was not polled returns its reader.
     &[CountBesideStream(2), Count(1), NextOfNew(7), Count(1)],
 ];
 
 /// Examples that hold of state flows and of word states.
 pub static WAITS: &[&[Call]] = &[
-    // Values that are set between two calls are conflated, and an equal value is no new one.
+    // Values that are set between two calls are conflated, and an equal value is not received again.
     &[
         Next(Some(7)),
         Set(1),
@@ -115,7 +115,7 @@ pub static WAITS: &[&[Call]] = &[
         Set(5),
         Next(Some(5)),
     ],
-    // `StateFlow.first { }` tests the current value first. The reader has not got it.
+    // `StateFlow.first { }` tests the current value first, whether or not the reader has received it.
     &[
         WaitFor(6, 7),
         Next(None),
@@ -129,7 +129,7 @@ pub static WAITS: &[&[Call]] = &[
         WaitInTime(0, 10, None),
         Next(None),
     ],
-    // As `withTimeoutOrNull`: null if nothing came in time, and else the value.
+    // Like `withTimeoutOrNull`: null if no value was set in time, and otherwise the value.
     &[
         ChangedInTime(1, Some(7)),
         ChangedInTime(1, None),
@@ -155,7 +155,7 @@ pub static MEETINGS: &[Meeting] = &[
         reads: &[WaitFor(9, 10)],
         end: End::Drop,
     },
-    // A reader skips values, and gets none twice.
+    // A reader skips values, and receives none twice.
     Meeting {
         sets: &[SetUpTo(2000)],
         reads: &[Follow(2000)],

@@ -1,4 +1,4 @@
-//! Calls on a setter and a reader of a state flow, each with what it is to answer.
+//! Makes calls on a setter and a reader of a state flow, and compares what they return.
 use crate::compare::{compare, no_such_call};
 use crate::flows::new_state_reader;
 use crate::handles::answers::{length, pause};
@@ -14,7 +14,7 @@ use std::random::RandomSource;
 use std::sync::Wait;
 use std::time::{Clock, Duration};
 
-/// Adds one, if that is not above 7.
+/// Adds one. Fails with `OutOfMemory` if the sum is above 7.
 fn one_more(value: &i64) -> Result<i64, OutOfMemory> {
     if *value < 7 {
         Ok(value.wrapping_add(1))
@@ -44,7 +44,7 @@ impl<'a> Makes<Call> for Setter<'a, i64> {
     }
 }
 
-/// Makes a call that looks at the flow or updates the value, and compares what it answers.
+/// Makes a call that reads from the flow or updates the value, and compares what it returns.
 fn ask<R: Wait + Clock + Abort>(rt: &R, setter: &mut Setter<'_, i64>, place: usize, call: &Call) {
     match *call {
         Call::Value(value) => compare(rt, place, setter.value(rt), Ok(value)),
@@ -71,7 +71,7 @@ fn count_beside_stream<R: Wait + Abort>(rt: &R, setter: &mut Setter<'_, i64>) ->
     setter.subscription_count(rt)
 }
 
-/// The first value of a new reader, which went through a future and leaves at once.
+/// Returns the first value of a new reader, which was in a future before, and unsubscribes it.
 fn next_of_new<R: Wait + Abort>(rt: &R, setter: &mut Setter<'_, i64>) -> Option<i64> {
     let mut reader = new_state_reader(rt, setter).into_changed().into_reader()?;
     let value = reader.next(rt).unwrap_or(None);
@@ -89,7 +89,7 @@ fn set_up_to<R: Wait>(rt: &R, setter: &mut Setter<'_, i64>, last: i64) {
     }
 }
 
-/// Makes a call of another reader, or one of the other calls, and compares what it answers.
+/// Makes a call of another reader, or one of the other calls, and compares what it returns.
 fn call_new<R: Wait + Clock + Abort>(
     rt: &R,
     setter: &mut Setter<'_, i64>,
@@ -107,7 +107,7 @@ fn call_new<R: Wait + Clock + Abort>(
     }
 }
 
-/// Follows a state until it is the last value. Returns whether each value was above the one before.
+/// Receives changes until the state is `last`. Returns whether each value was greater than the one before.
 fn follow<R: Wait>(rt: &R, reader: &mut StateReader<'_, i64>, last: i64) -> bool {
     let mut before = 0i64;
     for _ in rt.forever() {
@@ -137,7 +137,7 @@ impl<'a> Makes<Call> for StateReader<'a, i64> {
     }
 }
 
-/// Awaits a change, and looks for another one.
+/// Awaits a change, and then takes the next value, if there is one.
 fn change_and_next<R: Wait + RandomSource + AllocGlobal>(
     rt: &R,
     reader: StateReader<'_, i64>,
@@ -146,7 +146,7 @@ fn change_and_next<R: Wait + RandomSource + AllocGlobal>(
     Some((value.ok()?, reader.next(rt).ok()?))
 }
 
-/// The next value of a stream of the reader.
+/// Returns the next value of a stream of the reader.
 fn next_of_stream<R: Wait + Abort + RandomSource + AllocGlobal>(
     rt: &R,
     reader: StateReader<'_, i64>,
@@ -166,7 +166,7 @@ impl<'a> Ends<End> for StateReader<'a, i64> {
     }
 }
 
-/// Makes a call of the reader that may wait, and compares what it answers.
+/// Makes a call of the reader that may wait, and compares what it returns.
 fn wait<R: Wait + Clock + Abort>(
     rt: &R,
     reader: &mut StateReader<'_, i64>,

@@ -1,4 +1,4 @@
-//! A setter and a reader of a state, whatever keeps the state.
+//! A setter and a reader of a state flow or a word state.
 use crate::handles::players::Makes;
 use crate::handles::state::Call;
 use std::alloc::AllocGlobal;
@@ -7,7 +7,7 @@ use std::random::RandomSource;
 use std::sync::Wait;
 use std::time::Clock;
 
-/// Whether a call is one of the reader.
+/// Returns whether a call is one of the reader.
 fn is_of_reader(call: &Call) -> bool {
     matches!(
         *call,

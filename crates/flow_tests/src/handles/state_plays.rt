@@ -1,4 +1,4 @@
-//! The worked examples over state flows are played.
+//! Plays the worked examples over state flows.
 use crate::flows::{new_state_flow, new_state_reader};
 use crate::handles::players::{Makes, make_all, meet};
 use crate::handles::state::{Call, MEETINGS, Meeting, STATE, WAITS};

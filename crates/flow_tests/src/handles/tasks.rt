@@ -21,7 +21,7 @@ fn poll_and_drop<R: Wait + Abort + RandomSource + AllocGlobal, F: Future<Output:
     task.poll(&mut future).is_pending()
 }
 
-/// Whether a future that sends this value waited. It is dropped.
+/// Polls a future that sends this value, and drops it. Returns whether it waited.
 pub fn poll_send<R: Wait + Abort + RandomSource + AllocGlobal>(
     rt: &R,
     emitter: &mut Emitter<'_, i64>,
@@ -30,7 +30,7 @@ pub fn poll_send<R: Wait + Abort + RandomSource + AllocGlobal>(
     poll_and_drop(rt, emitter.another().into_send(value))
 }
 
-/// A future of a new reader, which receives a value.
+/// Returns a future of a new reader, which receives a value.
 fn new_future<'a, R: Wait + Abort>(
     rt: &R,
     emitter: &mut Emitter<'a, i64>,
@@ -38,7 +38,7 @@ fn new_future<'a, R: Wait + Abort>(
     new_reader(rt, emitter).into_receive()
 }
 
-/// What was received, if a future did not wait.
+/// Returns what was received, if the future did not wait.
 fn received(poll: Poll<Received<i64>>) -> Option<i64> {
     match poll {
         Poll::Ready((_subscription, received)) => received.ok(),
@@ -46,7 +46,7 @@ fn received(poll: Poll<Received<i64>>) -> Option<i64> {
     }
 }
 
-/// What a future receives when it is polled. It is dropped.
+/// Polls a future of a new reader, and drops it. Returns what it received.
 pub fn poll_receive<R: Wait + Abort + RandomSource + AllocGlobal>(
     rt: &R,
     emitter: &mut Emitter<'_, i64>,
@@ -55,8 +55,8 @@ pub fn poll_receive<R: Wait + Abort + RandomSource + AllocGlobal>(
     received(task.poll(&mut new_future(rt, emitter)))
 }
 
-/// A future of a new reader is dropped before it is polled, since another one is done first. Returns whether that was so
-/// at once.
+/// Drops a future of a new reader before it is polled, since another future wins a `select`. Returns whether that one
+/// won at once.
 pub fn lose_select<R: Wait + Abort + RandomSource + AllocGlobal>(
     rt: &R,
     emitter: &mut Emitter<'_, i64>,

@@ -1,4 +1,4 @@
-//! An emission that is taken out of its handle, and bound again.
+//! An emission that is taken out of its handle and bound again.
 ghost use Rattle.std.specs.Prelude.{◌≡◌};
 
 use crate::compare::compare;
@@ -7,7 +7,7 @@ use flow_law::Config;
 use flow_shared::{EmitAnswer, Seat, SharedFlow};
 use std::sync::Wait;
 
-/// Whether the emission of 4 waited that was taken out of its handle and bound again.
+/// Emits 4, takes the emission out of its handle, binds it again and cancels it. Returns whether it waited.
 fn is_bound_again<R: Wait>(rt: &R, flow: &SharedFlow<i64>, seat: Seat<i64>) -> bool
     requires { seat.table_id ≡ flow.now.table_id }
 {

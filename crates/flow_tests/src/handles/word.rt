@@ -6,7 +6,7 @@ use crate::handles::state::Call::{
 };
 
 pub static WORD: &[&[Call]] = &[
-    // A setter sets what its reader reads.
+    // A reader reads what its setter sets.
     &[
         Value(7),
         Set(3),
@@ -21,7 +21,7 @@ pub static WORD: &[&[Call]] = &[
         Next(None),
         ReaderSeen,
     ],
-    // A reader or a stream that is dropped is counted no more, and neither is a reader that left.
+    // A reader or a stream that is dropped is no longer counted, nor is a reader that has unsubscribed.
     &[
         CountBesideReader(2),
         Count(1),

@@ -1,4 +1,4 @@
-//! Calls on a setter and a reader of a word state, each with what it is to answer.
+//! Makes calls on a setter and a reader of a word state, and compares what they return.
 use crate::compare::{compare, no_such_call};
 use crate::flows::new_word_reader;
 use crate::handles::answers::pause;
@@ -47,7 +47,7 @@ fn count_beside_stream<R: Wait + Abort>(rt: &R, setter: &mut WordSetter<'_, i64>
     setter.subscription_count()
 }
 
-/// Another setter and another reader meet this setter.
+/// Lets the setter meet another setter and another reader.
 fn meet<R: Wait + Abort>(rt: &R, setter: &mut WordSetter<'_, i64>) {
     let mut other = setter.another();
     setter.meet(&mut other);
@@ -55,14 +55,14 @@ fn meet<R: Wait + Abort>(rt: &R, setter: &mut WordSetter<'_, i64>) {
     setter.meet_reader(&mut reader);
 }
 
-/// Another reader leaves. Returns how many subscribers are left.
+/// Unsubscribes another reader. Returns how many subscribers are left.
 fn unsubscribe<R: Wait + Abort>(rt: &R, setter: &mut WordSetter<'_, i64>) -> u64 {
     new_word_reader(rt, setter)
         .unsubscribe()
         .subscription_count()
 }
 
-/// Makes a call that updates the value, or one of another reader, and compares what it answers.
+/// Makes a call that updates the value, or one of another reader, and compares what it returns.
 fn update<R: Wait + Clock + Abort>(
     rt: &R,
     setter: &mut WordSetter<'_, i64>,
@@ -110,7 +110,7 @@ fn go_on<R: Wait + Clock + Abort>(
     }
 }
 
-/// Follows a state until it is the last value. Returns whether each value was above the one before.
+/// Receives changes until the state is `last`. Returns whether each value was greater than the one before.
 fn follow<R: Wait>(rt: &R, reader: &mut WordReader<'_, i64>, last: i64) -> bool {
     let mut before = 0i64;
     for _ in rt.forever() {
@@ -140,7 +140,7 @@ impl<'a> Makes<Call> for WordReader<'a, i64> {
     }
 }
 
-/// Awaits a change, and looks for another one.
+/// Awaits a change, and then takes the next value, if there is one.
 fn change_and_next<R: Wait + RandomSource + AllocGlobal>(
     rt: &R,
     reader: WordReader<'_, i64>,
@@ -149,7 +149,7 @@ fn change_and_next<R: Wait + RandomSource + AllocGlobal>(
     Some((value, reader.next()))
 }
 
-/// The next value of a stream of the reader.
+/// Returns the next value of a stream of the reader.
 fn next_of_stream<R: Wait + Abort + RandomSource + AllocGlobal>(
     rt: &R,
     reader: WordReader<'_, i64>,
@@ -169,7 +169,7 @@ impl<'a> Ends<End> for WordReader<'a, i64> {
     }
 }
 
-/// Makes a call of the reader that waits for no longer than a limit or for a test, and compares what it answers.
+/// Makes a call of the reader that has a time limit or waits for a test to pass, and compares what it returns.
 fn wait<R: Wait + Clock + Abort>(
     rt: &R,
     reader: &mut WordReader<'_, i64>,

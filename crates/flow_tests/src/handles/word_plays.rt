@@ -1,4 +1,4 @@
-//! The worked examples over word states are played.
+//! Plays the worked examples over word states.
 ghost use Rattle.std.specs.Prelude.{◌≡◌};
 
 use crate::flows::{new_word_reader, new_word_state};
@@ -14,7 +14,7 @@ use std::sync::Wait;
 use std::thread::Threads;
 use std::time::Clock;
 
-/// Subscribes. Returns the reader that the subscription makes when it is bound again.
+/// Subscribes, takes the subscription out of its reader, and returns a reader that is bound to it again.
 fn bound_again<'a, R: Wait + Abort>(
     rt: &R,
     flow: &'a WordState<i64>,
@@ -25,7 +25,7 @@ fn bound_again<'a, R: Wait + Abort>(
     flow.reader(new_word_reader(rt, setter).into_subscription())
 }
 
-/// Plays an example on a new state. Its handles are those that their tokens make when they are bound again.
+/// Plays an example on a new state. The tokens of its handles are taken out and bound again first.
 fn play<R: Wait + Clock + Abort + RandomSource + AllocGlobal>(
     rt: &R,
     example: usize,

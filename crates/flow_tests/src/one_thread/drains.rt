@@ -1,4 +1,4 @@
-//! Draining flows. The values are those that kotlinx.coroutines documents for the same collector.
+//! Worked examples of drains. The values are those that kotlinx.coroutines documents for the same collector.
 use crate::one_thread::shared_calls::Call::{
     Drain, Emit, RefuseCopy, Subscribe, TryEmit, Unsubscribe, Values,
 };
@@ -14,7 +14,7 @@ const THREE: Config = Config {
 };
 
 pub static DRAINS: &[Example] = &[
-    // A shared flow gives all that is there.
+    // A drain takes all values that the subscriber can receive.
     Example {
         config: THREE,
         calls: &[
@@ -32,8 +32,8 @@ pub static DRAINS: &[Example] = &[
             Values(&[1, 2, 3]),
         ],
     },
-    // A drain makes room, so a value that waited in the queue comes with the others. Nothing is lost if a drain is
-    // refused: the second value stays in the flow, and the first one in the list.
+    // A drain makes room, so it also takes a value that waited in the queue. A refused drain loses nothing: the second
+    // value stays in the flow, and the first one in the list.
     Example {
         config: ROOM_FOR_ONE,
         calls: &[

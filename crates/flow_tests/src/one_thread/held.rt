@@ -1,4 +1,4 @@
-//! How many values a shared flow keeps, after each call: those that a new subscriber or an old one may still get.
+//! How many values a shared flow keeps after each call: those that a new or an old subscriber may still receive.
 use crate::one_thread::shared_calls::Call::{Emit, Held, Next, Reset, Subscribe, TryEmit};
 use crate::one_thread::shared_calls::{Example, UNBUFFERED};
 use flow_law::Config;
@@ -6,7 +6,7 @@ use flow_law::Emit::Queued;
 use flow_law::Next::Value;
 
 pub static HELD: &[Example] = &[
-    // A value is kept for the cache or a subscriber.
+    // A value is kept for the replay cache or for a subscriber.
     Example {
         config: Config {
             replay: 1,

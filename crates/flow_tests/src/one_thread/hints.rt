@@ -1,17 +1,17 @@
-//! A subscription keeps the place of its subscriber, where a core looks first. Its `Debug` shows that place.
+//! A subscription has the place of its subscriber, at which a core looks first. Its `Debug` shows that place.
 use crate::compare::compare;
 use flow_core::{FlowCore, SharedCore, StateCore, SubId};
 use flow_law::Config;
 use std::alloc::Global;
 use std::process::Abort;
 
-/// Compares what a subscription is printed as.
+/// Compares the text that `Debug` prints of a subscription.
 fn is_printed(rt: &impl Abort, alloc: Global, place: usize, id: SubId, wanted: &str) {
     let printed = format!(in alloc; "{id:?}").expect(rt, "memory");
     compare(rt, place, printed.as_str(), wanted);
 }
 
-/// Three subscribers are kept one after the other. The second one leaves, and the fourth one is kept in its place.
+/// Adds three subscribers, removes the second, and adds a fourth. Checks that the fourth has the place of the second.
 fn subscribe_four<S: FlowCore>(rt: &impl Abort, alloc: Global, core: &mut S) {
     let first = core.subscribe().expect(rt, "a subscription");
     let second = core.subscribe().expect(rt, "a subscription");

@@ -1,4 +1,4 @@
-//! How many values were emitted, and how far behind subscribers are.
+//! Worked examples of the number of emitted values, and of the lag of subscribers.
 use crate::one_thread::shared_calls::Call::{
     Cancel, Emit, Emitted, Lag, Next, Reset, Subscribe, SubscribeWith, TryEmit, Unsubscribe,
 };
@@ -14,7 +14,7 @@ const TWO: Config = Config {
 };
 
 pub static LAGS: &[Example] = &[
-    // Values that wait are not emitted yet. A new subscriber has the cache to receive, its own first values aside.
+    // Values that wait are not emitted yet. A new subscriber's lag counts the replay cache, not its own first values.
     Example {
         config: TWO,
         calls: &[
@@ -42,7 +42,7 @@ pub static LAGS: &[Example] = &[
             Lag(1, Some(1)),
         ],
     },
-    // No subscriber is behind by more than the buffer, and a value that is dropped was not emitted.
+    // No lag is greater than the buffer. A value that `DropLatest` drops was not emitted.
     Example {
         config: Config {
             overflow: Overflow::DropOldest,

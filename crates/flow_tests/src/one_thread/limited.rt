@@ -1,4 +1,4 @@
-//! Values of which one copy is refused, by their numbers.
+//! Compares values one copy of which is refused, by their numbers.
 use crate::compare::compare;
 use flow_law::{FlowFault, Next};
 use flow_testing::CopyLimited;
@@ -6,7 +6,7 @@ use std::alloc::Global;
 use std::cell::Cell;
 use std::process::Abort;
 
-/// What was received, by its number.
+/// Returns the number of the value that was received.
 pub fn number_of(next: Result<Next<CopyLimited<'_>>, FlowFault>) -> Result<Next<i64>, FlowFault> {
     match next {
         Ok(Next::Value(value)) => Ok(Next::Value(value.number())),
@@ -16,7 +16,7 @@ pub fn number_of(next: Result<Next<CopyLimited<'_>>, FlowFault>) -> Result<Next<
     }
 }
 
-/// The values of the call at this place have these numbers.
+/// Compares the numbers of the values of the call at this place.
 pub fn are(rt: &impl Abort, place: usize, values: &[CopyLimited<'_>], numbers: &[i64]) {
     compare(rt, place, values.len(), numbers.len());
     for (value, number) in values.iter().zip(numbers) {
@@ -24,7 +24,7 @@ pub fn are(rt: &impl Abort, place: usize, values: &[CopyLimited<'_>], numbers: &
     }
 }
 
-/// Copies of values, where none was refused.
+/// Returns the copies. Ends the test if one was refused.
 pub fn copied<'a>(
     rt: &impl Abort,
     copies: Result<Vec<CopyLimited<'a>>, FlowFault>,
@@ -35,7 +35,7 @@ pub fn copied<'a>(
     copies
 }
 
-/// A list of these numbers.
+/// Returns a list of values of these numbers.
 pub fn list_of<'a>(
     rt: &impl Abort,
     alloc: Global,

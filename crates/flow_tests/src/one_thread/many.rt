@@ -6,7 +6,7 @@ use flow_law::Next::Value;
 use flow_law::{Config, Overflow};
 
 pub static MANY: &[Example] = &[
-    // The largest buffer is filled, and more.
+    // More values are emitted than the largest buffer has room for.
     Example {
         config: Config {
             replay: 65_536,
@@ -47,7 +47,7 @@ pub static MANY: &[Example] = &[
             Next(0, Value(7)),
         ],
     },
-    // A slow subscriber keeps no more than the buffer.
+    // For a slow subscriber no more than the buffer is kept.
     Example {
         config: Config {
             extra: 2,

@@ -16,7 +16,7 @@ const ROOM_FOR_TWO: Config = Config {
 };
 
 pub static OWN_VALUES: &[Example] = &[
-    // Own values come before the cache, and are never dropped.
+    // A subscriber receives its own first values before the replay cache, and they are never dropped.
     Example {
         config: ROOM_FOR_TWO,
         calls: &[
@@ -33,7 +33,7 @@ pub static OWN_VALUES: &[Example] = &[
             Cache(&[4]),
         ],
     },
-    // An own value lets an emission wait.
+    // A subscriber's own first value makes an emission wait.
     Example {
         config: UNBUFFERED,
         calls: &[
@@ -45,7 +45,7 @@ pub static OWN_VALUES: &[Example] = &[
             Poll(2, false),
         ],
     },
-    // A cancel leaves an own value.
+    // A cancel does not take away a subscriber's own first value.
     Example {
         config: UNBUFFERED,
         calls: &[
@@ -64,7 +64,7 @@ pub static OWN_VALUES: &[Example] = &[
         },
         calls: &[SubscribeWith(&[1, 2], Err(FlowFault::Exhausted))],
     },
-    // An own value is not copied: the copy that is refused is the first one, that of a value of the flow.
+    // Own first values are not copied: the first copy, which is refused, is that of a value of the flow.
     Example {
         config: ROOM_FOR_TWO,
         calls: &[
@@ -81,7 +81,7 @@ pub static OWN_VALUES: &[Example] = &[
             Next(0, Value(4)),
         ],
     },
-    // The same, where it is the second one.
+    // The same if the second copy is refused.
     Example {
         config: ROOM_FOR_TWO,
         calls: &[

@@ -66,7 +66,7 @@ pub static SHARED: &[Example] = &[
             Next(0, Empty),
         ],
     },
-    // A place that is used again does not answer for who left: the second subscriber stands where the first one stood.
+    // The second subscriber has the place of the first, which unsubscribed. The first subscription does not find it.
     Example {
         config: Config {
             replay: 1,

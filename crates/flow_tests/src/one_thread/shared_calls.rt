@@ -1,4 +1,4 @@
-//! Calls on a shared flow, each with what it is to answer.
+//! Calls on a shared flow, each with what it must return.
 use crate::compare::{compare, no_such_call};
 use crate::one_thread::drains::DRAINS;
 use crate::one_thread::held::HELD;
@@ -34,7 +34,7 @@ pub struct Example {
     pub calls: &'static [Call],
 }
 
-/// A call, and what it answers. Subscribers are named by the order in which they came, from 0.
+/// A call, and what it returns. Subscribers are named by the order in which they subscribed, from 0.
 #[derive(Drop)]
 pub enum Call {
     /// The value, and whether the flow took or dropped it.
@@ -46,15 +46,15 @@ pub enum Call {
     Cancel(u64, bool),
     /// The number of the new subscription.
     Subscribe(u64),
-    /// The subscriber's own first values, and the number of the new subscription. Where it is refused the values come back.
+    /// The subscriber's own first values, and the number of the new subscription. A refusal hands the values back.
     SubscribeWith(&'static [i64], Result<u64, FlowFault>),
     Next(usize, Next<i64>),
-    /// It is refused with `OutOfMemory`.
+    /// The subscriber, whose `next` is refused with `OutOfMemory`.
     NextRefused(usize),
-    /// A subscriber, and whether the subscription was there.
+    /// A subscriber, and whether it was subscribed.
     Unsubscribe(usize, bool),
     Cache(&'static [i64]),
-    /// How many values the cache has.
+    /// The number of values in the replay cache.
     CacheLength(usize),
     Reset,
     Count(u64),
@@ -62,13 +62,13 @@ pub enum Call {
     Held(usize),
     /// How many values were emitted.
     Emitted(u64),
-    /// A subscriber, and how many values it has still to receive.
+    /// A subscriber, and its lag.
     Lag(usize, Option<u64>),
-    /// A subscriber, how many values it takes at most, and why it stopped, or was refused.
+    /// A subscriber, the most values that it takes, and why the drain stopped or was refused.
     Drain(usize, usize, Result<Drained, FlowFault>),
-    /// All that was drained so far.
+    /// All values that were drained so far.
     Values(&'static [i64]),
-    /// Of the copies that are made from now on, this one is refused, from 1.
+    /// The number of the copy that is refused, counted from 1 from now on.
     RefuseCopy(u64),
     /// The same call with each value from the first to the last.
     Each(Repeated, i64, i64),
@@ -88,7 +88,7 @@ pub enum Repeated {
 }
 
 impl Repeated {
-    /// The call with the value that comes after so many others.
+    /// Returns the call with this value, which follows `place` other values.
     fn with(self, value: i64, place: u64) -> Call {
         match self {
             Repeated::TryEmit => Call::TryEmit(value, true),
@@ -99,7 +99,7 @@ impl Repeated {
     }
 }
 
-/// A flow of values that hold more than they mean, and its subscribers.
+/// A flow of values that count their copies, and its subscribers.
 #[derive(Drop)]
 struct Caller<'a> {
     flow: SharedCore<CopyLimited<'a>>,
@@ -109,7 +109,7 @@ struct Caller<'a> {
 }
 
 impl<'a> Caller<'a> {
-    /// Names the next subscriber, and tells its number.
+    /// Names the next subscriber, and returns its number.
     fn add(&mut self, rt: &impl Abort, id: SubId) -> u64 {
         self.subscribers.push(id).expect(rt, "memory");
         id.number()
@@ -136,7 +136,7 @@ impl<'a> Caller<'a> {
         *self.subscribers.get(index).expect(rt, "a subscriber")
     }
 
-    /// Makes a call that lists values or refuses a copy, and compares what it answers.
+    /// Makes a call that lists values or refuses a copy, and compares what it returns.
     fn list(&self, rt: &impl Abort, place: usize, call: &Call) {
         match *call {
             Call::Cache(values) => {
@@ -153,7 +153,7 @@ impl<'a> Caller<'a> {
         }
     }
 
-    /// Makes a call that changes nothing, and compares what it answers.
+    /// Makes a call that changes nothing, and compares what it returns.
     fn ask(&self, rt: &impl Abort, place: usize, call: &Call) {
         match *call {
             Call::Poll(number, waits) => compare(rt, place, self.flow.poll(number), waits),
@@ -178,7 +178,7 @@ impl<'a> Caller<'a> {
         self.flow.drain(id, most, &mut self.drained)
     }
 
-    /// Makes a call of a subscriber, and compares what it answers.
+    /// Makes a call of a subscriber, and compares what it returns.
     fn receive(&mut self, rt: &impl Abort, place: usize, call: &Call) {
         match *call {
             Call::Next(index, ref next) => {
@@ -200,7 +200,7 @@ impl<'a> Caller<'a> {
         }
     }
 
-    /// Makes a call of a new subscriber or one that ends an emission, and compares what it answers.
+    /// Makes a call of a new subscriber or one that ends an emission, and compares what it returns.
     fn change(&mut self, rt: &impl Abort, alloc: Global, place: usize, call: &Call) {
         match *call {
             Call::Cancel(number, waited) => compare(rt, place, self.flow.cancel(number), waited),
@@ -217,7 +217,7 @@ impl<'a> Caller<'a> {
         }
     }
 
-    /// Makes a call, and compares what it answers.
+    /// Makes a call, and compares what it returns.
     fn make(&mut self, rt: &impl Abort, alloc: Global, place: usize, call: &Call) {
         match *call {
             Call::TryEmit(value, taken) => {
@@ -258,8 +258,8 @@ fn play(rt: &impl Abort, alloc: Global, place: usize, example: &Example) {
     }
 }
 
-/// Makes the calls of each example on a new flow, and compares what they answer. Call 7 of the example 3 has the place 307,
-/// both counted from 0.
+/// Makes the calls of each example on a new flow, and compares what they return. Call 7 of example 3 has the place 307;
+/// both are counted from 0.
 fn play_all(rt: &impl Abort, alloc: Global, examples: &[Example]) {
     for (number, example) in examples.iter().enumerate() {
         play(rt, alloc, number.saturating_mul(100), example);

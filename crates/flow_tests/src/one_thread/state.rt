@@ -1,4 +1,4 @@
-//! A state flow without a subscriber, and a drain of one, which no script shows.
+//! A state flow without a subscriber, and drains of a state flow, which no script has.
 use crate::compare::compare;
 use flow_core::{StateCore, SubId};
 use flow_law::{Drained, FlowFault};
@@ -6,7 +6,7 @@ use flow_testing::Refusing;
 use std::alloc::Allocator;
 use std::process::Abort;
 
-/// Its cache is the current value alone.
+/// The replay cache of a state flow has only the current value.
 #[test]
 fn a_state_flow_without_a_subscriber_has_a_cache(rt: HostRuntime) {
     let mut flow = StateCore::new(rt.alloc(), 0, 0);
@@ -30,7 +30,7 @@ fn drains<A: Allocator>(
     compare(rt, place, drained.as_slice(), values);
 }
 
-/// Of two values that were set the subscriber gets the last one, once, and nothing after it has left.
+/// Of two values that were set the subscriber receives only the last one, once, and nothing once it has unsubscribed.
 #[test]
 fn a_drain_of_a_state_flow_gives_the_value_once(rt: HostRuntime) {
     let mut flow = StateCore::new(rt.alloc(), 0, u64::MAX);

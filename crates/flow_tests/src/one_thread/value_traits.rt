@@ -1,4 +1,4 @@
-//! What the values that own memory print, when they are equal, and that equal ones are hashed alike.
+//! The traits of values that own memory: what they print, when they are equal, and that equal values have equal hashes.
 use crate::compare::compare;
 use crate::one_thread::values::{boxed, items};
 use flow_law::{OutOfMemory, Text};
@@ -29,7 +29,7 @@ fn hash_of<T: Hash>(value: &T) -> u64 {
     state.finish()
 }
 
-/// Both values are equal, and hashed alike, or neither.
+/// Compares with `equal` whether two values are equal, and whether their hashes are.
 fn are_equal<T: PartialEq + Hash>(
     rt: &impl Abort,
     place: usize,

@@ -1,4 +1,4 @@
-//! Lists and boxed values in flows. Two are the same where what they contain is, as `StateFlow` compares by `equals`.
+//! Lists and boxed values in flows. Two are the same if their contents are, as `StateFlow` compares by `equals`.
 use crate::compare::compare;
 use crate::one_thread::limited::list_of;
 use flow_core::{StateCore, SubId};
@@ -8,7 +8,7 @@ use std::alloc::Global;
 use std::cell::Cell;
 use std::process::Abort;
 
-/// Sets the value, and answers what the subscriber receives then, if that is a new value.
+/// Sets the value. Returns what the subscriber receives then, if that is a new value.
 fn set_and_receive<T: FlowValue>(flow: &mut StateCore<T>, reader: SubId, value: T) -> Option<T> {
     flow.set(value);
     match flow.next(reader) {
@@ -17,14 +17,14 @@ fn set_and_receive<T: FlowValue>(flow: &mut StateCore<T>, reader: SubId, value: 
     }
 }
 
-/// The list of these values, with room for so many more.
+/// Returns the list of these values, with room for `room` more.
 pub fn items(rt: &impl Abort, alloc: Global, room: usize, values: &[i64]) -> Items<i64> {
     let mut list = values.to_vec(alloc).expect(rt, "memory");
     list.reserve(room).expect(rt, "memory");
     Items::new(list)
 }
 
-/// The list has these values, if it is there.
+/// Compares the values of a list that was received, if there is one.
 fn is_list(rt: &impl Abort, place: usize, list: Option<Items<i64>>, values: Option<&[i64]>) {
     match list {
         Some(list) => {
@@ -35,8 +35,8 @@ fn is_list(rt: &impl Abort, place: usize, list: Option<Items<i64>>, values: Opti
     }
 }
 
-/// For how many more values a list that is set has room, its values, and what the subscriber receives then. The same values in a
-/// list with more room are no new value.
+/// The further values that a list has room for, its values, and what the subscriber receives once the list is set. The
+/// same values in a list with more room are not a new value.
 static LISTS: &[(usize, &[i64], Option<&[i64]>)] = &[
     (0, &[1, 2], Some(&[1, 2])),
     (98, &[1, 2], None),
@@ -62,7 +62,7 @@ pub fn boxed(rt: &impl Abort, alloc: Global, number: i64) -> Boxed<i64> {
     Boxed::new(Box::new(alloc, number).expect(rt, "memory"))
 }
 
-/// The number in the box, if it is there.
+/// Returns the number in the box, if there is one.
 fn number_in(rt: &impl Abort, place: usize, boxed: Option<Boxed<i64>>) -> Option<i64> {
     let boxed = boxed?;
     let number = *boxed.value();
@@ -83,7 +83,7 @@ fn a_boxed_value_is_what_the_box_contains(rt: HostRuntime) {
     }
 }
 
-/// The next copy is refused, and the one after it is not.
+/// Checks that the next copy is refused, and the one after it is not.
 fn is_copied_again<T: FlowValue>(rt: &impl Abort, value: &T) {
     compare(rt, 0, value.try_copy().err(), Some(FlowFault::OutOfMemory));
     compare(rt, 1, value.try_copy().is_ok(), true);

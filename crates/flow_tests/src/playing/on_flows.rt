@@ -1,4 +1,4 @@
-//! A caller of a flow for several threads, of either kind, and the flow's subscribers.
+//! A caller of a shared flow or a state flow for several threads, and the flow's subscribers.
 ghost use Rattle.std.specs.Prelude.{◌≡◌};
 
 use crate::compare::compare;
@@ -12,7 +12,7 @@ use std::alloc::{Allocator, Global};
 use std::process::Abort;
 use std::sync::Wait;
 
-/// A caller with a seat of a flow. Emissions that need not wait, and tokens that are gone, have left their places.
+/// A caller with a seat of a flow. The places of emissions that need not wait, and of tokens that are gone, are empty.
 #[derive(Drop)]
 pub struct FlowPlayer<'a, T: Numbered, S: FlowCore<Item = T> + Drop, A: Allocator + Copy = Global> {
     pub flow: &'a Flow<S, A>,
@@ -23,9 +23,9 @@ pub struct FlowPlayer<'a, T: Numbered, S: FlowCore<Item = T> + Drop, A: Allocato
     ghost of_flow: { seat.table_id ≡ flow.now.table_id },
 }
 
-/// A core whose flows for several threads take steps of their own beside those of subscribers.
+/// A core whose flows for several threads take further steps beside those of subscribers.
 pub trait Played<T: Numbered, A: Allocator + Copy>: FlowCore<Item = T> + Drop {
-    /// Takes a step, and compares what it answers. `Err` if memory is refused.
+    /// Takes a step, and compares what it returns. Returns `Err` if memory is refused.
     fn take<R: Wait + Abort>(
         player: &mut FlowPlayer<'_, T, Self, A>,
         rt: &R,
@@ -40,7 +40,7 @@ impl<'a, T: Numbered<Memory = A>, S: FlowCore<Item = T> + Drop, A: Allocator + C
     S,
     A,
 > {
-    /// The caller that has this seat of the flow, without subscriptions.
+    /// Returns a caller with this seat of the flow, without subscriptions.
     pub fn new(
         alloc: Global,
         memory: A,
@@ -65,7 +65,7 @@ impl<'a, T: Numbered<Memory = A>, S: FlowCore<Item = T> + Drop, A: Allocator + C
         Ok(self.readers.push(Some(reader)).expect(rt, "memory"))
     }
 
-    /// Takes a step that flows of either kind have.
+    /// Takes a step that both kinds of flows have.
     pub fn subscriber_step<R: Wait + Abort>(
         &mut self,
         rt: &R,
@@ -83,7 +83,7 @@ impl<'a, T: Numbered<Memory = A>, S: FlowCore<Item = T> + Drop, A: Allocator + C
         }
     }
 
-    /// Takes a step of a subscriber that stays.
+    /// Takes a step of a subscriber that does not unsubscribe.
     fn reader_step<R: Wait + Abort>(
         &mut self,
         rt: &R,
@@ -119,7 +119,7 @@ impl<'a, T: Numbered<Memory = A>, S: FlowCore<Item = T> + Drop, A: Allocator + C
     }
 }
 
-/// Takes the steps. Takes a refused step again, and adds its place to `refused`.
+/// Takes the steps. Takes a refused step once more, and adds its place to `refused`.
 pub fn take_again<R: Wait + Abort, T: Numbered, S: Played<T, A>, A: Allocator + Copy>(
     rt: &R,
     player: &mut FlowPlayer<'_, T, S, A>,

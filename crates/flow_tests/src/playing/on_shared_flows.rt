@@ -11,7 +11,7 @@ use std::process::Abort;
 use std::sync::Wait;
 
 impl<'a, T: Numbered<Memory = A>, A: Allocator + Copy> FlowPlayer<'a, T, SharedCore<T, A>, A> {
-    /// Emits a value through a new seat, so that the emission may wait. A refusal hands the value back.
+    /// Emits a value by a new seat, so that the emission may wait. A refusal hands the value back.
     fn emit<R: Wait + Abort>(
         &mut self,
         rt: &R,
@@ -33,7 +33,7 @@ impl<'a, T: Numbered<Memory = A>, A: Allocator + Copy> FlowPlayer<'a, T, SharedC
         }
     }
 
-    /// Asks an emission whether it still waits, and keeps it if it does.
+    /// Polls an emission, and keeps it if it still waits. Returns whether it does.
     fn poll<R: Wait + Abort>(&mut self, rt: &R, index: usize) -> bool {
         let left = token(rt, &mut self.emissions, index).poll(rt);
         let waits = left.is_some();
@@ -41,7 +41,7 @@ impl<'a, T: Numbered<Memory = A>, A: Allocator + Copy> FlowPlayer<'a, T, SharedC
         waits
     }
 
-    /// Emits a value, and compares whether it waits. `Err` if memory is refused.
+    /// Emits a value, and compares whether it waits. Returns `Err` if memory is refused.
     fn emits<R: Wait + Abort>(
         &mut self,
         rt: &R,

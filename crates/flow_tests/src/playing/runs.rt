@@ -12,7 +12,7 @@ use std::alloc::{Allocator, Global};
 use std::process::Abort;
 use std::sync::Wait;
 
-/// More runs than an example has.
+/// A number greater than that of the runs of an example.
 pub const MANY: u64 = 200;
 
 /// Takes the steps on a flow.
@@ -32,7 +32,7 @@ fn take_on<R: Wait + Abort, T: Numbered<Memory = A>, S: Played<T, A>, A: Allocat
     take_again(rt, &mut player, first, steps, refused);
 }
 
-/// Takes the steps on a new shared flow. `Err` where the flow is refused.
+/// Takes the steps on a new shared flow. Returns `Err` if the flow is refused.
 fn play_shared<R: Wait + Abort, A: Allocator + Copy>(
     rt: &R,
     alloc: Global,
@@ -46,7 +46,7 @@ fn play_shared<R: Wait + Abort, A: Allocator + Copy>(
     Ok(take_on(rt, alloc, memory, &flow, seat, first, steps, refused))
 }
 
-/// Takes the steps on a new state flow. `Err` where the flow is refused.
+/// Takes the steps on a new state flow. Returns `Err` if the flow is refused.
 fn play_state<R: Wait + Abort, A: Allocator + Copy>(
     rt: &R,
     alloc: Global,
@@ -60,7 +60,7 @@ fn play_state<R: Wait + Abort, A: Allocator + Copy>(
     Ok(take_on(rt, alloc, memory, &flow, seat, first, steps, refused))
 }
 
-/// Plays the example on a new flow. `Err` where the flow is refused.
+/// Plays the example on a new flow. Returns `Err` if the flow is refused.
 fn play_once<R: Wait + Abort, A: Allocator + Copy>(
     rt: &R,
     alloc: Global,
@@ -76,8 +76,8 @@ fn play_once<R: Wait + Abort, A: Allocator + Copy>(
     }
 }
 
-/// Plays the example with this allocation refused. Where that does not come no call is refused, and else one at most. Whether
-/// the flow was refused, which is made again then.
+/// Plays the example with one allocation refused. Checks that at most one call is refused, and none if the run does not
+/// reach that allocation. If the flow is refused, plays again. Returns whether the flow was refused.
 fn refuse_one<R: Wait + Abort>(
     rt: &R,
     alloc: Global,
@@ -101,8 +101,8 @@ fn refuse_one<R: Wait + Abort>(
     flow_is_refused
 }
 
-/// Plays the example with each allocation refused in turn, until none is. In some run the flow is refused. The places of the
-/// steps that were refused.
+/// Plays the example with each allocation refused in turn, until none is. Checks that the flow is refused in some run.
+/// Returns the places of the steps that were refused.
 pub fn refuse_each<R: Wait + Abort>(
     rt: &R,
     alloc: Global,
@@ -124,7 +124,7 @@ pub fn refuse_each<R: Wait + Abort>(
     refused
 }
 
-/// Plays the examples. Step 7 of the example 3 has the place 307, from this one on.
+/// Plays the examples. Step 7 of example 3 has the place `first` + 307.
 pub fn play<R: Wait + Abort>(rt: &R, alloc: Global, first: usize, examples: &[Example]) {
     for (number, example) in examples.iter().enumerate() {
         let place = first.saturating_add(number.saturating_mul(100));

@@ -1,4 +1,4 @@
-//! Subscribers and emissions that wait, each beside its flow, and lists of them.
+//! Subscribers and emissions that wait, each with its flow, and lists of them.
 ghost use Rattle.std.specs.Prelude.{◌≡◌};
 
 use crate::compare::compare;
@@ -19,7 +19,7 @@ pub struct Reader<'a, S: FlowCore + Drop, A: Allocator + Copy = Global> {
 }
 
 impl<'a, T: Numbered, S: FlowCore<Item = T> + Drop, A: Allocator + Copy> Reader<'a, S, A> {
-    /// Receives, and compares what comes. `Err` if memory is refused.
+    /// Receives a value, and compares it. Returns `Err` if memory is refused.
     pub fn next<R: Wait + Abort>(
         &mut self,
         rt: &R,
@@ -30,7 +30,7 @@ impl<'a, T: Numbered, S: FlowCore<Item = T> + Drop, A: Allocator + Copy> Reader<
         Ok(compare(rt, place, &by_number(next), wanted))
     }
 
-    /// The same, by the call that does not wait for other callers.
+    /// Receives a value without waiting for other callers, and compares it. Returns `Err` if memory is refused.
     pub fn next_now<R: Abort>(
         &mut self,
         rt: &R,
@@ -41,7 +41,7 @@ impl<'a, T: Numbered, S: FlowCore<Item = T> + Drop, A: Allocator + Copy> Reader<
         Ok(compare(rt, place, &by_number(next), wanted))
     }
 
-    /// Takes at most so many values, compares why it stopped, and the values. `Err` if memory is refused.
+    /// Takes at most `most` values, and compares them and why the drain stopped. Returns `Err` if memory is refused.
     pub fn drain<R: Wait + Abort>(
         &mut self,
         rt: &R,
@@ -80,7 +80,7 @@ pub struct Waiting<'a, T: Numbered, A: Allocator + Copy = Global> {
 }
 
 impl<'a, T: Numbered, A: Allocator + Copy> Waiting<'a, T, A> {
-    /// Emits a value. `None` where it need not wait. A refusal hands the value back.
+    /// Emits a value. Returns the emission, or `None` if it need not wait. A refusal hands the value back.
     pub fn emit<R: Wait>(
         rt: &R,
         flow: &'a SharedFlow<T, A>,
@@ -96,7 +96,7 @@ impl<'a, T: Numbered, A: Allocator + Copy> Waiting<'a, T, A> {
         }
     }
 
-    /// The emission, where it still waits.
+    /// Polls the emission. Returns it if it still waits.
     pub fn poll<R: Wait>(self, rt: &R) -> Option<Waiting<'a, T, A>> {
         let Waiting { flow, emission } = self;
         match flow.poll_emit(rt, emission) {
@@ -105,7 +105,7 @@ impl<'a, T: Numbered, A: Allocator + Copy> Waiting<'a, T, A> {
         }
     }
 
-    /// Whether it waited until now.
+    /// Cancels the emission. Returns whether it waited until now.
     pub fn cancel<R: Wait>(self, rt: &R) -> bool {
         let Waiting { flow, emission } = self;
         let (_seat, was_waiting) = flow.cancel(rt, emission);
@@ -113,7 +113,7 @@ impl<'a, T: Numbered, A: Allocator + Copy> Waiting<'a, T, A> {
     }
 }
 
-/// The token at a place.
+/// Returns the token at a place.
 pub fn at<'a, X>(rt: &impl Abort, tokens: &'a mut Vec<Option<X>>, index: usize) -> &'a mut X {
     match tokens.get_mut(index) {
         Some(Some(token)) => token,
@@ -129,7 +129,7 @@ pub fn token<X>(rt: &impl Abort, tokens: &mut Vec<Option<X>>, index: usize) -> X
     place.take().expect(rt, "a token")
 }
 
-/// Puts a token into its place, or leaves that empty.
+/// Puts a token into its place, or empties the place.
 pub fn put<X: Drop>(tokens: &mut Vec<Option<X>>, index: usize, token: Option<X>) {
     if let Some(place) = tokens.get_mut(index) {
         *place = token;

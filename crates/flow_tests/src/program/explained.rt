@@ -1,4 +1,5 @@
-//! Explanations of scripts: the faults and the answers that no script comes to, and one of each that some do.
+//! Explanations of scripts: of the faults and answers that no script leads to, and of one of each kind that a script
+//! does lead to.
 use crate::program::Host;
 use flow_script::{Answer, ScriptFault, Seen, Told};
 use script_explain::{explain_refusal, rules_of};
@@ -6,7 +7,7 @@ use serde_json::Value;
 
 const NO_STEPS: &str = r#"{"version":2,"flows":{},"steps":[]}"#;
 
-/// Texts with a fault, and what is told of it.
+/// Texts with a fault, and the explanation of it.
 static REFUSALS: &[(&str, ScriptFault, &str)] = &[
     (
         r#"{"version":1,"flow":{"kind":"shared","replay":1,"extra":0,"overflow":"suspend"},
@@ -47,7 +48,7 @@ fn a_refusal_is_told_with_its_place(rt: HostRuntime) {
     }
 }
 
-/// A script, a step, whether the step was answered by `true`, and the rule: none, where the step has no such answer.
+/// A script, a step, whether its answer was `true`, and the rule, which is empty if the step has no such answer.
 static RULES: &[(&str, &str, bool, &str)] = &[
     (
         r#"{"flow":{"kind":"shared","replay":0,"extra":2,"overflow":"drop_oldest"}}"#,
@@ -73,7 +74,7 @@ fn json<H: Host>(rt: &H, text: &str) -> Value {
     Value::from_str(rt.alloc(), text).expect(rt, "a value")
 }
 
-/// What was recorded of a step that was answered so.
+/// Returns the record of a step with this answer.
 fn tested(test: bool) -> Told {
     Told {
         answer: Answer::Tested(test),

@@ -5,13 +5,13 @@ use flow_script::{Watched, played, read_script, text_of};
 use std::io;
 use std::io::{Read, Write};
 
-/// Three values into a flow that replays two, and a subscriber.
+/// A script that emits three values into a flow with replay 2, and then subscribes.
 pub const SCRIPT: &str =
     r#"{"version":1,"flow":{"kind":"shared","replay":2,"extra":0,"overflow":"suspend"},"steps":[{"do":"try_emit","value":1},{"do":"try_emit","value":2},{"do":"try_emit","value":3},{"do":"cache"},{"do":"subscribe","name":"a"},{"do":"next","name":"a"},{"do":"next","name":"a"},{"do":"next","name":"a"}]}"#;
 
 pub const LINES: &str = "true\ntrue\ntrue\n[2, 3]\nsubscribed\nvalue 2\nvalue 3\nempty\n";
 
-/// Gives one byte at a time, and fails once it has given `left` bytes.
+/// A reader that gives one byte at a time, and fails once it has given `left` bytes.
 #[derive(Drop)]
 struct Trickle<'a> {
     bytes: &'a [u8],
@@ -36,7 +36,7 @@ impl<'a> Read for Trickle<'a> {
     }
 }
 
-/// Takes one byte at a time, and none once it has taken `left` bytes; then it fails, or takes no more.
+/// A writer that takes one byte at a time. Once it has taken `left` bytes it fails, or takes no more.
 #[derive(Drop)]
 struct Sluggish<'a> {
     taken: &'a mut Vec<u8>,
@@ -68,7 +68,7 @@ impl<'a> Write for Sluggish<'a> {
     }
 }
 
-/// Plays to a writer that stops after so many bytes.
+/// Plays to a writer that stops after `left` bytes.
 fn play_to<H: Host>(rt: &H, left: usize, fails: bool, wanted: u8, lines: &[u8]) {
     let mut taken = Vec::new(rt.alloc());
     let mut input = Watched::new(SCRIPT.as_bytes());

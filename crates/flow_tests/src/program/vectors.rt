@@ -3,7 +3,7 @@ use crate::program::streams::{LINES, SCRIPT};
 use crate::program::{Host, compare, played};
 use flow_script::{ScriptFault, Watched, play};
 
-/// The name of an emission does not name a subscriber.
+/// A script that uses the name of an emission for a subscriber.
 const UNKNOWN: &str =
     r#"{"version":1,"flow":{"kind":"shared","replay":1,"extra":0,"overflow":"suspend"},"steps":[{"do":"emit","name":"e","value":1},{"do":"next","name":"e"}]}"#;
 

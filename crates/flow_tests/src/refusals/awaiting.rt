@@ -1,4 +1,5 @@
-//! Futures, and calls made at once, that are refused memory: for an emission that waits, and for the copy of a value.
+//! Futures, and calls that do not wait for other callers, that are refused memory: for an emission that waits, and for
+//! the copy of a value.
 ghost use Rattle.std.specs.Prelude.{◌≡◌};
 
 use crate::compare::compare;
@@ -13,7 +14,7 @@ use std::alloc::{Allocator, Global};
 use std::process::Abort;
 use std::sync::Wait;
 
-/// The emission of 3 is refused at once, and its seat and its value come back.
+/// Emits 3, which is refused. Returns the seat and the value, which are handed back.
 fn emit_now<R: Abort, T: Numbered<Memory = A>, A: Allocator + Copy>(
     rt: &R,
     flow: &SharedFlow<T, A>,
@@ -34,7 +35,7 @@ fn emit_now<R: Abort, T: Numbered<Memory = A>, A: Allocator + Copy>(
     }
 }
 
-/// A future that emits 3 is refused, and its seat and its value come back.
+/// Emits 3 by a future, which is refused. Returns the seat and the value, which are handed back.
 fn emit_later<R: Abort, T: Numbered<Memory = A>, A: Allocator + Copy>(
     rt: &R,
     task: &MockTask,
@@ -57,7 +58,7 @@ fn emit_later<R: Abort, T: Numbered<Memory = A>, A: Allocator + Copy>(
     }
 }
 
-/// The emission waits: its future asks for memory once.
+/// Emits a value that has to wait. Checks that its future asks for memory once.
 fn emits<R: Abort, T: Numbered<Memory = A>, A: Allocator + Copy>(
     rt: &R,
     task: &MockTask,
@@ -74,7 +75,7 @@ fn emits<R: Abort, T: Numbered<Memory = A>, A: Allocator + Copy>(
     compare(rt, 3, refusing.is_waiting(), true);
 }
 
-/// Polls a future that receives, which is done: its subscription, and what it received.
+/// Polls a future that receives, which is ready. Returns its subscription, and what it received.
 fn poll_next<R: Abort, T: Numbered<Memory = A>, A: Allocator + Copy>(
     rt: &R,
     task: &MockTask,
@@ -90,7 +91,7 @@ fn poll_next<R: Abort, T: Numbered<Memory = A>, A: Allocator + Copy>(
     }
 }
 
-/// A future that receives the first value is refused, and its subscription comes back.
+/// Receives by a future, which is refused. Returns the subscription, which is handed back.
 fn receive_later<R: Abort, T: Numbered<Memory = A>, A: Allocator + Copy>(
     rt: &R,
     task: &MockTask,
@@ -107,7 +108,7 @@ fn receive_later<R: Abort, T: Numbered<Memory = A>, A: Allocator + Copy>(
     subscription
 }
 
-/// The subscriber receives the first value: its future asks for memory once.
+/// Receives the first value. Checks that its future asks for memory once.
 fn receives<R: Abort, T: Numbered<Memory = A>, A: Allocator + Copy>(
     rt: &R,
     task: &MockTask,
@@ -126,7 +127,7 @@ fn receives<R: Abort, T: Numbered<Memory = A>, A: Allocator + Copy>(
     compare(rt, 6, refusing.is_waiting(), true);
 }
 
-/// Emits the value with this number, which the flow takes.
+/// Emits the value with this number. Ends the test unless the flow takes it.
 fn fill<R: Wait + Abort, T: Numbered<Memory = A>, A: Allocator + Copy>(
     rt: &R,
     memory: A,
@@ -141,7 +142,7 @@ fn fill<R: Wait + Abort, T: Numbered<Memory = A>, A: Allocator + Copy>(
     compare(rt, 0, taken.ok(), Some(true));
 }
 
-/// A flow, a seat, and a subscriber that has not read 1 and 2.
+/// Returns a flow into which 1 and 2 were emitted, a seat of it, and a subscriber that has received neither.
 fn full_flow<R: Wait + Abort, T: Numbered<Memory = A>, A: Allocator + Copy>(
     rt: &R,
     memory: A,
@@ -160,7 +161,7 @@ fn full_flow<R: Wait + Abort, T: Numbered<Memory = A>, A: Allocator + Copy>(
     (flow, seat, subscription)
 }
 
-/// A third value waits, and the subscriber receives the first one. Both are refused at once, and then as futures.
+/// Emits a third value, which waits, and receives the first one. Both are first refused, as calls and as futures.
 fn play<R: Wait + Abort, T: Numbered<Memory = A>, A: Allocator + Copy>(
     rt: &R,
     task: &MockTask,

@@ -1,4 +1,4 @@
-//! A chain that is collected into a list, which is refused memory.
+//! A chain that is collected into a list to which memory is refused.
 use crate::compare::compare;
 use crate::playing::MANY;
 use flow_cold::{ChainFault, End, OfRange, collect_all};
@@ -6,7 +6,7 @@ use flow_testing::Refusing;
 use std::alloc::{Allocator, Global};
 use std::process::Abort;
 
-/// A collection gives all items where none of its allocations is refused.
+/// Collects the chain without a refusal. Checks that the collection gives all items.
 fn gives_all<A: Allocator + Copy>(rt: &impl Abort, memory: A, chain: &mut OfRange) {
     match collect_all(memory, chain) {
         Ok(got) => {
@@ -17,7 +17,7 @@ fn gives_all<A: Allocator + Copy>(rt: &impl Abort, memory: A, chain: &mut OfRang
     }
 }
 
-/// Each growth of the list is refused in turn, until none is. After a refusal a collection gives all.
+/// Refuses each growth of the list in turn, until none is refused. After a refusal a collection gives all items.
 fn refuse_each<A: Allocator + Copy>(rt: &impl Abort, memory: A, refusing: &Refusing<Global>) {
     let mut chain = OfRange::new(1, 6);
     let mut refusals = 0u64;

@@ -1,5 +1,5 @@
-//! Worked examples of flows, each with the places of the steps that take memory: each of them is refused in some run, and no
-//! other step is. The values are boxed, so each copy takes memory.
+//! Worked examples of flows, each with the places of the steps that take memory. Each of these steps is refused in some
+//! run, and no other step is. The values are boxed, so each copy takes memory.
 use crate::compare::compare;
 use crate::playing::refuse_each;
 use crate::steps::Kind::{Shared, State};
@@ -23,7 +23,7 @@ pub const SMALL: Config = Config {
     limit: u64::MAX,
 };
 
-/// The same, where the oldest value is dropped.
+/// The same flow, but it drops the oldest value.
 const DROPPING: Config = Config {
     overflow: DropOldest,
     ..SMALL
@@ -59,7 +59,7 @@ static EXAMPLES: &[(Example, &[usize])] = &[
         },
         &[0, 3, 4, 5, 6, 7],
     ),
-    // Own values come before the cache, and are never dropped. They are moved, and so never refused.
+    // A subscriber receives its own first values before the replay cache. They are moved, so they are never refused.
     (
         Example {
             kind: Shared(DROPPING),
@@ -79,7 +79,7 @@ static EXAMPLES: &[(Example, &[usize])] = &[
         },
         &[1, 7, 8, 10],
     ),
-    // A new subscriber gets the cache.
+    // A new subscriber receives the replay cache.
     (
         Example {
             kind: Shared(REPLAYING),
@@ -105,7 +105,7 @@ static EXAMPLES: &[(Example, &[usize])] = &[
         },
         &[1],
     ),
-    // A subscriber of a state flow comes at 0, and skips the 1.
+    // A subscriber of a state flow subscribes while the value is 0, and skips 1.
     (
         Example {
             kind: State(u64::MAX),
@@ -125,7 +125,7 @@ static EXAMPLES: &[(Example, &[usize])] = &[
     ),
 ];
 
-/// Each step at one of these places was refused in some run, and no other one was.
+/// Checks that each step at one of these places is refused in some run, and no other step is.
 fn refuse_all(rt: &(impl Wait + Abort), alloc: Global) {
     for (example, places) in EXAMPLES {
         let refused = refuse_each(rt, alloc, 0, example);

@@ -20,7 +20,7 @@ impl Guarded for Named {
     ghost stands = { λ _ _ _. ⊤ };
 }
 
-/// A gate takes memory three times. Each refusal hands the state back.
+/// Refuses each of the three allocations of a gate. Checks that each refusal hands the state back.
 fn refuse_each<A: Allocator + Copy>(rt: &impl Abort, memory: A, refusing: &Refusing<Global>) {
     for number in 1..4 {
         refusing.refuse(number);

@@ -1,5 +1,5 @@
-//! A sharing that is refused memory. A subscriber that reads nothing has 64 values buffered, and the next one waits, for
-//! which the flow takes memory.
+//! A sharing that is refused memory. For a subscriber that reads nothing 64 values are buffered. The next value waits,
+//! and for that the flow takes memory.
 use crate::compare::compare;
 use crate::playing::MANY;
 use crate::sharing::Chain::SixtySix;
@@ -17,14 +17,14 @@ use std::process::Abort;
 
 const OUT_OF_MEMORY: FlowFault = FlowFault::OutOfMemory;
 
-/// Why a new sharing is refused, if it is.
+/// Makes a sharing. Returns why it is refused, if it is.
 fn refusal<A: Allocator + Copy>(rt: &impl Abort, alloc: Global, memory: A) -> Option<ShareFault> {
     let chain = SixtySix.make(rt, alloc);
     share_in(memory, chain, Started::Eagerly, 0, u64::MAX).err()
 }
 
-/// Each allocation of a new sharing is refused in turn, until none is. Then the allocation of the item that waits is refused,
-/// which is put in the next turn.
+/// Refuses each allocation of a new sharing in turn, until none is refused. Then refuses the allocation for the item
+/// that waits; the next turn puts that item.
 fn share<A: Allocator + Copy>(
     rt: &impl Abort,
     alloc: Global,

@@ -1,4 +1,4 @@
-//! Runs of sharings on a thread of their own, and what another thread makes of them meanwhile.
+//! Sharings that run on one thread while another thread calls their flow.
 use crate::compare::compare;
 use flow_cold::Scripted;
 use flow_core::FlowCore;
@@ -10,10 +10,10 @@ use std::sync::Wait;
 use std::thread::{Threads, join, sleep};
 use std::time::{Clock, Duration};
 
-/// It stops three milliseconds after its last subscriber has gone, and forgets after three more.
+/// The chain stops three milliseconds after the last subscriber has gone, and the flow is reset after three more.
 pub const SHORTLY: Started = Started::WhileSubscribed { stop: 3, expire: 3 };
 
-/// It stops at once, and never forgets.
+/// The chain stops as soon as the last subscriber has gone, and the flow is never reset.
 pub const AT_ONCE: Started = Started::WhileSubscribed {
     stop: 0,
     expire: NEVER,
@@ -21,17 +21,17 @@ pub const AT_ONCE: Started = Started::WhileSubscribed {
 
 /// A caller of a flow into which a run shares a chain of 3, 3 and 4.
 pub trait Caller {
-    /// Subscribes, receives what the flow gives up to the last item, and unsubscribes. Returns whether that was right.
+    /// Subscribes, receives up to the last item, and unsubscribes. Returns whether it received the right values.
     fn receives<R: Wait + Abort>(&mut self, rt: &R) -> bool;
 
-    /// Returns whether the flow has no item of the chain any more.
+    /// Returns whether the flow no longer has an item of the chain.
     fn is_reset<R: Wait>(&mut self, rt: &R) -> bool;
 }
 
-/// A stop of a run, and what a caller of the flow does before it asks the run to stop.
+/// A stop of a run, and the calls that a caller of the flow makes before it asks the run to stop.
 pub trait Follows<C>: StopSignal {
-    /// Follows the run on another thread, and asks it to stop at last. Returns whether the caller received what it was to
-    /// receive.
+    /// Makes these calls on another thread while the run runs, and then asks it to stop. Returns whether the caller
+    /// received the right values.
     fn follow<R: Wait + Clock + Abort>(&self, rt: &R, caller: &mut C) -> bool;
 }
 
@@ -39,7 +39,7 @@ fn nap<R: Clock>(rt: &R) {
     sleep(rt, Duration::from_millis(2));
 }
 
-/// Waits until the flow is reset, and does not subscribe. The number of looks is bounded.
+/// Waits until the flow is reset, without subscribing. Returns false after a bounded number of checks.
 fn waits_for_reset<R: Wait + Clock, C: Caller>(rt: &R, caller: &mut C) -> bool {
     for _ in 0..5000 {
         if caller.is_reset(rt) {
@@ -50,8 +50,8 @@ fn waits_for_reset<R: Wait + Clock, C: Caller>(rt: &R, caller: &mut C) -> bool {
     false
 }
 
-/// Subscribes twice, each time while the run sleeps, so that the run is woken by a subscriber after a stop, too. Returns
-/// whether each subscriber got the items, and the flow was reset once it had gone.
+/// Subscribes twice, each time while the run sleeps, so that a subscriber wakes the run after a stop, too. Returns
+/// whether each subscriber received the items, and the flow was reset once it had gone.
 pub fn receives_twice<R: Wait + Clock + Abort, C: Caller>(rt: &R, caller: &mut C) -> bool {
     let mut is_right = true;
     for _ in 0..2 {
@@ -72,7 +72,7 @@ where
     }
 }
 
-/// Runs the sharing while the caller follows it.
+/// Runs the sharing while the caller follows it on another thread.
 pub fn run_beside<R, H, C, S>(
     rt: &R,
     sharing: &mut Sharing<Scripted<i64>, H>,

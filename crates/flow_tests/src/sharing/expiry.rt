@@ -1,4 +1,4 @@
-//! A flow forgets what it replays some time after the chain has stopped (`replayExpirationMillis`).
+//! The replay cache of a flow expires some time after the chain has stopped (`replayExpirationMillis`).
 use crate::sharing::playing::FlowKind::{Shared, State};
 use crate::sharing::playing::{Chain, Example};
 use crate::sharing::sharing_steps::Step::{Flow, Turn, Turns};
@@ -8,14 +8,14 @@ use flow_law::Event::{Idle, Put};
 use flow_law::Next::{Empty, Value};
 use flow_law::Started;
 
-/// It stops after 100 milliseconds without a subscriber, and forgets after 50 more.
+/// The chain stops after 100 milliseconds without a subscriber, and the replay cache expires after 50 more.
 const STARTED: Started = Started::WhileSubscribed {
     stop: 100,
     expire: 50,
 };
 
 pub static EXAMPLES: &[Example] = &[
-    // It forgets some time after the stop. A subscriber who comes after the expiry is replayed nothing.
+    // The replay cache expires some time after the stop. A later subscriber receives nothing from it.
     Example {
         chain: Chain::List(&[10, 20, 30, 40]),
         started: STARTED,
@@ -39,7 +39,7 @@ pub static EXAMPLES: &[Example] = &[
             Flow(Next(1, &Value(10))),
         ],
     },
-    // A subscriber who is there before any turn has seen the expiry starts the chain, and nothing is forgotten.
+    // A subscriber that subscribes before a turn at or after the expiry starts the chain, and the replay cache is kept.
     Example {
         chain: Chain::List(&[10, 20, 30, 40]),
         started: STARTED,
@@ -55,7 +55,7 @@ pub static EXAMPLES: &[Example] = &[
             Flow(Cache(&[40, 10])),
         ],
     },
-    // A state flow goes back to its initial value, here 0, as soon as its last subscriber has gone.
+    // A state flow is reset to its initial value, here 0, as soon as its last subscriber has gone.
     Example {
         chain: Chain::List(&[3, 4]),
         started: Started::WhileSubscribed { stop: 0, expire: 0 },

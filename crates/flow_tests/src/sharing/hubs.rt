@@ -1,4 +1,4 @@
-//! Policies, and hubs of flows for one thread, by themselves. The worked examples of sharings use the hubs of other flows.
+//! Policies, and hubs of flows for one thread, without a sharing. The worked examples of sharings use the other hubs.
 ghost use Rattle.std.specs.Prelude.{◌≡◌, false};
 
 use crate::compare::compare;
@@ -11,22 +11,22 @@ use flow_sharing::{
 use std::alloc::Global;
 use std::process::Abort;
 
-/// A new policy, where there is one; a moment, a count of subscribers, and what the policy answers to them.
+/// A new policy, if the row has one; a moment, a number of subscribers, and what the policy returns for them.
 type Observation = (Option<Started>, u64, u64, Result<Command, Backwards>);
 
-/// Moments may stand still, and do not go back.
+/// A stop after ten milliseconds without a subscriber, and no expiry. Moments may be equal, but must not decrease.
 const TEN: Started = Started::WhileSubscribed {
     stop: 10,
     expire: NEVER,
 };
 
-/// The stop and the expiry are added up without a bound: they may come to more than any moment.
+/// The sum of the stop and the expiry has no bound: it may be greater than any moment.
 const LONG: Started = Started::WhileSubscribed {
     stop: NEVER - 1,
     expire: 1,
 };
 
-/// The same, a moment later.
+/// The same policy, but it expires a moment later.
 const LONGER: Started = Started::WhileSubscribed {
     stop: NEVER - 1,
     expire: 2,
@@ -67,7 +67,7 @@ fn laws_hold_of_whole_numbers() {
     law_turn_over_word_state::<i64>();
 }
 
-/// The hub puts 3, which waits or not, and cancels what waits. So many subscribe.
+/// Puts 3 by a hub with `count` subscribers, compares whether the emission waits, and cancels what waits.
 fn puts_and_cancels<H: Hub<Item = i64>>(rt: &impl Abort, hub: &mut H, waits: bool, count: u64)
     requires { H.waits hub.old ≡ false }
 {

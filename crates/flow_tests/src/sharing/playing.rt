@@ -27,13 +27,13 @@ pub enum Chain {
     List(&'static [i64]),
     /// The numbers from 1 to 66.
     SixtySix,
-    /// It is pending once, and fails with 7 after the item 1.
+    /// A chain that is pending once, and fails with 7 after the item 1.
     Failing,
 }
 
 /// The flow of an example.
 pub enum FlowKind {
-    /// A shared flow that replays so many values (`shareIn`).
+    /// A shared flow that replays this many values (`shareIn`).
     Shared(u32),
     /// A state flow, whose first value is 0 (`stateIn`).
     State,
@@ -112,7 +112,7 @@ fn play_shared<R: Wait + Abort>(
     play_on(rt, alloc, first, example.steps, flow, seat, &mut sharing);
 }
 
-/// Shares the chain of an example into the state flow, which has the value 0 first, and takes the steps.
+/// Shares the chain of an example into the state flow, whose initial value is 0, and takes the steps.
 fn play_state<R: Wait + Abort>(
     rt: &R,
     alloc: Global,
@@ -141,7 +141,7 @@ pub fn share_into<'a>(
     Sharing::new(chain, started, SharedFlowHub::new(flow, seat))
 }
 
-/// Shares a chain into the flow, which has the value 0 first.
+/// Shares a chain into the state flow, whose initial value is 0.
 pub fn share_into_state<'a>(
     flow: &'a StateFlow<i64>,
     seat: &mut StateSeat<i64>,
@@ -154,12 +154,12 @@ pub fn share_into_state<'a>(
     Sharing::new(chain, started, StateFlowHub::new(flow, seat, 0))
 }
 
-/// The configuration of `shareIn` with this replay: there is room for 64 values, those included.
+/// Returns the configuration of `shareIn` with this replay: room for 64 values, including those that are replayed.
 fn config_of(replay: u32) -> Config {
     Config::new().replay(replay).extra(64 - replay.min(64))
 }
 
-/// Plays the examples. Step 7 of the example 3 has the place 307, from this one on.
+/// Plays the examples. Step 7 of example 3 has the place `first` + 307.
 pub fn play<R: Wait + Abort>(rt: &R, alloc: Global, first: usize, examples: &[Example]) {
     for (number, example) in examples.iter().enumerate() {
         let place = first.saturating_add(number.saturating_mul(100));

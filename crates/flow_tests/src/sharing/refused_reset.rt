@@ -1,4 +1,4 @@
-//! A sharing over a state flow, a reset, and a chain, that are refused with `OutOfMemory`.
+//! A sharing over a state flow, a reset and a chain that are refused with `OutOfMemory`.
 use crate::compare::compare;
 use crate::sharing::sharing_steps::{RESTS, STARTS};
 use flow_cold::OfList;
@@ -11,7 +11,7 @@ use std::process::Abort;
 
 type Shared<'a> = Sharing<OfList<CopyLimited<'a>>, StateHub<CopyLimited<'a>>>;
 
-/// Takes a turn that answers so, after which the flow has this value.
+/// Takes a turn. Compares what it returns, and the value that the flow then has.
 fn turns(
     rt: &impl Abort,
     sharing: &mut Shared<'_>,
@@ -26,7 +26,7 @@ fn turns(
     }
 }
 
-/// A chain of 3, whose state flow begins with 0, stops without subscribers, and forgets at once.
+/// Shares a chain of 3 into a state flow that begins with 0. Without subscribers it stops and is reset at once.
 fn share<'a>(
     rt: &impl Abort,
     alloc: Global,
@@ -42,9 +42,8 @@ fn share<'a>(
 
 const OUT_OF_MEMORY: ShareFault = ShareFault::Flow(FlowFault::OutOfMemory);
 
-/// The copy of the initial value that the sharing keeps for resets is refused, and then there is a sharing. A reset that is
-/// refused stays due, and is made in the next turn. A chain that is refused the copy of an item tells it once, and ends the
-/// sharing.
+/// Refuses the copy of the initial value that a sharing keeps for resets, and then makes a sharing. A refused reset
+/// stays due, and is made in the next turn. A refused copy of an item is reported once, and ends the sharing.
 #[test]
 fn a_refused_reset_stays_due_and_a_refused_chain_ends(rt: HostRuntime) {
     let copies = Cell::new(1);

@@ -38,7 +38,7 @@ impl<'a> Caller for Emitter<'a, i64> {
     }
 }
 
-/// A stop that counts how often a run looks at it: once for each turn, and once before each sleep.
+/// A stop that counts how often a run checks it: once in each turn, and once before each sleep.
 #[derive(Drop)]
 struct CountedStop {
     stop: FlowStop,
@@ -53,7 +53,8 @@ impl CountedStop {
         }
     }
 
-    /// Returns whether the run takes only a few turns meanwhile. No other caller calls the flow, so no turn is busy.
+    /// Returns whether the run takes only a few turns in 30 milliseconds. No other caller calls the flow then, so no
+    /// turn is busy.
     fn sleeps<R: Clock>(&self, rt: &R) -> bool {
         let before = self.looks.load(Ordering::SeqCst);
         sleep(rt, Duration::from_millis(30));
@@ -69,7 +70,7 @@ impl CountedStop {
         is_right && self.sleeps(rt)
     }
 
-    /// Subscribes, receives the items, and leaves.
+    /// Subscribes, receives the items, and drops the reader. Returns whether the run slept between them.
     fn sleeps_beside_reader<R: Wait + Clock + Abort>(
         &self,
         rt: &R,
@@ -111,8 +112,8 @@ fn share<'a>(
     (sharing, flow.emitter(seat))
 }
 
-/// `shareIn` with `replay = 1` and `WhileSubscribed(stopTimeoutMillis = 3, replayExpirationMillis = 3)`: once a subscriber
-/// has gone for six milliseconds the replay cache is empty. The next subscriber starts the chain anew.
+/// `shareIn` with `replay = 1` and `WhileSubscribed(stopTimeoutMillis = 3, replayExpirationMillis = 3)`: six
+/// milliseconds after a subscriber has gone the replay cache is empty. The next subscriber starts the chain anew.
 #[test]
 fn a_shared_flows_run_is_woken_by_subscribers_and_at_the_expiry(rt: HostRuntime) {
     let chain = Chain::List(&[3, 3, 4]).make(&rt, rt.alloc());
@@ -121,8 +122,8 @@ fn a_shared_flows_run_is_woken_by_subscribers_and_at_the_expiry(rt: HostRuntime)
     run_beside(&rt, &mut sharing, &FlowStop::new(), &mut emitter);
 }
 
-/// A flow without a buffer: each of three emissions waits for the slow subscriber. The run sleeps before it comes, while an
-/// emission waits, when the chain has ended, and after the subscriber has gone.
+/// Without a buffer each of three emissions waits for the slow subscriber. The run sleeps before it subscribes, while
+/// an emission waits, when the chain has ended, and after the subscriber has gone.
 #[test]
 fn a_run_sleeps_while_there_is_nothing_to_do(rt: HostRuntime) {
     let chain = Chain::List(&[1, 2, 3]).make(&rt, rt.alloc());
@@ -145,7 +146,7 @@ fn share_to_end<R: Wait + Clock + Abort>(
     compare(rt, 0, sharing.run_to_end(rt), Ok(()));
 }
 
-/// The run ends once the chain has. A program of use_flows has a subscriber for which it waits.
+/// The run ends once the chain has ended. A program of use_flows has a subscriber for which it waits.
 #[test]
 fn a_run_to_the_end_emits_each_item(rt: HostRuntime) {
     let chain = Chain::List(&[1, 2, 3]).make(&rt, rt.alloc());

@@ -1,4 +1,4 @@
-//! Steps of a sharing and of its flow, each with what it is to answer.
+//! Steps of a sharing and of its flow, each with what it must return.
 use crate::compare::compare;
 use crate::steps;
 use flow_cold::Scripted;
@@ -6,25 +6,25 @@ use flow_law::{Command, Event, Report, ShareFault};
 use flow_sharing::{Hub, Sharing};
 use std::process::Abort;
 
-/// The chain is started, and puts its first item.
+/// The report of a turn that starts the chain and puts its first item.
 pub const STARTS: Report = Report {
     command: Command::Start,
     event: Event::Put,
 };
 
-/// The chain puts its next item.
+/// The report of a turn that puts the next item.
 pub const PUTS: Report = Report {
     command: Command::Keep,
     event: Event::Put,
 };
 
-/// There is nothing to do.
+/// The report of a turn that has nothing to do.
 pub const RESTS: Report = Report {
     command: Command::Keep,
     event: Event::Idle,
 };
 
-/// A step, and what it answers.
+/// A step, and what it returns.
 #[derive(Clone, Copy)]
 pub enum Step {
     /// The moment, and what the turn reports.
@@ -33,7 +33,7 @@ pub enum Step {
     Turns(u64, u64, Command, Event),
     /// The moment of a turn, and why it is refused.
     Refused(u64, ShareFault),
-    /// How many subscribers the flow has.
+    /// The number of subscribers of the flow.
     Count(u64),
     /// A step on the flow.
     Flow(steps::Step),
@@ -53,7 +53,7 @@ fn turns<H: Hub<Item = i64>>(
     }
 }
 
-/// Takes a step of the sharing itself, and compares what it answers.
+/// Takes a step of the sharing itself, and compares what it returns.
 pub fn turn<H: Hub<Item = i64>>(
     rt: &impl Abort,
     sharing: &mut Sharing<Scripted<i64>, H>,

@@ -11,8 +11,8 @@ use flow_law::ShareFault::{Backwards, Chain as OfChain, Ended};
 use flow_law::{ChainFault, NEVER, Started};
 
 static EXAMPLES: &[Example] = &[
-    // It stops some time after the last subscriber. One at 0 goes, another comes at 149 and goes before 200, a third comes
-    // at 301.
+    // The chain stops some time after the last subscriber has gone. A first subscriber at 0 goes, a second one
+    // subscribes at 149 and goes before 200, and a third one subscribes at 301.
     Example {
         chain: Chain::List(&[10, 20, 30, 40]),
         started: Started::WhileSubscribed {
@@ -38,7 +38,7 @@ static EXAMPLES: &[Example] = &[
             Refused(300, Backwards(301)),
         ],
     },
-    // With a stop that never comes, the greatest moment is no stop.
+    // If the stop is `NEVER`, the chain does not stop at the greatest moment either.
     Example {
         chain: Chain::List(&[1, 2, 3]),
         started: Started::WhileSubscribed {
@@ -54,7 +54,7 @@ static EXAMPLES: &[Example] = &[
             Turn(u64::MAX, Keep, Put),
         ],
     },
-    // A subscriber that reads nothing has 64 values buffered. The next one waits, until it has read one.
+    // For a subscriber that reads nothing 64 values are buffered. The next value waits until the subscriber reads one.
     Example {
         chain: Chain::SixtySix,
         started: Started::Eagerly,
@@ -88,7 +88,7 @@ static EXAMPLES: &[Example] = &[
             Count(0),
         ],
     },
-    // The fault of a chain is told once, ends the sharing, and leaves the subscribers what they have.
+    // The fault of a chain is reported once, and ends the sharing. Subscribers still receive their values.
     Example {
         chain: Chain::Failing,
         started: Started::Lazily,
@@ -104,7 +104,7 @@ static EXAMPLES: &[Example] = &[
             Flow(Next(0, &Value(1))),
         ],
     },
-    // A state flow has the newest item, and a subscriber gets no item that is the same as the one before.
+    // A state flow has the newest item, and a subscriber receives no item that is the same as the one before.
     Example {
         chain: Chain::List(&[3, 3, 4]),
         started: Started::Eagerly,
@@ -124,7 +124,7 @@ static EXAMPLES: &[Example] = &[
     },
 ];
 
-/// Over flows for several threads.
+/// The worked examples hold over flows for several threads.
 #[test]
 fn sharings_are_as_documented(rt: HostRuntime) {
     play(&rt, rt.alloc(), 0, EXAMPLES);

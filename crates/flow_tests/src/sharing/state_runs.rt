@@ -1,4 +1,4 @@
-//! Sharings over state flows that are run by one call, on a thread of its own.
+//! Sharings over state flows that are run by one call, on a thread of their own.
 ghost use Rattle.std.specs.Prelude.{◌≡◌};
 
 use crate::flows::{new_state_flow, new_state_reader};
@@ -30,7 +30,7 @@ impl<'a> Caller for Setter<'a, i64> {
     }
 }
 
-/// A stop that is asked for after so many yields.
+/// A stop that is asked for after this many yields.
 #[derive(Drop)]
 struct LateStop {
     stop: FlowStop,
@@ -69,8 +69,8 @@ fn share<'a>(
     (sharing, flow.setter(seat))
 }
 
-/// `stateIn` with `WhileSubscribed(stopTimeoutMillis = 3, replayExpirationMillis = 3)`: once a subscriber has gone for six
-/// milliseconds the state is the first one, 0. The next subscriber starts the chain anew.
+/// `stateIn` with `WhileSubscribed(stopTimeoutMillis = 3, replayExpirationMillis = 3)`: six milliseconds after a
+/// subscriber has gone the state is the initial one, 0. The next subscriber starts the chain anew.
 #[test]
 fn a_state_flows_run_is_woken_by_subscribers_and_at_the_expiry(rt: HostRuntime) {
     let chain = Chain::List(&[3, 3, 4]).make(&rt, rt.alloc());
@@ -94,7 +94,7 @@ fn run_often<R: Threads + Wait + Clock + Abort + Sync>(
     }
 }
 
-/// A stop that is asked for at any moment of a run's first turns ends it.
+/// A stop ends a run, whenever it is asked for during the first turns.
 #[test]
 fn a_stop_that_comes_before_the_sleep_is_not_missed(rt: HostRuntime) {
     let chain = Chain::List(&[1]).make(&rt, rt.alloc());

@@ -1,11 +1,11 @@
-//! Subscribers of sharings on one thread, by the calls of the sharing itself.
+//! Subscribers of sharings on one thread, which use the calls of the sharing itself.
 use crate::compare::compare;
 use crate::sharing::sharing_steps::{PUTS, STARTS};
 use flow_cold::OfRange;
 use flow_law::{Next, Started};
 use flow_sharing::{share_in, state_in};
 
-/// Without a replay a subscriber gets the items that are put after it came.
+/// Without a replay a subscriber receives the items that are put after it has subscribed.
 #[test]
 fn a_subscriber_gets_each_item_of_a_shared_chain(rt: HostRuntime) {
     let shared = share_in(rt.alloc(), OfRange::new(1, 3), Started::Lazily, 0, u64::MAX);
@@ -20,7 +20,7 @@ fn a_subscriber_gets_each_item_of_a_shared_chain(rt: HostRuntime) {
     compare(&rt, 5, sharing.next(id), Ok(Next::Gone));
 }
 
-/// A subscriber of a state gets the initial value, and then the most recent one only.
+/// A subscriber of a state receives the initial value, and then only the most recent one.
 #[test]
 fn a_subscriber_of_a_state_skips_to_the_last_item(rt: HostRuntime) {
     let shared = state_in(rt.alloc(), OfRange::new(1, 3), Started::Lazily, 0, u64::MAX);

@@ -1,4 +1,4 @@
-//! A state flow without a lock, into which a chain is shared.
+//! A chain that is shared into a state flow without a lock.
 ghost use Rattle.std.specs.Prelude.{◌≡◌};
 
 use crate::compare::compare;
@@ -15,10 +15,11 @@ use flow_word::{WordReader, WordSeat, WordSetter, WordState};
 use std::process::Abort;
 use std::sync::Wait;
 
-/// It stops and forgets at once.
+/// The chain stops and the state is reset as soon as the last subscriber has gone.
 const AT_ONCE: Started = Started::WhileSubscribed { stop: 0, expire: 0 };
 
-/// Turns while there is a subscriber, each with the item that it gets then. It gets no item that is the same as the last.
+/// Turns while there is a subscriber, each with the item that the subscriber receives then: none that is the same as
+/// the last one.
 static FOLLOWED: &[(Step, Option<i64>)] = &[
     (Turn(0, Start, Put), Some(3)),
     (Turn(1, Keep, Put), None),
@@ -27,7 +28,7 @@ static FOLLOWED: &[(Step, Option<i64>)] = &[
     (Turn(4, Keep, Completed), None),
 ];
 
-/// A subscriber comes, gets the items of 3, 3 and 4, and goes.
+/// Takes the turns of a chain of 3, 3 and 4, and compares what the reader receives after each.
 fn follows<R: Wait + Abort>(
     rt: &R,
     sharing: &mut Sharing<Scripted<i64>, WordHub<'_, i64>>,
@@ -39,7 +40,7 @@ fn follows<R: Wait + Abort>(
     }
 }
 
-/// Once the last subscriber has gone, the state is the initial one again at once.
+/// Subscribes, takes turns and unsubscribes. Checks that the next turn resets the state to the initial one.
 fn comes_and_goes<R: Wait + Abort>(
     rt: &R,
     sharing: &mut Sharing<Scripted<i64>, WordHub<'_, i64>>,
@@ -53,7 +54,7 @@ fn comes_and_goes<R: Wait + Abort>(
     compare(rt, 7, setter.value(), 0);
 }
 
-/// Shares a chain into the flow, which has the value 0 first.
+/// Shares a chain into the word state, whose initial value is 0.
 pub fn share_into_word<'a>(
     flow: &'a WordState<i64>,
     seat: &mut WordSeat<i64>,
@@ -66,7 +67,7 @@ pub fn share_into_word<'a>(
     Sharing::new(chain, started, WordHub::new(flow, seat, 0))
 }
 
-/// As `stateIn`.
+/// Like `stateIn`.
 #[test]
 fn a_chain_is_shared_into_a_word_state(rt: HostRuntime) {
     let chain = Chain::List(&[3, 3, 4]).make(&rt, rt.alloc());

@@ -1,4 +1,4 @@
-//! Sharings over a word state that are run by one call, on a thread of its own.
+//! Sharings over a word state that are run by one call, on a thread of their own.
 use crate::flows::{new_word_reader, new_word_state};
 use crate::sharing::beside::{Caller, Follows, SHORTLY, receives_twice, run_beside};
 use crate::sharing::playing::Chain;
@@ -31,8 +31,9 @@ impl<'a> Follows<WordSetter<'a, i64>> for WordStop<'a, i64> {
     }
 }
 
-/// `stateIn` with `WhileSubscribed(stopTimeoutMillis = 3, replayExpirationMillis = 3)`: a subscriber sees the chain's last
-/// item, and once it has gone for six milliseconds the state is the initial one. The next subscriber starts the chain anew.
+/// `stateIn` with `WhileSubscribed(stopTimeoutMillis = 3, replayExpirationMillis = 3)`: a subscriber receives the
+/// chain's last item, and six milliseconds after it has gone the state is the initial one. The next subscriber starts
+/// the chain anew.
 #[test]
 fn a_run_is_woken_by_subscribers_and_at_the_expiry(rt: HostRuntime) {
     let chain = Chain::List(&[3, 3, 4]).make(&rt, rt.alloc());

@@ -1,11 +1,11 @@
-//! What a caller of a word state does in a thread of its own.
+//! A caller of a word state that does a task in a thread of its own.
 ghost use Rattle.std.specs.Prelude.{◌≡◌};
 
 use crate::word::signals::Signals;
 use flow_word::{WordSeat, WordState};
 use std::sync::Wait;
 
-/// A caller with a seat of a flow, what it is to do, the value that it read then, and how many subscriptions it had.
+/// A caller with a seat of a flow, its task, the value that it read afterwards, and the number of its subscriptions.
 #[derive(Drop)]
 pub struct Caller<'a> {
     pub flow: &'a WordState<i64>,
@@ -16,21 +16,21 @@ pub struct Caller<'a> {
     ghost of_flow: { seat.table_id ≡ flow.now.table_id },
 }
 
-/// What a caller does.
+/// The task of a caller.
 #[derive(Clone, Copy)]
 pub enum Task {
     Read,
     Set(i64),
     /// Sets a value while the function of an update waits.
     SetMeanwhile(i64),
-    /// Adds 1. The function waits at its first call until a set was answered.
+    /// Adds 1. At its first call the function waits until a `set` has returned.
     AddSlowly,
-    /// Adds 1 so many times, and subscribes and unsubscribes after each.
+    /// Adds 1 this many times, and subscribes and unsubscribes after each.
     CountUp(u32),
 }
 
 impl<'a> Caller<'a> {
-    /// Another caller, for another thread.
+    /// Returns another caller, for another thread.
     pub fn another(&mut self, task: Task) -> Caller<'a> {
         Caller {
             flow: self.flow,
@@ -41,7 +41,7 @@ impl<'a> Caller<'a> {
         }
     }
 
-    /// Does the task, and reads.
+    /// Does the task, and reads the value.
     pub fn run<R: Wait>(&mut self, rt: &R, signals: &Signals) {
         match self.task {
             Task::Read => {}

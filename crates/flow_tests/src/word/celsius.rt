@@ -1,4 +1,4 @@
-//! A type of a caller's own that fits a word: its packs are those of the number that it holds.
+//! A type of your own that fits a word: its packs are those of the number that it holds.
 ghost use Rattle.std.specs.Int.{cast_signed};
 ghost use Rattle.std.specs.Prelude.{◌^◌, ◌<◌};
 ghost use Rattle.std.proofs.Common.{ap};

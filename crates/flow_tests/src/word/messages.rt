@@ -1,4 +1,4 @@
-//! A message is sent and heard.
+//! A message that is sent and received.
 use crate::compare::compare;
 use flow_messages::pass_on;
 use flow_word::WordState;

@@ -1,5 +1,5 @@
-//! Worked examples by one caller. The values come from kotlinx.coroutines' documentation of
-//! `MutableStateFlow`. The tests of handles have more of them.
+//! Worked examples of one caller. The values are from kotlinx.coroutines' documentation of `MutableStateFlow`. The
+//! tests of handles have more examples.
 ghost use Rattle.std.specs.Prelude.{◌≡◌};
 
 use crate::compare::compare;
@@ -8,8 +8,8 @@ use flow_word::{WordSeat, WordState};
 use std::alloc::Global;
 use std::process::Abort;
 
-/// A flow with the value 7. Where its memory is refused it is made once more: `rt try --test --fail-alloc N` refuses the
-/// allocation N.
+/// Returns a flow with the value 7. Makes it once more if its memory is refused: `rt try --test --fail-alloc N` refuses
+/// the allocation N.
 fn made_again(rt: &impl Abort, alloc: Global) -> (WordState<i64>, WordSeat<i64>)
     ensures { result.1.table_id ≡ result.0.table_id }
 {
@@ -41,7 +41,7 @@ fn subscribers_are_counted(rt: HostRuntime) {
     compare(&rt, 2, flow.subscription_count(&mut other), 0);
 }
 
-/// Two seats read what either set before they met.
+/// After two seats have met, each reads what either has set before.
 #[test]
 fn who_has_met_reads_what_the_other_one_set(rt: HostRuntime) {
     let made = WordState::<i64>::new(rt.alloc(), 0, 1);
@@ -53,7 +53,7 @@ fn who_has_met_reads_what_the_other_one_set(rt: HostRuntime) {
     compare(&rt, 1, flow.value(&mut other), 3);
 }
 
-/// A subscription receives what a seat set that met it.
+/// A subscription receives what a seat set before it met the subscription.
 #[test]
 fn a_subscriber_that_has_met_receives_what_was_set(rt: HostRuntime) {
     let made = WordState::<i64>::new(rt.alloc(), 0, 1);

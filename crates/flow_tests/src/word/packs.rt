@@ -1,10 +1,10 @@
-//! Packs, at the extremes of each type.
+//! Packs of the least and the greatest values of each type.
 use crate::compare::compare;
 use crate::word::celsius::Celsius;
 use flow_law::Packed;
 use std::process::Abort;
 
-/// The values come back from their packs.
+/// Checks that unpacking a packed value returns it.
 fn come_back<T: Packed + Copy + PartialEq + Drop>(rt: &impl Abort, place: usize, values: &[T]) {
     for value in values {
         compare(rt, place, T::unpack((*value).pack()) == *value, true);

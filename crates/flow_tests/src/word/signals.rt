@@ -3,20 +3,20 @@ use crate::word::caller::one_more;
 use std::sync::atomic::{AtomicBool, Ordering};
 use std::thread::yield_now;
 
-/// How often a waiting thread looks for a signal.
+/// How often a waiting thread checks for a signal.
 const LOOKS: u32 = 100_000_000;
 
-/// A waiting thread yields after so many looks.
+/// The number of checks after which a waiting thread yields.
 const LOOKS_A_YIELD: u32 = 1_024;
 
-/// The function of an update, and a set that is made while the function waits.
+/// Signals between the function of an update and a `set` that is made while the function waits.
 #[derive(Drop)]
 pub struct Signals {
     is_called: AtomicBool,
     is_answered: AtomicBool,
     /// Whether the function got 0 at its first call.
     read_zero: AtomicBool,
-    /// Whether the function saw, at its first call, that the set was answered.
+    /// Whether the function saw, at its first call, that the `set` had returned.
     saw_answer: AtomicBool,
 }
 
@@ -34,7 +34,7 @@ fn comes(flag: &AtomicBool) -> bool {
 }
 
 impl Signals {
-    /// Signals before the update.
+    /// Returns the signals before the update.
     pub fn new() -> Signals {
         Signals {
             is_called: AtomicBool::new(false),
@@ -49,12 +49,12 @@ impl Signals {
         comes(&self.is_called)
     }
 
-    /// Records that the set was answered.
+    /// Records that the `set` has returned.
     pub fn tell_answer(&self) {
         self.is_answered.store(true, Ordering::SeqCst);
     }
 
-    /// Adds 1. The first call waits until the set was answered.
+    /// Adds 1. The first call waits until the `set` has returned.
     pub fn one_more_slowly(&self, value: i64) -> i64 {
         if !self.is_called.load(Ordering::SeqCst) {
             self.read_zero.store(value == 0, Ordering::SeqCst);
@@ -65,7 +65,7 @@ impl Signals {
         one_more(value)
     }
 
-    /// Returns whether the function first got 0, and whether the set was answered while the function waited.
+    /// Returns whether the function first got 0, and whether the `set` returned while the function waited.
     pub fn seen(&self) -> (bool, bool) {
         let read_zero = self.read_zero.load(Ordering::SeqCst);
         (read_zero, self.saw_answer.load(Ordering::SeqCst))

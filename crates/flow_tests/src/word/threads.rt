@@ -10,10 +10,10 @@ use std::process::Abort;
 use std::sync::Wait;
 use std::thread::{Threads, for_each_mut};
 
-/// How many numbers the flow issues.
+/// The number of numbers that the flow issues.
 const NUMBERS: u32 = 4_000;
 
-/// What the first caller read, what the flow has at the end, and how many subscriptions all callers had.
+/// The value that the first caller read, the last value of the flow, and the number of all callers' subscriptions.
 type Outcome = (i64, i64, u32);
 
 /// Does each of these tasks in a thread of its own, on a flow with the value 0; all threads begin at the same time.
@@ -57,7 +57,7 @@ fn run<R: Abort + Threads + Wait + Sync>(
     (callers[0].value, maker.value, subscribed)
 }
 
-/// Reads the value. The flow has no subscriber, and refuses another one if all numbers are issued.
+/// Reads the value. Checks that the flow has no subscriber, and refuses another one if all numbers are issued.
 fn is_left<R: Abort + Wait>(rt: &R, maker: &mut Caller<'_>, subscribed: u32) {
     maker.value = maker.flow.value(&mut maker.seat);
     let count = maker.flow.subscription_count(&mut maker.seat);
@@ -79,7 +79,8 @@ fn a_thread_reads_what_it_set_or_what_another_set(rt: HostRuntime) {
     compare(&rt, 1, value == 9 || value == 4, true);
 }
 
-/// The function of the update gets 0, the set is answered while the function waits, and the update takes the value that was set.
+/// The function of the update gets 0, the `set` returns while the function waits, and the update then takes the value
+/// that was set.
 #[test]
 fn a_set_does_not_wait_for_an_update(rt: HostRuntime) {
     let signals = Signals::new();
@@ -94,7 +95,7 @@ fn a_set_does_not_wait_for_an_update(rt: HostRuntime) {
     compare(&rt, 1, value, 6);
 }
 
-/// Each thread adds 1 and has a subscription a thousand times, and none is refused.
+/// Each thread adds 1 and subscribes a thousand times, and no subscription is refused.
 #[test]
 fn four_threads_count(rt: HostRuntime) {
     let count = [Task::CountUp(1_000); 4];

@@ -1,4 +1,4 @@
-//! A chain that is shared into a flow for threads: one thread runs the sharing, another one reads.
+//! A chain that is shared into a flow: one thread runs the sharing, and another one reads the flow.
 use crate::threads::sum_of;
 use anyhow::Result;
 use flow_cold::OfRange;
@@ -10,8 +10,8 @@ use std::sync::Wait;
 use std::thread::{Threads, join};
 use std::time::Clock;
 
-/// Returns what the reading thread has added up. The flow has room for all items, so no emission waits for the reader: if
-/// no thread can be made, `join` runs the reader after the sharing.
+/// Returns the sum that the reading thread computes. The flow has room for all items, so no emission waits for the
+/// reader: if no thread can be made, `join` runs the reader after the sharing.
 pub fn add_up<R: Wait + Clock + Threads + Sync>(rt: &R, alloc: Global) -> Result<i64> {
     let (flow, mut seat) = SharedFlow::new(alloc, Config::new().extra(20))?;
     let mut reader = flow.reader(flow.subscribe(rt, &mut seat)?);
@@ -20,7 +20,7 @@ pub fn add_up<R: Wait + Clock + Threads + Sync>(rt: &R, alloc: Global) -> Result
     run_both(rt, &mut sharing, &mut reader)
 }
 
-/// Runs the sharing, and meanwhile adds up all items.
+/// Runs the sharing while the reader adds up all items, and returns their sum.
 fn run_both<R: Wait + Clock + Threads + Sync>(
     rt: &R,
     sharing: &mut Sharing<OfRange, SharedFlowHub<'_, i64>>,

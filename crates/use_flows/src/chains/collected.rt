@@ -12,13 +12,13 @@ fn even_times(alloc: Global, last: i64, k: i64) -> Result<Collected<i64>, ChainF
     collect_all(alloc, &mut chain)
 }
 
-/// From `first` to each number up to `last`.
+/// Returns the numbers from `first` to x, for each x from `first` to `last`.
 fn counted_up(alloc: Global, first: i64, last: i64) -> Result<Collected<i64>, ChainFault> {
     let mut chain = OfRange::new(first, last).flat_map_concat(|x| Ok(OfRange::new(first, x)));
     collect_all(alloc, &mut chain)
 }
 
-/// Returns what is saved after each payment, and at first.
+/// Returns the savings before the first payment, and after each payment.
 fn savings(alloc: Global, saved: i64, payments: Vec<i64>) -> Result<Collected<i64>, ChainFault> {
     let mut chain = OfList::new(payments).scan(saved, |all, payment| {
         all.checked_add(payment).ok_or(ChainFault::Overflow)
@@ -26,7 +26,7 @@ fn savings(alloc: Global, saved: i64, payments: Vec<i64>) -> Result<Collected<i6
     collect_all(alloc, &mut chain)
 }
 
-/// Returns each amount at its price.
+/// Returns each amount times its price.
 fn priced(
     alloc: Global,
     amounts: Vec<i64>,

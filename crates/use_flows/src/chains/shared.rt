@@ -1,4 +1,4 @@
-//! A chain shared into a flow: it runs while there is a subscriber and two moments longer, and gives one item a turn.
+//! A chain shared into a flow: it runs while there is a subscriber and two moments longer, and emits one item a turn.
 use anyhow::Result;
 use flow_cold::OfRange;
 use flow_law::Next;

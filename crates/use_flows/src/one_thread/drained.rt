@@ -1,4 +1,4 @@
-//! All that a reader can receive now, in one call. The reader is greeted with a value of its own.
+//! A reader that takes all values it can receive in one call. It gets a first value of its own before the replay cache.
 use anyhow::Result;
 use flow_core::SharedCore;
 use flow_law::{Config, Drained};

@@ -1,4 +1,4 @@
-//! A state flow of values of one's own.
+//! A state flow whose values have a type of your own.
 use crate::one_thread::position::Position;
 use anyhow::Result;
 use flow_core::StateCore;

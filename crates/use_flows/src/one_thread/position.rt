@@ -1,4 +1,4 @@
-//! A value of flows: a place on a grid.
+//! A type of your own for the values of flows: a position on a grid.
 ghost use Rattle.std.proofs.Common.{rules};
 
 use flow_law::{FlowFault, FlowValue};

@@ -1,4 +1,4 @@
-//! A shared flow: a reader that comes late gets the last two values first.
+//! A shared flow: a late reader receives the last two values first.
 use anyhow::Result;
 use flow_core::SharedCore;
 use flow_law::{Config, Next};

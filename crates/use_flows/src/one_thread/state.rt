@@ -1,4 +1,4 @@
-//! A state flow: a slow reader gets the most recent value alone.
+//! A state flow: a slow reader receives only the most recent value.
 use anyhow::Result;
 use flow_core::StateCore;
 use flow_law::{Next, Text};

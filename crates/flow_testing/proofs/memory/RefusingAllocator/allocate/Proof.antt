@@ -1,4 +1,4 @@
--- It answers `Err` where this one is refused, and else what the memory inside answers. Assumes `Logic`.
+-- `allocate` returns `Err` if the allocation is refused, and otherwise what the inner allocator returns. Assumes `Logic`.
 use Rattle.std.proofs.Common.{◌≡◌, ℕ, ◌+◌, ◌^◌, ◌<◌, true, false, List, [], ◌∷◌, Ok, Err, refl, w64, Bor}
 use Rattle.std.proofs.alloc.Calls.{Al, α, seen, Answer, answer_val, Answer-typed, Answer-Ok, Answer-err, takes_key, Takes, at_takes, Answered, Takes-goes, Takes-gives, answers}
 use Rattle.std.proofs.alloc.Shapes.{after}
@@ -46,7 +46,7 @@ use Rattle.flow_testing.specs.contracts.memory.RefusingAllocator.allocate.Key as
 use Rattle.flow_testing.proofs.memory.RefusingAllocator.allocate.Statement as stated
 use Rattle.flow_testing.proofs.memory.RefusingAllocator.allocate.Code as code
 
--- the function at the memory inside, and what comes in and goes out
+-- the function at the inner allocator, what it takes and what it gives
 module _ (Z : Al) where
   abbrev function : Fn
   function = inst_fn (args_of Z) code.function
@@ -77,7 +77,7 @@ module _ (Z : Al) {M : Type 1} {𝓤 : Ura M} (𝓛 : Logic 𝓤) (at_mem : Memo
     abbrev Sized : Type 0
     Sized = (capped (size τ) ≡ n) × (capped (align τ) ≡ a)
 
-    -- both lifetimes' tokens go back with `Err`
+    -- `Err` is returned with both lifetimes' tokens
     refuses_it : ent 𝓤 (sep 𝓤 (A.lft κ₁ q₁) (sep 𝓤 (A.lft κ₂ q₂) (emp 𝓤))) (Post (answer_val false 0 0))
     refuses_it =
         qed 𝓛 (‵ (flft κ₁ q₁) ∷ (‵ (flft κ₂ q₂) ⊛ ‵ ftrue) ∷ []) ∵

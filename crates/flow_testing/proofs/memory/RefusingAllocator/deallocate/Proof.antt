@@ -1,4 +1,4 @@
--- The block goes back to the memory inside. Assumes `Logic`.
+-- `deallocate` passes the block to the inner allocator. Assumes `Logic`.
 use Rattle.std.proofs.Common.{◌≡◌, ℕ, ◌+◌, ◌^◌, ◌<◌, List, [], ◌∷◌, refl, w64, Bor}
 use Rattle.std.proofs.alloc.Calls.{Al, α, seen, token, gives_key, Gives, at_gives, Gives-goes, Gives-Gives}
 use seplogic.Ra.Ura.{Ura}
@@ -40,7 +40,7 @@ use Rattle.flow_testing.specs.contracts.memory.RefusingAllocator.deallocate.Key 
 use Rattle.flow_testing.proofs.memory.RefusingAllocator.deallocate.Statement as stated
 use Rattle.flow_testing.proofs.memory.RefusingAllocator.deallocate.Code as code
 
--- the function at the memory inside, and what comes in and goes out
+-- the function at the inner allocator, what it takes and what it gives
 module _ (Z : Al) where
   abbrev function : Fn
   function = inst_fn (args_of Z) code.function
