@@ -10,13 +10,13 @@ ROUNDS = 9
 
 
 def text_of(chain, count):
-    """A script that collects the chain so often."""
+    """A script that collects the chain `count` times."""
     steps = [{"do": "collect", "chain": chain}] * count
     return json.dumps({"version": 2, "flows": {}, "steps": steps}).encode()
 
 
 def long_script():
-    """20 collections of the chain that the workload script_chain has, and the number of items of their sources."""
+    """20 collections of the chain of the workload script_chain, and the number of items of their sources."""
     operators = [
         {"op": "map", "by": "add", "k": 1},
         {"op": "filter", "by": "even"},
@@ -36,14 +36,14 @@ SCRIPTS = {"20 long collections, an item": long_script, "5,000 short collections
 
 
 def timed(command, text):
-    """Nanoseconds, and what was printed."""
+    """The time in nanoseconds, and what was printed."""
     start = time.perf_counter_ns()
     printed = subprocess.run(command, input=text, capture_output=True, check=True).stdout
     return time.perf_counter_ns() - start, printed
 
 
 def costs(peers, script):
-    """Nanoseconds an operation, of `flow_play` and of the peer: the least of some rounds in turn."""
+    """The nanoseconds per operation of `flow_play` and of the peer, which run in turn: the least of some rounds."""
     player = built_programs("flow_play")[0]
     text, operations = script()
     rounds = [[timed(command, text) for command in ([player], [peers, "collect"])] for _ in range(ROUNDS)]

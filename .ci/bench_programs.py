@@ -9,7 +9,7 @@ import tempfile
 from built import top
 
 # The files of flow_bench have names that end in .in, and are built in a repository of their own, since the gate proves
-# each crate below the top. It is kept for the next run.
+# each crate of this repository. The other repository is kept for the next run.
 work = pathlib.Path(tempfile.gettempdir()) / f"wumsnair-bench-{hashlib.sha256(str(top).encode()).hexdigest()[:8]}"
 sources = top / "bench" / "flow_bench"
 crate = work / "crates" / "flow_bench"
@@ -18,7 +18,7 @@ LIBRARIES = "flow_law flow_core flow_shared flow_word flow_cold flow_turns"
 
 peers_sources = top / "bench" / "peers"
 peers_work = work / "peers"
-# Where Debian's packages put the crates, the folder of each, its feature in bench/peers, and the package.
+# The folder in which Debian's packages put crates; of each crate its folder there, its feature in bench/peers, and the package.
 REGISTRY = pathlib.Path("/usr/share/cargo/registry")
 PACKAGES = [
     ("tokio-1.*", "tokio", "librust-tokio-dev"),
@@ -28,7 +28,7 @@ PACKAGES = [
 
 
 def call(folder, *words):
-    """Runs a command in a folder, and stops if it fails."""
+    """Runs a command in a folder. Exits if it fails."""
     ran = subprocess.run(words, cwd=folder, capture_output=True, text=True)
     if ran.returncode != 0:
         sys.exit(ran.stdout + ran.stderr)
@@ -39,7 +39,7 @@ def call(folder, *words):
 
 
 def copy_libraries(lines):
-    """Copies the libraries, as they are built, and the lines of crates.txt that name them and what they stand on."""
+    """Copies the built libraries, and the lines of crates.txt for them and the crates that they need."""
     listed = {}
     for line in lines:
         if ":" in line and not line.startswith("#"):
@@ -64,7 +64,7 @@ def copy_flow_bench():
 
 
 def build_flow_bench():
-    """Proves and builds the flows' program, unless that is done already."""
+    """Proves and builds the program flow_bench, unless it is up to date."""
     for name in LIBRARIES.split():
         call(top / "crates" / name, "rt", "lib")
     for old in {*work.glob("crates/*"), crate / "src", crate / "proofs"} - {crate}:
@@ -81,7 +81,7 @@ def build_flow_bench():
 
 
 def features():
-    """The features that can be built, and the packages that are not there."""
+    """The features that can be built, and the packages that are missing."""
     has_cargo = shutil.which("cargo") is not None
     found = {feature for folder, feature, _ in PACKAGES if has_cargo and any(REGISTRY.glob(folder))}
     missing = [package for _, feature, package in PACKAGES if feature not in found]
@@ -89,7 +89,7 @@ def features():
 
 
 def build_with_cargo(found):
-    """By cargo, from Debian's packages alone."""
+    """Builds the peers with cargo, only from Debian's packages."""
     config = ['source.crates-io.replace-with="debian"', f'source.debian.directory="{REGISTRY}"']
     words = [word for line in config for word in ("--config", line)]
     call(peers_work, "cargo", "build", "--release", "--offline", "--features", ",".join(found), *words)
@@ -97,7 +97,7 @@ def build_with_cargo(found):
 
 
 def build_with_rustc():
-    """By rustc, from the files of bench/peers alone."""
+    """Builds the peers with rustc, only from the files of bench/peers."""
     program = peers_work / "by_rustc"
     options = ["-C", "opt-level=3", "-C", "codegen-units=1", "-C", "panic=abort"]
     call(peers_work, "rustc", "--edition", "2021", *options, "-o", program, "src/main.rs")
@@ -105,7 +105,7 @@ def build_with_rustc():
 
 
 def build_peers():
-    """Builds the peers with all crates that are there, and says which are not."""
+    """Builds the peers with all crates that are installed, and prints which are missing."""
     shutil.rmtree(peers_work / "src", ignore_errors=True)
     shutil.copytree(peers_sources, peers_work, dirs_exist_ok=True)
     found, missing = features()

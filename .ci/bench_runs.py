@@ -11,7 +11,7 @@ ROUNDS = 3
 
 
 class Programs:
-    """The two programs, by the peers that each of them has."""
+    """The two programs, each with the peers that it has."""
 
     def __init__(self, flow_bench, peers):
         self.flow_bench, self.peers = flow_bench, peers
@@ -21,7 +21,7 @@ class Programs:
         return [str(program), workload, peer, *(f"{name}={size}" for name, size in sizes.items())]
 
     def run(self, workload, peer, sizes):
-        """What the program prints, and its processor time, or nothing if it was built without this peer."""
+        """What the program prints, and its processor time; None if it was built without this peer."""
         before = processor_time()
         printed = answer(subprocess.run(self.command(workload, peer, sizes), capture_output=True, text=True, check=True).stdout)
         return printed and {**printed, "processor": processor_time() - before}
@@ -30,21 +30,21 @@ class Programs:
         return self.run(workload, peer, {"count": 16, "repeats": 1}) is not None
 
     def cost(self, case, clock="nanoseconds"):
-        """Nanoseconds an operation by this clock, and the sum."""
+        """The nanoseconds per operation by this clock, and the sum."""
         printed = self.run(*case)
         if printed is None:
             sys.exit(f"there is no such case: {case}")
         return printed[clock] / max(printed["operations"], 1), printed["sum"]
 
     def costs(self, cases, clock):
-        """The least cost of each case, of some rounds through all of them. All have to do the same work."""
+        """The least cost of each case in some rounds through all cases. All cases must do the same work."""
         rounds = [[self.cost(case, clock) for case in cases] for _ in range(ROUNDS)]
         if len({total for costs in rounds for _, total in costs}) > 1:
             sys.exit(f"these do not do the same work: {cases}")
         return self.least(rounds)
 
     def growth_costs(self, cases):
-        """The same of cases that do different work."""
+        """The least cost of each of these cases, which do different work."""
         return self.least([[self.cost(case) for case in cases] for _ in range(ROUNDS)])
 
     @staticmethod
@@ -52,13 +52,13 @@ class Programs:
         return [min(time for time, _ in costs) for costs in zip(*rounds)]
 
     def instructions(self, workload, peer, sizes):
-        """Instructions an operation: what twice as many operations take more."""
+        """The instructions per operation: those that twice as many operations take in addition."""
         few = self.count(workload, peer, {**sizes, "repeats": 1})
         many = self.count(workload, peer, {**sizes, "count": 2 * sizes["count"], "repeats": 1})
         return (many[0] - few[0]) / (many[1] - few[1])
 
     def count(self, workload, peer, sizes):
-        """All instructions of a run, and its operations."""
+        """The number of instructions of a run, and the number of its operations."""
         words = ["valgrind", "--tool=callgrind", "--callgrind-out-file=/dev/null"]
         ran = subprocess.run([*words, *self.command(workload, peer, sizes)], capture_output=True, text=True)
         counted = re.search(r"Collected : (\d+)", ran.stderr)
@@ -69,13 +69,13 @@ class Programs:
 
 
 def processor_time():
-    """Nanoseconds that all programs took which have ended, on all processors."""
+    """The nanoseconds that all programs that have ended took, on all processors."""
     used = resource.getrusage(resource.RUSAGE_CHILDREN)
     return (used.ru_utime + used.ru_stime) * 1e9
 
 
 def answer(printed):
-    """What a program printed, or nothing if it has no such workload."""
+    """What a program printed; None if it has no such workload."""
     told = json.loads(printed)
     return None if "error" in told else told
 

@@ -1,7 +1,7 @@
 """Tests the flows and chains in plain Rust of bench/peers by the scripts of examples/ and cases/.
 
-`ref` has shared flows, state flows, and shared chains of plain lists. So it plays a script that is not refused as a whole
-and needs nothing else: no other chain, and no collection. `collect` plays the scripts that only collect chains."""
+`ref` has shared flows, state flows, and shared chains of plain lists. It plays each script that is not refused as a whole and
+has no other chain and no collection. `collect` plays the scripts that only collect chains."""
 import difflib
 import json
 import subprocess
@@ -26,7 +26,7 @@ def named(script, lines):
 
 
 def is_plain(flow):
-    """`ref` has such a flow."""
+    """Whether `ref` has flows of this kind."""
     if flow["kind"] == "share":
         return not flow["chain"]["ops"] and "of" in flow["chain"]["from"]
     return flow["kind"] in ("shared", "state")
@@ -38,7 +38,7 @@ def can_play(script):
 
 
 def words_of_flow(flow):
-    """What makes the flow."""
+    """The words that make the flow."""
     limit = flow.get("limit", NEVER)
     if flow["kind"] == "shared":
         return ["shared", flow["replay"], flow["extra"], flow["overflow"], limit]
@@ -51,13 +51,13 @@ def words_of_flow(flow):
 
 
 def words_of_step(step):
-    """The call: the words that the step has, in the order in which the call takes them."""
+    """The call of a step: its words, in the order in which the call takes them."""
     keys = ("flow", "do", "name", "value", "expect", "update", "at")
     return [step[key] for key in keys if key in step] + step.get("first", [])
 
 
 def calls(script):
-    """The script as calls, one a line. Flows are made in the order of their names."""
+    """The script as calls, one per line. Flows are made in the order of their names."""
     flows = [["flow", name, *words_of_flow(flow)] for name, flow in sorted(script["flows"].items())]
     rows = flows + [words_of_step(step) for step in script["steps"]]
     return "".join(" ".join(map(str, row)) + "\n" for row in rows)
@@ -81,21 +81,21 @@ def accepted():
 
 
 def for_ref():
-    """What each script is to `ref`: its name, the calls, and the lines that they print."""
+    """Each script that `ref` plays: its name, its calls, and the lines that they print."""
     for name, _, script, lines in accepted():
         if can_play(script):
             yield name, calls(script), lines
 
 
 def for_collect():
-    """The same of `collect`."""
+    """Each script that `collect` plays: its name, its text, and the lines that it prints."""
     for name, text, script, lines in accepted():
         if not script["flows"] and script["steps"]:
             yield name, text, lines
 
 
 def test(program, word, played):
-    """Plays scripts, stops at the first that prints something else, and returns how many there were."""
+    """Plays scripts. Exits at the first one that prints other lines than it should, and returns the number of scripts."""
     count = 0
     for name, given, lines in played:
         ran = subprocess.run([program, word], input=given, capture_output=True, text=True)

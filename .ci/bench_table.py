@@ -1,28 +1,28 @@
-"""The bench's table: what people compare, the ratio to each peer, and the goal beside it."""
+"""The table of the benchmarks: what is compared, the ratio to each peer, and the goal of the ratio."""
 import dataclasses
 
 import bench_collections
 
 NEXT_LOCKS = ("ref_mutex", "ref_yielding", "ref_parking_lot")
 DRAIN_LOCKS = tuple(f"{lock}_drain" for lock in NEXT_LOCKS)
-# What a thread that sleeps is held against: threads that never sleep at the same flow, and those of plain Rust that sleep.
+# What sleeping threads are compared with: threads that never sleep at the same flow, and sleeping threads in plain Rust.
 WAITING = ("gated", "ref_condvar")
 
 
 @dataclasses.dataclass
 class Row:
-    """A workload by one of this library's ways, and what it is held against: the fastest of some peers."""
+    """A workload in one of the ways of this library, which is compared with the fastest of some peers."""
 
     title: str
     workload: str
     sizes: dict
     ours: str
     peers: tuple
-    # The most that the ratio is to be. None if it is shown for comparison alone.
+    # The greatest ratio that meets the goal. None if the row is only for comparison.
     goal: float | None = None
-    # Whether its instructions can be counted, which is of use for one thread.
+    # Whether its instructions are counted, which is useful only for one thread.
     counted: bool = True
-    # What is measured: "nanoseconds" by the clock on the wall, or those of all processors together.
+    # What is measured: elapsed "nanoseconds", or those of all processors together.
     clock: str = "nanoseconds"
 
     def cases(self, peers):
@@ -30,7 +30,7 @@ class Row:
 
 
 def reading(subscribers):
-    """So many values that runs take the same time."""
+    """The sizes for this number of subscribers, with so many values that all runs take about the same time."""
     return {"subscribers": subscribers, "count": max(160, 160_000 // subscribers // 16 * 16)}
 
 
@@ -88,7 +88,7 @@ def crowds():
 
 
 def sleepers():
-    """Threads that sleep while they wait. Their processor time is that of one repeat."""
+    """The rows of threads that sleep while they wait. Their processor time is that of one repeat."""
     for emitters, readers, room in ((2, 3, 0), (2, 3, 4), (2, 2, 16), (8, 8, 16)):
         sizes = {"threads": emitters, "subscribers": readers, "room": room, "count": 10_000, "repeats": 1}
         title = f"asleep, {emitters} and {readers}, room {room}"
@@ -109,7 +109,7 @@ def chains():
 
 
 def scripts():
-    """These are whole programs, which `measured` runs by bench_collections."""
+    """The rows of whole programs, which `measured` runs by bench_collections."""
     return ()
 
 
@@ -139,7 +139,7 @@ def line(row, peer, ours, theirs):
 
 
 def rows(programs, parts):
-    """Each row of these parts, with the peers that are there."""
+    """Each row of these parts, with those of its peers that were built."""
     for part in parts:
         for row in PARTS[part]():
             peers = [peer for peer in row.peers if programs.has(row.workload, peer)]
@@ -148,7 +148,7 @@ def rows(programs, parts):
 
 
 def measured(programs, parts):
-    """Each row, the fastest of its peers, and nanoseconds an operation of both."""
+    """Each row, the fastest of its peers, and the nanoseconds per operation of both."""
     for row, peers in rows(programs, parts):
         ours, *theirs = programs.costs(row.cases(peers), row.clock)
         time, peer = min(zip(theirs, peers))
@@ -166,7 +166,7 @@ def print_times(programs, parts):
 
 
 def print_instructions(programs, parts):
-    """Prints instructions an operation, which do not depend on what else the machine does. The goals are those of times."""
+    """Prints the instructions per operation, which do not depend on the other work of the machine. The goals are those for times."""
     head("ours", "peer's")
     for row, peers in rows(programs, parts):
         if row.counted:

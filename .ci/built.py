@@ -21,7 +21,7 @@ def sources(name):
 
 
 def programs(name):
-    """What `rt ci` built last, by each of its two compilers, or else what `rt run` proves and builds."""
+    """The programs that `rt ci` built last, by each of its two compilers; otherwise the one that `rt run` proves and builds."""
     crate = top / "crates" / name
     built = [crate / "out" / name, crate / "out" / f"{name}.by-rattle"]
     newest = max(file.stat().st_mtime for file in sources(name))

@@ -1,4 +1,4 @@
-"""What ./play, ./draw and ./judge share: their arguments, and the program that they run, which is built if there is none yet."""
+"""The parts that ./play, ./draw and ./judge share: they read the arguments, and find or build the program to run."""
 import contextlib
 import difflib
 import os
@@ -14,16 +14,16 @@ import time
 
 from built import sources, top
 
-# So that `./play FILE | head` ends as other commands do.
+# With this `./play FILE | head` ends as other commands do.
 signal.signal(signal.SIGPIPE, signal.SIG_DFL)
 
 VERSION = "0.1.0"
-# Status of the command itself. The programs use 0, 2, 3 and 4.
+# The status if the command itself fails. The programs use 0, 2, 3 and 4.
 FAILED = 1
 REFUSED = 2
-# What a program reads of a script at most: a byte more than one may have.
+# The most bytes that a program reads of a script: one more than a script may have.
 MOST_READ = 1_048_577
-# In place of the moment of a watched file's last change.
+# Stands for the time of a watched file's last change if there is no file.
 GONE = -1
 
 
@@ -37,7 +37,7 @@ def stop(words):
 
 
 def fresh_program(name):
-    """The program as it was proved or built last; None if there is none that is as new as its sources."""
+    """The program that was proved or built last; None if none is as new as its sources."""
     crate = top / "crates" / name
     newest = max(file.stat().st_mtime for file in sources(name))
     built = (crate / "out" / name, crate / "out" / f"{name}.unproved")
@@ -45,7 +45,7 @@ def fresh_program(name):
 
 
 def keep(room, kept, has_ended):
-    """Links the program that `rt try` builds in a folder to a name of its own, before `rt try` removes it."""
+    """Links the program that `rt try` builds in a folder to another name, before `rt try` removes it."""
     while not has_ended.is_set():
         for program in pathlib.Path(room).glob("*/*/program"):
             with contextlib.suppress(OSError):
@@ -63,7 +63,7 @@ def build(name):
     kept.unlink(missing_ok=True)
     say(f"building {name} without a proof, which takes about a minute; `rt run` in crates/{name} proves it as well")
     with tempfile.TemporaryDirectory(prefix="flows-", dir=kept.parent) as room:
-        # Many runs, so that the program is there for a while.
+        # With many runs `rt try` keeps the program for a while.
         cases = pathlib.Path(room, "cases")
         cases.mkdir()
         for number in range(60):
@@ -85,7 +85,7 @@ def build(name):
 
 
 def program(name):
-    """The program as it was proved or built last, or else one that is built now, without a proof."""
+    """The program that was proved or built last; if there is none, builds one without a proof."""
     found = fresh_program(name)
     if found is None and not shutil.which("rt"):
         stop("the toolchain's command `rt` is not on this machine")
@@ -93,7 +93,7 @@ def program(name):
 
 
 def file_of(words, what):
-    """The file that the words name, if they name one, and the words that are left."""
+    """The file that the words name, if they name one, and the other words."""
     files = [word for word in words if not word.startswith("-")]
     if len(files) > 1:
         stop(f"one {what} at a time: {' '.join(files)}")
@@ -115,13 +115,13 @@ def opened(file, what):
 
 
 def script_of(words):
-    """The text of the script that the words name, or of standard input, and the words that are left."""
+    """The text of the script that the words name, or of standard input, and the other words."""
     file, words = file_of(words, "script")
     return opened(file, "script").read(MOST_READ), words
 
 
 def run(words, script, **how):
-    """Runs a program on a script. If it does not read all of that, the broken pipe must not end this command, too."""
+    """Runs a program on a script. If the program does not read all of it, the broken pipe does not end this command."""
     signal.signal(signal.SIGPIPE, signal.SIG_IGN)
     try:
         return subprocess.run(words, input=script, **how)
@@ -138,14 +138,14 @@ def watched(words):
 
 
 def has_reader():
-    """Whether what standard output goes to is still there: not so if it is a pipe whose reader has ended."""
+    """Whether standard output still has a reader: false if it is a pipe whose reader has ended."""
     output = select.poll()
     output.register(sys.stdout, 0)
     return not output.poll(0)
 
 
 def watch(file, show):
-    """Calls `show` now, and again whenever the file has changed, until it is interrupted or its output has no reader."""
+    """Calls `show` now, and again whenever the file has changed, until it is interrupted or its output has no reader left."""
     seen = None
     try:
         while has_reader():
@@ -174,14 +174,14 @@ def watch(file, show):
 
 
 def refuse_word(kind, word, known):
-    """Says that there is no such option or command, and which one is near."""
+    """Prints that there is no such option or command, and the nearest one, and exits."""
     near = difflib.get_close_matches(word, known, 1)
     say(f"no {kind} {word}" + (f": did you mean {near[0]}?" if near else "; --help lists them"))
     sys.exit(REFUSED)
 
 
 def first_options(words, usage, options):
-    """Answers --help and --version, and refuses an option that is not among these."""
+    """Handles --help and --version, and refuses an option that is not among these."""
     if "--help" in words or "-h" in words:
         print(usage)
         sys.exit(0)

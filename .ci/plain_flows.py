@@ -1,4 +1,4 @@
-"""Shared and state flows for one thread, as their documentation has them, and a search that tries all orders of recorded calls.
+"""Shared and state flows for one thread, as they are documented, and a search that tries all orders of recorded calls.
 
 No code of the library is used. A flow keeps every value that was ever emitted, and the search remembers no state."""
 import copy
@@ -18,7 +18,7 @@ class State(Flow):
 
     def __init__(self, flow):
         self.value = flow["initial"]
-        # Of each subscriber what it received last; a list that is empty before the first value.
+        # For each subscriber a list of the value that it received last, which is empty before the first value.
         self.received = {}
 
     def set(self, by, value):
@@ -63,7 +63,7 @@ class State(Flow):
 
 
 class Shared(Flow):
-    """A shared flow. An emission is its caller's name, since a caller emits once at a time."""
+    """A shared flow. The name of a caller stands for its emission, since a caller makes one emission at a time."""
 
     def __init__(self, flow):
         self.replay, self.overflow = flow["replay"], flow["overflow"]
@@ -178,7 +178,7 @@ def new_flow(flow):
 
 
 def parts_of(call):
-    """What a call does, one after another, each with the arguments and the answer that it must have; any if that is None."""
+    """The parts of a call in order, each with its arguments and the answer that it must have; with None, any answer."""
     word, answer, by = call["call"], call.get("answer"), call["by"]
     if word == "first":
         done = None if answer is None else "done"
@@ -193,12 +193,12 @@ def parts_of(call):
 
 
 def choices_of(call):
-    """The ways in which a call that ended may have happened: a cancelled emit may not have begun."""
+    """The ways in which a call that has ended may have happened: a cancelled emit may not have begun."""
     return [parts_of(call), []] if call.get("answer") == "cancelled" else [parts_of(call)]
 
 
 def goes_on(flow, rows, begun):
-    """Whether the calls that are left in the rows can happen. `begun` has what is left of each caller's call."""
+    """Whether the calls that are left in the rows can happen. `begun` has the parts that are left of each caller's call."""
     left = [call for by in rows for call in rows[by]]
     ends = [call["end"] for call in left if "end" in call]
     if not ends:
@@ -221,7 +221,7 @@ def goes_on(flow, rows, begun):
 
 
 def is_explained(flow, calls):
-    """Whether some order of the calls has the answers of the documented flow."""
+    """Whether the documented flow gives these answers for some order of the calls."""
     rows = {}
     for call in calls:
         rows.setdefault(call["by"], []).append(call)

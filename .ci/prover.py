@@ -1,4 +1,4 @@
-"""The toolchain, and how its `rt` calls the prover."""
+"""The toolchain, and the way in which its `rt` calls the prover."""
 import functools
 import importlib.machinery
 import importlib.util
@@ -19,7 +19,7 @@ def kit():
 
 @functools.cache
 def rtlib():
-    """The module in which `rt` has what its commands share."""
+    """The module of `rt` that its commands share."""
     loader = importlib.machinery.SourceFileLoader("rtlib", str(kit() / "bin/rtlib.py"))
     module = importlib.util.module_from_spec(importlib.util.spec_from_loader("rtlib", loader))
     loader.exec_module(module)
@@ -28,7 +28,7 @@ def rtlib():
 
 @functools.cache
 def words_for(name):
-    """The words that tell the prover how to read a crate, over the libraries that `rt ci` proved last."""
+    """The arguments with which the prover reads a crate, with the libraries that `rt ci` proved last."""
     crate = next(crate for crate in rtlib().crates_below(str(top)) if crate.name == name)
     missing = [below.name for below in crate.below() if not os.path.isdir(below.rlib)]
     if missing:

@@ -22,7 +22,7 @@ def closing(text, start):
 
 
 def split(text):
-    """The parts of `text` between commas that stand in no bracket."""
+    """The parts of `text` between commas that are not inside brackets."""
     parts, start, depth = [], 0, 0
     for index, char in enumerate(text):
         depth += (char in "<([{") - (char in ")]}" or char == ">" and text[index - 1] not in "-=")
@@ -72,7 +72,7 @@ def files(crate):
 
 @functools.cache
 def exports(crate):
-    """What `lib.rt` exports: each name with the crate that defines it, or with the public module of it."""
+    """The exports of `lib.rt`: each name with the crate, or the public module of a crate, that defines it."""
     found = {}
     for item in items((top / "crates" / crate / "src/lib.rt").read_text().splitlines()):
         use = re.match(r"pub use ([\w:]+)::(?:\{(.*)\}|(\w+));$", item.text)
@@ -86,7 +86,7 @@ def exports(crate):
 
 
 def plain(text):
-    """A type without lifetimes, allocators and bounds of the implementation."""
+    """A type without lifetimes, allocators, and bounds of the implementation."""
     text = re.sub(r"\s+where .*", "", re.sub(r"'\w+ |'\w+, |<'\w+>", "", text))
     return re.sub(r"(, |<)[AB](: Allocator( \+ Copy)?)?( = Global)?(?=>)", lambda m: "<" if m.group(1) == "<" else "", text).replace("<>", "")
 
@@ -105,7 +105,7 @@ def name_of(text):
 
 
 def signature(item):
-    """The call as it is written, where a closure's type stands in the place of its parameter; and what it returns."""
+    """The call as it is written, with the types of closures in place of their type parameters; and its return type."""
     text = re.sub(r"^(pub |final |const )*fn |;$", "", item.text)
     bounds = re.match(r"where (.*?)(?= (?:requires|ensures)\b|$)", item.clauses)
     parameters = split(bounds.group(1)) if bounds else []
@@ -123,7 +123,7 @@ def signature(item):
 
 
 def sentences(docs):
-    """The sentences of a doc comment, up to its first heading; those under `# Errors` apart."""
+    """The sentences of a doc comment up to its first heading, and apart from them those under `# Errors`."""
     parts = re.split(r"\n# (\w+)[^\n]*\n", "\n" + "\n".join(docs) + "\n")
     cut = lambda text: [s.replace("\n", " ").strip() for s in re.split(r"(?<=\.)\s+(?=[A-Z`])|\n\n", text) if s.strip()]
     errors = dict(zip(parts[1::2], parts[2::2])).get("Errors", "")

@@ -1,9 +1,9 @@
-/* Runs a program again and again, from where its `main` begins: first with nothing refused, then with its first request refused, then
- * with its second one, and so on, until a run makes no more of them. A request is an allocation, also of a block that grows, which is
- * answered with NULL, or the making of a thread, which is answered with EAGAIN. Each run is a copy of the process that has its standard
- * input from its beginning on. What the runs came to is written to standard output: for each a line with its status, whether its request
- * was made and refused (0 or 1) and the number of bytes that it printed, and then these bytes. Loaded before the C library (LD_PRELOAD)
- * by .ci/refusing.py. */
+/* Runs a program again and again, from the beginning of its `main`: first with nothing refused, then with its first request refused,
+ * then with its second one, and so on, until a run makes no further request. A request is an allocation or the growth of a block, which
+ * returns NULL if it is refused, or the creation of a thread, which returns EAGAIN. Each run is a copy of the process, which reads its
+ * standard input from the beginning. The results are written to standard output: for each run a line with its status, whether its
+ * request was made and refused (0 or 1) and the number of bytes that it printed, and then these bytes. .ci/refusing.py loads this before
+ * the C library (LD_PRELOAD). */
 #define _GNU_SOURCE
 #include <dlfcn.h>
 #include <errno.h>
@@ -17,22 +17,22 @@
 #include <sys/wait.h>
 #include <unistd.h>
 
-/* A run that takes longer is ended. */
+/* The most seconds that a run may take. */
 enum { SECONDS = 60 };
 
 typedef int make_thread(pthread_t *, const pthread_attr_t *, void *(*)(void *), void *);
 
-/* The C library's own, by which its `malloc` and `realloc` work. */
+/* The C library's functions behind its `malloc` and `realloc`. */
 void *__libc_malloc(size_t);
 void *__libc_realloc(void *, size_t);
 
 static atomic_ulong made;
-/* The request to be refused in this run, or 0. */
+/* The number of the request that is refused in this run, or 0. */
 static unsigned long refused;
-/* Whether it was refused: shared with the process that began the run. */
+/* Whether that request was refused; shared with the process that began the run. */
 static atomic_int *is_done;
 
-/* Whether the request that is made now is the one to be refused. */
+/* Counts a request. Returns whether it is refused. */
 static int is_refused(void) {
     if (refused == 0 || atomic_fetch_add(&made, 1) + 1 != refused) {
         return 0;
@@ -64,7 +64,7 @@ static void must(int holds, const char *what) {
     }
 }
 
-/* Writes what a run came to. */
+/* Writes the result of a run. */
 static void tell(int status, int output) {
     off_t at = 0, length = lseek(output, 0, SEEK_END);
     int code = WIFEXITED(status) ? WEXITSTATUS(status) : -WTERMSIG(status);
@@ -74,7 +74,7 @@ static void tell(int status, int output) {
     }
 }
 
-/* Begins a run: what this returns in is a copy of the process, which goes on to `main`. */
+/* Begins a run. Returns only in a copy of the process, which then runs `main`. */
 static void begin(unsigned long number, int output) {
     refused = number;
     must(lseek(0, 0, SEEK_SET) == 0, "lseek");

@@ -19,12 +19,12 @@ def build(folder):
 
 
 def runs(shim, program, words, text):
-    """What each run came to: the status and what was printed, and whether the request of its number was made, and refused. In the first
-    run, which has number 0, nothing is refused; in the last one no request is left to be refused."""
+    """The result of each run: the status and what was printed, and whether the request of its number was made and refused. In the first
+    run, which has the number 0, nothing is refused; in the last one no request is left to be refused."""
     with tempfile.TemporaryFile() as given:
         given.write(text)
         given.seek(0)
-        # By a name without spaces and colons, at which the loader would split it.
+        # The loader splits this name at spaces and colons, so it has none.
         where = {"cwd": pathlib.Path(shim).parent, "env": {"LD_PRELOAD": f"./{pathlib.Path(shim).name}"}}
         ran = subprocess.run([program, *words], stdin=given, stdout=subprocess.PIPE, check=True, **where)
     told = io.BytesIO(ran.stdout)
@@ -34,10 +34,10 @@ def runs(shim, program, words, text):
 
 
 def refuse_each(shim, program, words, text, is_right, is_told):
-    """How many requests were refused, after how many of them the run came to what it comes to where nothing is refused, and the first
+    """The number of refused requests, the number of those after which the run had the same result as without a refusal, and the first
     thing that was wrong, if any.
 
-    `is_right` takes what the run in which nothing is refused came to; `is_told` takes what a run came to in which a request was, and that."""
+    `is_right` takes the result of the run without a refusal; `is_told` takes the result of a run with a refusal, and that result."""
     (wanted, _), *tried = runs(shim, program, words, text)
     if not is_right(wanted):
         return 0, 0, f"nothing refused: {wanted}"

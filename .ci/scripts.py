@@ -1,7 +1,7 @@
 """The cases of cases/*.toml as scripts, and the lines that these print.
 
-A case is a block of one of these files. What is between single quotes reaches the program as it is, so that a case can have a key
-twice, `1e0` or a text that is no JSON. Lines and rules are typed by hand, from docs/SCRIPTS.md and docs/DEFINITIONS.md.
+A case is a block of one of these files. The text between single quotes reaches the program unchanged, so a case can have a key
+twice, `1e0`, or a text that is not JSON. Lines and rules are typed by hand, from docs/SCRIPTS.md and docs/DEFINITIONS.md.
 
     [[case]]
     name = "a value without a subscriber is gone"
@@ -12,13 +12,13 @@ twice, `1e0` or a text that is no JSON. Lines and rules are typed by hand, from 
     ]
 
 name           what the case shows; it may be left out
-flow           the flow of a script of version 1. The case is played in version 2, too, its flow with the name f, unless it has
-               `version = 1`
+flow           the flow of a script of version 1. Unless the case has `version = 1`, it is played in version 2, too, where its
+               flow has the name f
 flows          in place of `flow` the flows of a script of version 2
-steps          each step, its line and, if it is to be compared, the rule that `./draw --explain` prints for it; of a script that is
-               refused the steps alone
+steps          each step, its line and, if it must be compared, the rule that `./draw --explain` prints for it; for a script that is
+               refused only the steps
 refused        the one line by which the script is refused
-flow_refused   the line by which its one flow is refused: all that version 1 prints
+flow_refused   the line by which its one flow is refused, which is all that version 1 prints
 flows_refused  the lines of the flows that are refused, which come before those of the steps
 script         in place of `flow` or `flows` and `steps` a whole text, with `refused`
 explained      what `./draw` prints about it on standard error
@@ -37,7 +37,7 @@ def all_cases():
 
 
 def versions(case):
-    """The versions that a case is played in: 1 and 2 where it has one flow. A whole text has its own."""
+    """The versions in which a case is played: 1 and 2 if it has one flow. A whole text has its own version."""
     if "script" in case:
         return (0,)
     if "flows" in case:
@@ -46,12 +46,12 @@ def versions(case):
 
 
 def named(step):
-    """A step of version 1 as one of version 2 on the flow f. A collection is on none."""
+    """A step of version 1 as one of version 2 on the flow f. A collection has no flow."""
     return step if step.startswith('{"do":"collect"') else '{"flow":"f",' + step[1:]
 
 
 def text_of(case, version):
-    """The script of a case in a version. That of version 1 has its flow in version 2 with the name f."""
+    """The script of a case in a version. The flow of a script of version 1 has the name f in version 2."""
     if "script" in case:
         return case["script"]
     steps = [step if isinstance(step, str) else step[0] for step in case["steps"]]
@@ -65,7 +65,7 @@ def text_of(case, version):
 
 
 def lines_of(case, version):
-    """The lines that the script of a case prints in a version. A flow that is refused has its name before its line in version 2."""
+    """The lines that the script of a case prints in a version. In version 2 the line of a refused flow begins with the flow's name."""
     if "refused" in case:
         return [case["refused"]]
     lines = [step[1] for step in case["steps"]]

@@ -1,6 +1,6 @@
-/* Plays the script of standard input as flow_play does. With a word, svg, text or explain, prints what flow_draw prints; with
- * why, where and why the script is refused. With check or order, judges the record of standard input and prints what flow_judge
- * prints; the status of an illegal record is 5, and not 1. Any other word plays the script. */
+/* Plays the script of standard input as flow_play does. With the word svg, text or explain, prints what flow_draw prints; with the
+ * word why, where and why the script is refused. With check or order, judges the record of standard input and prints what
+ * flow_judge prints, except that the status of an illegal record is 5, and not 1. With any other word, plays the script. */
 #include "wumsnair.h"
 #include <stdio.h>
 #include <stdlib.h>
@@ -8,7 +8,7 @@
 
 #define FIRST_ROOM (1 << 16)
 
-/* Reads standard input to its end, and says how many bytes it has. Without memory it returns NULL. */
+/* Reads standard input to its end, and sets the number of its bytes. Returns NULL if memory is refused. */
 static uint8_t *read_all(size_t *bytes) {
     size_t room = FIRST_ROOM;
     uint8_t *text = malloc(room);
@@ -28,7 +28,7 @@ static uint8_t *read_all(size_t *bytes) {
     return NULL;
 }
 
-/* The status of flow_play and flow_draw, or of flow_judge, if a read or a write fails. */
+/* Returns the status with which flow_play and flow_draw, or flow_judge, end if a read or a write fails. */
 static int failed(const char *what) {
     return strcmp(what, "check") == 0 || strcmp(what, "order") == 0 ? 4 : 3;
 }

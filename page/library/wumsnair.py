@@ -1,5 +1,5 @@
-"""The proved player of flow scripts and the checker of records, by ctypes: `play`, `draw`, `explain` and `check` take the bytes of
-a script or a record, JSON in UTF-8, and return a status and bytes. If memory is refused, the status is OUT_OF_MEMORY.
+"""The proved player of flow scripts and the checker of records, called by ctypes: `play`, `draw`, `explain` and `check` take the
+bytes of a script or a record, JSON in UTF-8, and return a status and bytes. If memory is refused, the status is OUT_OF_MEMORY.
 
     import wumsnair
     status, lines = wumsnair.play(b'{"version": 1, ..}')
@@ -35,7 +35,7 @@ def play(script):
 
 
 def draw(script, form=SVG):
-    """Returns what is drawn of a script, or the line by which it is refused."""
+    """Returns the drawing of a script, or the line by which it is refused."""
     return _given(lambda *rest: _library.wumsnair_draw(form, *rest), script)
 
 

@@ -1,5 +1,5 @@
 #!/usr/bin/env python3
-"""Puts the page, its code, both modules of the player and the examples into one file, which a browser opens from a disk:
+"""Puts the page, its code, both modules of the player and the examples into one file, which a browser can open from a disk:
 bundle.py EXAMPLES WIDE.wasm LOWERED.wasm OUT.html"""
 import base64
 import json
@@ -30,7 +30,7 @@ def compressed(path):
 
 
 def element(kind, name, text):
-    """A part that the page reads by its id. A text of JSON has no `<`."""
+    """A part of the page that its code reads by its id. In a text of JSON each `<` is escaped."""
     return f'<script type="{kind}" id="{name}">{text}</script>\n'
 
 

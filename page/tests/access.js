@@ -1,4 +1,4 @@
-// What a page has to be so that it can be used by keyboard and by a screen reader. This runs in the page, and returns what is wrong.
+// Checks that the page can be used by keyboard and by a screen reader. This runs in the page, and returns what is wrong.
 (() => {
   const wrong = [];
   const told = (element) => `<${element.localName}${element.id ? ` id=${element.id}` : ""}>`;

@@ -5,7 +5,7 @@ import { tmpdir } from "node:os";
 import { join } from "node:path";
 
 const FLAGS = ["--headless=new", "--no-sandbox", "--disable-gpu", "--no-first-run", "--disable-dev-shm-usage", "--remote-debugging-pipe",
-  // A page behind another one runs as fast as the one in front.
+  // With these a page behind another one runs as fast as the one in front.
   "--disable-background-timer-throttling", "--disable-backgrounding-occluded-windows", "--disable-renderer-backgrounding"];
 const COMPLAINTS = ["Runtime.exceptionThrown", "Runtime.consoleAPICalled", "Log.entryAdded"];
 
@@ -70,7 +70,7 @@ export class Chrome {
   constructor() {
     const words = [...FLAGS, `--user-data-dir=${this.#folder}`, "about:blank"];
     this.#process = spawn(process.env.CHROMIUM ?? "chromium", words, { stdio: ["ignore", "ignore", "ignore", "pipe", "pipe"] });
-    // For a run that ends before it closes the browser.
+    // In case the tests end before they close the browser.
     process.on("exit", () => {
       this.#process.kill("SIGKILL");
       this.#remove();
@@ -101,7 +101,7 @@ export class Chrome {
     return new Promise((done, fail) => this.#waiting.set(id, { done, fail }));
   }
 
-  /** Returns what was said on the consoles, and each failure. */
+  /** Returns the messages on the consoles, and the failures. */
   get complaints() {
     return this.#heard.filter(({ method }) => COMPLAINTS.includes(method)).map(({ params }) => JSON.stringify(params).slice(0, 600));
   }

@@ -1,6 +1,6 @@
-// Compares what the module gives with what the native programs printed: node outputs.mjs FOLDER MODULE
+// Compares the output of the module with what the native programs printed: node outputs.mjs FOLDER MODULE
 //
-// FOLDER has each script as NAME.script, and in NAME.wanted a status and bytes for each word. What differs goes to standard error.
+// FOLDER has each script as NAME.script, and in NAME.wanted a status and bytes for each word. Differences are printed to standard error.
 import { readFileSync, readdirSync } from "node:fs";
 import { FORM, Player, STATUS } from "../web/player.js";
 

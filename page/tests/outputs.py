@@ -1,10 +1,10 @@
 #!/usr/bin/env python3
-"""Compares what the library and the module of the player give with what the native programs print: outputs.py BUILT
+"""Compares the output of the library and the module of the player with what the native programs print: outputs.py BUILT
 
-BUILT is a folder that `page/build` made. The scripts are those of examples/ and of cases/, each in its versions, and some that are hard to
-read. Each is played, drawn as SVG and as text, told with its rules, and explained. Each record of examples/records is judged, without the
-order of its calls and with it. The programs are those that `rt ci` built last. The module runs in Node, the library is called from Python and
-from C; from C for some texts under valgrind, and with each request for memory refused in turn."""
+BUILT is a folder that `page/build` made. The scripts are those of examples/ and of cases/, each in its versions, and some that are hard
+to read. Each is played, drawn as SVG and as text, listed with its rules, and explained. Each record of examples/records is judged,
+without the order of its calls and with it. The programs are those that `rt ci` built last. The module runs in Node, and Python and C
+call the library; C does so for some texts under valgrind, and with each request for memory refused in turn."""
 import concurrent.futures
 import json
 import pathlib
@@ -21,7 +21,7 @@ from built import programs
 from refusing import build, refuse_each
 from scripts import all_cases, text_of, versions
 
-# What is compared, by the word that play.c takes for it, and the words of the native drawer.
+# The outputs that are compared, each by its word for play.c, and the words for the native drawer.
 DRAWN = {"svg": [], "text": ["--text"], "explain": ["--explain"]}
 HARD = [b"", b"\xff", b"[" * 200_000, b"{" * 126, b'{"version":1', b'"\xed\xa0\x80"', b" " * 1_048_577]
 OUT_OF_MEMORY = 4, b"out of memory\n"
@@ -30,7 +30,7 @@ UNDER_VALGRIND = [("two_flows", "play"), ("two_flows", "svg"), ("share_and_forge
 
 
 def scripts():
-    """Each script by a name."""
+    """The scripts, by their names."""
     found = {path.stem: path.read_bytes() for path in sorted((top / "examples").glob("*.json"))}
     for number, (_, case) in enumerate(all_cases()):
         for version in versions(case):
@@ -39,13 +39,13 @@ def scripts():
 
 
 def records():
-    """Each record by a name, and a text that is none."""
+    """The records, by their names, and a text that is not a record."""
     found = {path.stem: path.read_bytes() for path in sorted((top / "examples/records").glob("*.json*"))}
     return found | {f"hard_record_{number}": text for number, text in enumerate(HARD[:4])}
 
 
 def native(text):
-    """What the programs print of a script: a status and bytes for each word."""
+    """What the programs print for a script: a status and bytes for each word."""
     played = subprocess.run([player], input=text, capture_output=True)
     wanted = {"play": (played.returncode, played.stdout)}
     for word, flags in DRAWN.items():
@@ -56,7 +56,7 @@ def native(text):
 
 
 def judged(text):
-    """What the program prints of a record. An illegal one has another status in the library."""
+    """What the program prints for a record. An illegal record has another status in the library."""
     wanted = {}
     for word, flags in {"check": [], "order": ["--order"]}.items():
         ran = subprocess.run([judge, *flags], input=text, capture_output=True)
@@ -90,7 +90,7 @@ def from_c(program, text, word, before=(), **how):
 
 
 def is_told(came, wanted):
-    """Whether a run in which a request was refused says so. An explanation has no line for it."""
+    """Whether a run with a refused request ended as it must. An explanation has no line for that."""
     return came in (OUT_OF_MEMORY, (OUT_OF_MEMORY[0], b""))
 
 

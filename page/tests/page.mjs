@@ -1,8 +1,8 @@
 // Drives the page in headless Chromium: node page.mjs REPOSITORY PAGE.html [FOLDER FOR SCREENSHOTS]
 //
-// Each example is picked, and its lines and its diagram in the page are those of the repository. A wrong script is typed, told, and mended.
-// Links, keys, the slider, the pointer, the tour, the states, both colours, a narrow screen and the needs of a screen reader are tried. Each
-// example of a record is picked, and its verdict is the one in the repository.
+// The tests pick each example, and compare its lines and its diagram in the page with those in the repository. They type a wrong script,
+// check how it is refused, and correct it. They test links, keys, the slider, the pointer, the tour, the states, both colours, a narrow
+// screen and the needs of a screen reader. They pick each example of a record, and compare its verdict with the one in the repository.
 import assert from "node:assert/strict";
 import { readFileSync, readdirSync, writeFileSync } from "node:fs";
 import { resolve } from "node:path";
@@ -37,7 +37,7 @@ const LINES = "[...document.querySelectorAll('#rows tr')].map((row) => row.cells
 const CHOSEN = "document.querySelector('#rows [aria-current]')?.dataset.step";
 const ROOT = "document.getElementById('picture').shadowRoot";
 const MARK = `${ROOT}.querySelector('.chosen')`;
-/** The picture's panel, the box of each name of a lane with the height at which the diagram has it, and the marked column. */
+/** The panel of the picture, the box of each lane's name with its height in the diagram, and the marked column. */
 const LANES = `(() => {
   const root = ${ROOT};
   const boxOf = (part) => (({ left, top, right, bottom }) => ({ left, top, right, bottom }))(part.getBoundingClientRect());
@@ -182,7 +182,7 @@ await test("a script of 10,000 steps is played and shown at once after the first
   steps[0] = '{"do":"subscribe","name":"a"}';
   const text = `{"version":1,"flow":{"kind":"shared","replay":2,"extra":62,"overflow":"suspend"},"steps":[${steps.join(",\n")}]}`;
   const took = [];
-  // On a machine with much other work only some of the runs are not interrupted.
+  // On a busy machine most runs are interrupted, so up to 60 are tried.
   while (took.length < 5 || (took.length < 60 && Math.min(...took.slice(1)) >= 100)) {
     const typed = JSON.stringify(text + " ".repeat(took.length));
     await page.evaluate(`delete document.body.dataset.took; ${SCRIPT}.value = ${typed}; ${SCRIPT}.dispatchEvent(new Event("input"))`);
@@ -191,7 +191,7 @@ await test("a script of 10,000 steps is played and shown at once after the first
   }
   const least = Math.min(...took.slice(1));
   console.log(`page: 10,000 steps in ${took[0].toFixed(0)} ms, and then in ${least.toFixed(0)} ms`);
-  // Below 100 ms on an idle machine; a slower one, or one with other work, passes too.
+  // An idle machine takes less than 100 ms; a slower or a busy one passes, too.
   assert.ok(least < 200, `${took}`);
   assert.equal(await page.evaluate("document.querySelectorAll('#rows [data-step]').length"), 400);
   await page.evaluate(slide(5000));

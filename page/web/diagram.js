@@ -1,4 +1,4 @@
-// The marble diagram, as the drawer drew it, and the column of a step in it.
+// The marble diagram of the drawer, and the column of a step in it.
 import { byId, element } from "./dom.js";
 
 const SVG = "http://www.w3.org/2000/svg";
@@ -12,14 +12,14 @@ svg { display: block }
 button { font: inherit; margin: 12px }
 .chosen { fill: var(--column); stroke: var(--accent) }`;
 
-/** How far a column's mark begins before its number, and how far above it the step's word rises. */
+/** The distance by which a column's mark begins before its number, and the height of the step's word above the number. */
 const BEFORE = 5, ABOVE = 70;
 
-/** How far the box of a lane's name rises above the line on which the name is written. */
+/** The height of the box of a lane's name above the line on which the name is written. */
 const RISE = 19;
 
 const host = byId("picture");
-// A root of its own keeps the picture's style from the page.
+// In a root of its own the picture's style does not affect the page.
 const root = host.attachShadow({ mode: "open" });
 
 let columns = [];
@@ -37,14 +37,14 @@ export function showDiagram(text) {
   svg?.before(namesOf(svg));
 }
 
-/** Returns the names of the lanes once more, each over its place, which stay in sight when the diagram is scrolled to the side. */
+/** Returns copies of the names of the lanes, each over its place, which stay visible when the diagram is scrolled sideways. */
 function namesOf(svg) {
   const lanes = [...svg.querySelectorAll("text.a")].filter((text) => text.nextElementSibling?.localName === "line");
   const names = lanes.map((text) => element("span", { style: `top: ${text.getAttribute("y") - RISE}px` }, text.textContent));
   return element("div", { class: "names", "aria-hidden": "true" }, ...names);
 }
 
-/** Returns how much of the diagram the names of the lanes cover at its left, in pixels. */
+/** Returns the width that the names of the lanes cover at the left of the diagram, in pixels. */
 export const widthOfNames = () => [...root.querySelectorAll(".names span")].reduce((most, name) => Math.max(most, name.offsetWidth), 0);
 
 /** Shows a button in place of a diagram, and calls `draw` when it is pressed. */
@@ -76,7 +76,7 @@ function columnsOf(svg) {
   return boxes;
 }
 
-/** Returns how far down the lanes below each row of numbers reach. */
+/** Returns the bottom of the lanes below each row of numbers. */
 function bottomsOf(svg, tops) {
   const bottoms = tops.map((y) => y + 24);
   let row = 0;

@@ -1,4 +1,4 @@
-// Short words for the page's elements.
+// Short functions for the page's elements.
 
 export const byId = (id) => document.getElementById(id);
 
@@ -12,13 +12,13 @@ export function element(name, attributes = {}, ...children) {
   return made;
 }
 
-/** How much of a panel, at its top, may be covered by a head that stays in sight, in pixels. */
+/** The height at the top of a panel that a fixed head may cover, in pixels. */
 const COVERED = 28;
 
-/** Returns how far to scroll so that a part from `from` to `to` is within `low` and `high`. */
+/** Returns the distance to scroll so that a part from `from` to `to` is between `low` and `high`. */
 const shiftInto = (from, to, low, high) => (from < low ? from - low : Math.max(0, Math.min(to - high, from - low)));
 
-/** Scrolls a panel, and not the page, until a part of it is in sight, also if so much is covered at its left. */
+/** Scrolls a panel, and not the page, until a part of it is visible beside the `coveredLeft` pixels that are covered at its left. */
 export function bringInto(panel, part, coveredLeft = 0) {
   const [outer, inner] = [panel, part].map((each) => each.getBoundingClientRect());
   panel.scrollTop += shiftInto(inner.top, inner.bottom, outer.top + COVERED, outer.bottom);

@@ -1,7 +1,7 @@
-// A text that is edited: the numbers of its lines, and what is marked in it, which is a chosen part or the place of a refusal.
+// An editor of a text, with line numbers and one mark, for a chosen part or for the place of a refusal.
 import { byId, element } from "./dom.js";
 
-/** Returns how many lines end in a text. */
+/** Returns the number of line ends in a text. */
 function linesIn(text) {
   let count = 0;
   for (let at = text.indexOf("\n"); at >= 0; at = text.indexOf("\n", at + 1)) {
@@ -29,13 +29,13 @@ export class Editor {
     return this.area.value;
   }
 
-  /** Puts another text into the editor. */
+  /** Replaces the text of the editor. */
   open(text) {
     this.area.value = text;
     this.area.scrollTop = 0;
   }
 
-  /** Shows the numbers of the lines, of which one may be wrong. */
+  /** Shows the line numbers, one of which may be marked as wrong. */
   #showNumbers(count, wrong) {
     const shown = `${count} ${wrong}`;
     if (this.#numbers.dataset.shown !== shown) {
@@ -46,8 +46,8 @@ export class Editor {
     }
   }
 
-  /** Marks a part of the text as a step or as a place. Behind the text, only the marked part and what is before it in its line
-   * are laid out, so that this costs the same for a text of any length. */
+  /** Marks a part of the text as a step or as a place. Behind the text, it lays out only the marked part and what is before it in
+   * its line, so the cost does not depend on the length of the text. */
   showMarks(mark, kind, wrongLine) {
     const { text } = this;
     this.#showNumbers(linesIn(text) + 1, wrongLine);
@@ -60,7 +60,7 @@ export class Editor {
     }
   }
 
-  /** Marks the place of a refusal, and says whether the text is right; `place` is undefined if no place is known. */
+  /** Marks the place of a refusal, and marks the text as valid or invalid; `place` is undefined if no place is known. */
   showRefusal(isRefused, place) {
     this.area.setAttribute("aria-invalid", isRefused);
     if (isRefused) {
@@ -90,7 +90,7 @@ export class Editor {
   }
 }
 
-/** Shows in an element by which line and why a text is refused. */
+/** Shows in an element the line by which a text is refused, and why it is. */
 export function showWhy(panel, line, why) {
   const strong = document.createElement("strong");
   strong.textContent = line;

@@ -1,9 +1,9 @@
-// The steps of a script with their lines and the rules by which these came.
+// The steps of a script, with their lines and the rules behind these.
 import { byId, element } from "./dom.js";
 
 const rows = byId("rows");
 
-/** Returns what a listing says of each line: the number of its step, the step in words, the line, and its rule. */
+/** Returns the entries of a listing, one per line: the number of the step, the step in words, the line, and its rule. */
 export function entriesOf(listing, lines) {
   const listed = listing.split("\n").slice(-lines.length - 1, -1);
   return lines.map((line, index) => {
@@ -17,12 +17,12 @@ export function entriesOf(listing, lines) {
   });
 }
 
-/** Returns the lines without what a listing says of them. The first `before` lines are of no step. */
+/** Returns entries of the lines without words and rules. The first `before` lines belong to no step. */
 export function plainEntries(lines, before) {
   return lines.map((line, at) => ({ step: Math.max(0, at + 1 - before), words: "", line, rule: "" }));
 }
 
-/** The most rows that are in the page at once: of a longer script those around the chosen step. */
+/** The most rows that are in the page at once. For a longer script these are the rows around the chosen step. */
 const MOST_ROWS = 400;
 
 let allEntries = [];
@@ -33,7 +33,7 @@ function rowOf({ step, words, line, rule }) {
   return element("tr", { "data-step": step }, element("th", { scope: "row" }, step || ""), ...cells);
 }
 
-/** Returns a row with a button for the rows before or after those that are shown; nothing if there are none. */
+/** Returns a row with a button for further rows before or after the shown ones; nothing if there are none. */
 function furtherRows(count, words, start) {
   if (count <= 0) {
     return [];
@@ -48,7 +48,7 @@ function furtherRows(count, words, start) {
   return [element("tr", { class: "further" }, element("td", { colspan: 4 }, button))];
 }
 
-/** Shows rows from the one at a place on. */
+/** Shows the rows that begin at a place. */
 function showRows(start) {
   firstRow = Math.max(0, Math.min(start, allEntries.length - MOST_ROWS));
   const end = Math.min(firstRow + MOST_ROWS, allEntries.length);
@@ -78,7 +78,7 @@ export function markEntry(step) {
   return row;
 }
 
-/** Returns the step of the row that an event is about; undefined if it is about none. */
+/** Returns the step of the row of an event; undefined if the event is not in a row. */
 export function stepOfEvent(event) {
   const step = event.target.closest("tr")?.dataset.step;
   return step === undefined ? undefined : Number(step);

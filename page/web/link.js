@@ -1,7 +1,7 @@
 // A link that holds a script or a record: `#e=NAME` for an example, `#s=TEXT` for any script, compressed, `#r=NAME` and `#c=TEXT` for
 // a record of calls, and `#t=NUMBER` for a stop of the tour.
 
-/** The letters by which a link names an example, or holds a text. */
+/** The letters before an example's name, and before a text, in a link. */
 export const SCRIPT_LINK = { example: "e", text: "s" };
 export const RECORD_LINK = { example: "r", text: "c" };
 
@@ -14,10 +14,10 @@ export function bytesOf(base64) {
   return Uint8Array.from(atob(base64), (sign) => sign.charCodeAt(0));
 }
 
-/** The most bytes that a link is unpacked to. The player refuses a script that is longer than a sixteenth of that. */
+/** The most bytes that a link may unpack to. The player refuses a script that is longer than a sixteenth of that. */
 const MOST_UNPACKED = 1 << 24;
 
-/** Returns what a stream makes of these bytes. Throws if that is more than so many bytes. */
+/** Returns the bytes that a stream makes of these bytes. Throws if they are more than `most`. */
 export async function passed(bytes, stream, most = Infinity) {
   const reader = new Blob([bytes]).stream().pipeThrough(stream).getReader();
   const parts = [];

@@ -1,5 +1,5 @@
-// The page: a script that is typed is played at once, and each step is shown in the script, in the diagram, among the lines, and by the
-// state that its flows are in after it.
+// The page. It plays a script as it is typed, and shows each step in the script, in the diagram, among the lines, and by the state of
+// the flows after it.
 import { diagram, markColumn, offerDiagram, onColumnClick, showDiagram, widthOfNames } from "./diagram.js";
 import { bringInto, byId, element } from "./dom.js";
 import { Editor, showWhy } from "./editor.js";
@@ -13,12 +13,12 @@ import { PlayedScript, statesAfter } from "./states.js";
 import { isRecordTab, listenToTabs, showTab } from "./tabs.js";
 import { TOUR } from "./tour.js";
 
-/** A script with more steps is drawn only if its button is pressed. Its rules come after its lines, and the states of its flows
- * once the step stays chosen. */
+/** A script with more steps is drawn only if its button is pressed. Its rules are shown after its lines, and the states of its flows
+ * once the chosen step no longer changes. */
 const MOST_AT_ONCE = 1500;
 
-/** A script with a chain that makes more items of one item may play long, and the page does nothing else meanwhile: it is played
- * only if its button is pressed. */
+/** A script with a chain that makes more items from one item may take long to play, and the page does nothing else meanwhile. It is
+ * played only if its button is pressed. */
 const MOST_ITEMS = 100_000;
 
 /** The record that is shown first. */
@@ -34,7 +34,7 @@ let player;
 let examples = {};
 let records = {};
 let chosen = 0;
-/** What a script gave: its steps and their lines, or the place at which it is refused. */
+/** The result of a script: its steps and their lines, or the place at which it is refused. */
 const NOTHING = { steps: undefined, entries: [], place: undefined, played: undefined };
 let shown = { ...NOTHING };
 
@@ -45,10 +45,10 @@ const isPlayed = () => !shown.place && editor.text === shown.played?.text;
 
 // ---- playing
 
-/** The script that may play long, and is to be played. */
+/** The script that may take long to play, once its button was pressed. */
 let allowed;
 
-/** Plays the script that is in the editor, and shows what it gave. */
+/** Plays the script in the editor, and shows the result. */
 function play() {
   if (mostItemsOfOne(editor.text) > MOST_ITEMS && editor.text !== allowed) {
     offerToPlay();
@@ -73,7 +73,7 @@ function play() {
   document.body.dataset.took = took;
 }
 
-/** Shows a button in place of what a script gives. */
+/** Shows a button in place of the result of a script. */
 function offerToPlay() {
   showRefused("not played yet", `A chain may make more than ${MOST_ITEMS} items of one item, which may take long.\n`);
   const button = element("button", { type: "button" }, "Play it");
@@ -88,7 +88,7 @@ function offerToPlay() {
 function showPlayed(lines) {
   const { text } = editor;
   const steps = stepsOf(text);
-  // The first lines are those of flows that were not made.
+  // The first lines are those of refused flows.
   const entries = plainEntries(lines, lines.length - steps.places.length);
   const stepLines = lines.slice(lines.length - steps.places.length);
   shown = { steps, entries, place: undefined, played: new PlayedScript(player, text, steps, stepLines) };
@@ -113,7 +113,7 @@ function showPlayed(lines) {
   choose(Math.min(chosen, stepCount()), false);
 }
 
-/** Shows the lines with the rules by which they came. */
+/** Shows the lines with the rules behind them. */
 function showRules(lines) {
   shown.entries = entriesOf(textOf(player.draw(FORM.EXPLAINED, editor.text)), lines);
   showEntries(shown.entries);
@@ -125,7 +125,7 @@ function draw() {
   byId("save").disabled = !refusal.hidden;
 }
 
-/** Shows why the script is refused. What it gave before it was changed stays, and is pale. */
+/** Shows why the script is refused. The result from before the change stays, in pale colours. */
 function showRefused(line, why) {
   shown.place = placeOf(editor.text, why);
   showWhy(refusal, line, why);
@@ -135,7 +135,7 @@ function showRefused(line, why) {
 function setRefused(isRefused) {
   refusal.hidden = !isRefused;
   if (!isRefused) {
-    // A screen reader reads it with the script even while it is hidden.
+    // A screen reader reads the refusal with the script even while it is hidden.
     refusal.replaceChildren();
   }
   editor.showRefusal(isRefused, shown.place);
@@ -148,7 +148,7 @@ function setRefused(isRefused) {
 
 let asking;
 
-/** Shows the states after the chosen step, of a long script once the step stays chosen. */
+/** Shows the states after the chosen step; for a long script, once the step no longer changes. */
 function askStates() {
   clearTimeout(asking);
   if (!shown.played) {
@@ -197,7 +197,7 @@ function choose(step, scrolls = true) {
 
 let links = 0;
 
-/** Puts what is shown into the address, unless a later call does. */
+/** Writes a link to what is shown into the address, unless a later call does. */
 async function keepLink() {
   const mine = (links += 1);
   const isRecord = isRecordTab();
@@ -216,7 +216,7 @@ function open(text, step = 0) {
   play();
 }
 
-/** Shows the tab of records, with the record that was there last, or that of scripts. */
+/** Shows the tab of records, with its last record, or the tab of scripts. */
 async function takeTab(isRecord) {
   showTab(isRecord);
   byId("tour").hidden = true;
@@ -268,7 +268,7 @@ function saveDiagram() {
 
 let stop = 0;
 
-/** Shows a stop of the tour: its example, its two sentences, and the step that these speak of. */
+/** Shows a stop of the tour: its example, its two sentences, and the step that they explain. */
 function showStop(number) {
   stop = Math.max(0, Math.min(number, TOUR.length - 1));
   const { example, title, words, step } = TOUR[stop];
@@ -291,7 +291,7 @@ function leaveTour() {
   keepLink();
 }
 
-// ---- what the reader does
+// ---- actions of the reader
 
 let waiting;
 
@@ -306,7 +306,7 @@ function typed() {
   }, pause);
 }
 
-/** Chooses the step that the caret is in. */
+/** Chooses the step at the caret. */
 function followCaret() {
   if (document.activeElement !== editor.area || !isPlayed()) {
     return;
@@ -340,7 +340,7 @@ function pressed(event) {
   if (event.altKey && steps && !isRecordTab() && event.target.localName !== "select") {
     choose(chosen + steps);
   } else if (event.key === "F8" && goToPlace()) {
-    // The place is selected.
+    // The place of the refusal is selected now.
   } else if (event.altKey && event.code === "KeyE") {
     nextExample();
   } else {
@@ -397,7 +397,7 @@ function listen() {
 
 // ---- begin
 
-/** Returns the bytes of the module that this engine takes. Both are in the page, compressed. */
+/** Returns the bytes of the module that this engine can run. The page has both modules, compressed. */
 function moduleBytes(isWide) {
   return passed(bytesOf(byId(isWide ? "wide-module" : "module").textContent), new DecompressionStream("deflate-raw"));
 }

@@ -1,23 +1,23 @@
 // The proved player of flow scripts as a WebAssembly module.
 //
-// The player was compiled for addresses of 64 bits, so each pointer crosses as a BigInt, into the lowered module too. A call
-// gets the script and a buffer. If the buffer is too short the call says how much room it needs, and is made once more.
+// The player is compiled for addresses of 64 bits, so each pointer is passed as a BigInt, to the lowered module, too. A call
+// takes the script and a buffer. If the buffer is too short, the call gives the length that it needs, and is made again.
 
-/** What a call answers. */
+/** The statuses of calls. */
 export const STATUS = { GIVEN: 0, TOO_LONG: 1, REFUSED: 2, OUT_OF_MEMORY: 4 };
 
-/** What is answered to a record of calls, beside the above. */
+/** The statuses for a record of calls, besides those above. */
 export const VERDICT = { LEGAL: 0, REFUSED: 2, GAVE_UP: 3, OUT_OF_MEMORY: 4, ILLEGAL: 5 };
 
-/** What a drawing is: a picture as SVG or as text, or the lines with their rules. */
+/** The forms of a drawing: a picture as SVG or as text, or the lines with their rules. */
 export const FORM = { SVG: 0, TEXT: 1, EXPLAINED: 2 };
 
 const FIRST_ROOM = 1 << 16;
 
-/** A module that has nothing but a table and a memory with addresses of 64 bits. */
+/** A module that has only a table and a memory with addresses of 64 bits. */
 const WIDE = [0, 0x61, 0x73, 0x6d, 1, 0, 0, 0, 4, 4, 1, 0x70, 4, 0, 5, 3, 1, 4, 0];
 
-/** Returns whether this engine takes memories and tables with addresses of 64 bits. */
+/** Returns whether this engine supports memories and tables with addresses of 64 bits. */
 export function hasWideMemories() {
   return WebAssembly.validate(new Uint8Array(WIDE));
 }
@@ -40,7 +40,7 @@ export class Player {
     this.#begin();
   }
 
-  /** Returns a player of these bytes of a module. */
+  /** Returns a player that runs a module of these bytes. */
   static async load(bytes) {
     return new Player(await WebAssembly.compile(bytes));
   }
@@ -50,7 +50,7 @@ export class Player {
     return this.#call("wumsnair_play", [], script);
   }
 
-  /** Returns what is drawn of a script, as `./draw` prints it. */
+  /** Returns the drawing of a script, as `./draw` prints it. */
   draw(form, script) {
     return this.#call("wumsnair_draw", [form], script);
   }
@@ -60,12 +60,12 @@ export class Player {
     return this.#call("wumsnair_explain", [], script);
   }
 
-  /** Returns the verdict on a record of calls, as `./judge` prints it; of a legal one with the order of its calls, if that is wanted. */
+  /** Returns the verdict on a record of calls, as `./judge` prints it; for a legal one with the order of its calls, if `withOrder`. */
   check(record, withOrder) {
     return this.#call("wumsnair_check", [Number(withOrder)], record);
   }
 
-  /** Makes a new instance. After a trap, as of a full stack, the old one's memory is not to be used again. */
+  /** Makes a new instance. After a trap, for instance of a full stack, the memory of the old instance must not be used again. */
   #begin() {
     this.#calls = new WebAssembly.Instance(this.#module, {}).exports;
     this.#memory = this.#calls.memory;

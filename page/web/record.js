@@ -1,4 +1,4 @@
-// A record of calls: the text in its editor, the verdict of the proved checker, and the calls beside each other in time.
+// A record of calls: its text in an editor, the verdict of the proved checker, and a drawing of the calls over time.
 import { byId, element } from "./dom.js";
 import { Editor, showWhy } from "./editor.js";
 import { VERDICT, textOf } from "./player.js";
@@ -20,7 +20,7 @@ let refusedPlace;
 /** Whether the calls of the record were drawn since it was opened. */
 let isDrawn = false;
 
-/** A text between quotation marks, or a whole number that may have more digits than a JavaScript number keeps. */
+/** A text between quotation marks, or a whole number that may have more digits than a JavaScript number can hold. */
 const TEXT_OR_LONG_NUMBER = /"(?:[^"\\]|\\.)*"|-?\d{16,}/g;
 
 /** Parses JSON without fractions. Long numbers are of type BigInt. */
@@ -49,7 +49,7 @@ function showVerdict(status, lines) {
   byId("told-of-record").hidden = lines.length === 0;
 }
 
-/** Judges the record that is in the editor, and shows the verdict. */
+/** Judges the record in the editor, and shows the verdict. */
 export function judge(player) {
   let told, status;
   try {
@@ -97,7 +97,7 @@ export function goToRefusal() {
   return refusedPlace !== undefined;
 }
 
-/** Calls `change` when the record or what is wanted of it changes, a short time after the last key. */
+/** Calls `change` when the record or an option of it changes, a short time after the last key. */
 export function onRecordChange(change) {
   let waiting;
   recordEditor.area.addEventListener("input", () => {

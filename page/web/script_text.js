@@ -1,5 +1,5 @@
-// Where the parts of a script stand in its text, which the player has read already, so it is valid JSON; and how many items the chains of
-// any text make.
+// The places of the parts of a script in its text, which is valid JSON, since the player has read it already; and the number of items
+// that the chains of any text make.
 
 /** Returns the offset after a string that begins at `from` with its quote. */
 function endOfString(text, from) {
@@ -10,8 +10,8 @@ function endOfString(text, from) {
   return index + 1;
 }
 
-/** Returns where the list "steps" stands at the top of a script, as `open` and `close`, and the start and end of each of its items in
- * `places`; undefined if there is no such list. Of two lists the last one counts, as it does for the player. */
+/** Returns the place of the list "steps" at the top of a script, as `open` and `close`, and the start and end of each of its items in
+ * `places`; undefined if there is no such list. If there are two lists, the last one counts, as it does for the player. */
 export function stepsOf(text) {
   let found, steps, key;
   let depth = 0, start = 0;
@@ -44,7 +44,7 @@ export function stepsOf(text) {
   return found;
 }
 
-/** Returns how many items an operator makes of one item at most. */
+/** Returns the most items that an operator makes from one item. */
 function itemsOfOne(operator) {
   switch (operator?.op) {
     case "flat_map":
@@ -56,19 +56,19 @@ function itemsOfOne(operator) {
   }
 }
 
-/** Returns how many items a chain of a text makes of one item at most; of a text that is no JSON, 1. */
+/** Returns the most items that a chain of a text makes from one item; for a text that is not JSON, 1. */
 export function mostItemsOfOne(text) {
   let most = 1;
   try {
     JSON.parse(text, (key, value) => {
       if (key === "ops" && Array.isArray(value)) {
-        // What is no number is refused by the player.
+        // The player refuses a size that is not a number.
         most = Math.max(most, value.map(itemsOfOne).reduce((product, size) => product * (size > 1 ? size : 1), 1));
       }
       return value;
     });
   } catch {
-    // The player says what is wrong with it.
+    // The player explains what is wrong with the text.
   }
   return most;
 }
@@ -81,7 +81,7 @@ function isSteps(key) {
   }
 }
 
-/** Returns the offset of a line and a column, which count from 1; columns count characters. */
+/** Returns the offset of a line and a column, which are counted from 1; a column is a character. */
 export function offsetOf(text, line, column) {
   let start = 0;
   for (let rest = line; rest > 1; rest -= 1) {
@@ -93,7 +93,7 @@ export function offsetOf(text, line, column) {
   return start;
 }
 
-/** Returns the place that an explanation begins with, as the start and the end of the word there; undefined if it has none. */
+/** Returns the place at the beginning of an explanation, as the start and the end of the word there; undefined if it has none. */
 export function placeOf(text, explanation) {
   const found = /^line (\d+), column (\d+): /.exec(explanation);
   if (!found) {

@@ -1,17 +1,17 @@
-// What is in each flow after the chosen step: a column for each value, and a row for the cache and for each subscriber.
+// The state of each flow after the chosen step: a column for each value, and a row for the replay cache and for each subscriber.
 import { byId, element } from "./dom.js";
 
 const panel = byId("states");
 
 const counted = (count, word) => `${count} ${word}${count === 1 ? "" : "s"}`;
 
-/** Returns the words of a flow's kind, as `shared, replay 1, extra 1, suspend`. */
+/** Returns the kind of a flow in words, for instance `shared, replay 1, extra 1, suspend`. */
 function wordsOf({ kind, replay, extra, overflow }) {
   const parts = [kind.replace("_", " "), replay !== undefined && `replay ${replay}`, extra !== undefined && `extra ${extra}`];
   return [...parts, overflow?.replace("_", " ")].filter(Boolean).join(", ");
 }
 
-/** Returns a row of values whose last one stands in the column before `end`; without values, a row that says so by `none`. */
+/** Returns a row of values whose last one is in the column before `end`; without values, a row with the word `none`. */
 function valuesRow(name, values, end, width, kind, none = "empty") {
   if (values.length === 0) {
     return element("tr", {}, element("th", { scope: "row" }, name), element("td", { class: "none", colspan: width }, none));

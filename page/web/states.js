@@ -1,25 +1,25 @@
-// The state of each flow after a step. The player answers it itself: the script's first steps are played once more with further
-// steps behind them, which ask the flow for its cache, its value and its count, poll each emission that was queued, and receive
-// all that a subscriber still has to receive. So nothing here knows how a flow keeps its values.
+// The state of each flow after a step. The player itself gives it: it plays the script's first steps again, and then further steps
+// that read the replay cache, the value and the subscription count of the flow, poll each queued emission, and receive all values
+// that are pending for a subscriber. So nothing here knows how a flow keeps its values.
 import { STATUS, textOf } from "./player.js";
 
 /** The most steps that a script may have. */
 const MOST_STEPS = 10_000;
 
-/** The most subscribers of a flow that are asked. */
+/** The most subscribers of a flow whose pending values are read. */
 const MOST_ASKED = 16;
 
-/** How many values a chain's flow keeps for slow subscribers at least. */
+/** The least number of values that the flow of a chain keeps for slow subscribers. */
 const LEAST_SHARED_WINDOW = 64;
 
-/** A script that was played: its text, where its steps stand, and the line of each step. */
+/** A script that was played: its text, the places of its steps, and the line of each step. */
 export class PlayedScript {
   constructor(player, text, steps, lines) {
     this.player = player;
     this.text = text;
     this.steps = steps;
     this.lines = lines;
-    // Without the steps, which are long.
+    // The script without its steps, which are long.
     this.head = JSON.parse(text.slice(0, steps.open + 1) + text.slice(steps.close));
   }
 
@@ -47,7 +47,7 @@ export class PlayedScript {
     return played.status === STATUS.GIVEN ? textOf(played).split("\n").slice(-further.length - 1, -1) : undefined;
   }
 
-  /** Returns the subscribers and the queued emissions of a flow that the first `count` steps made and did not end. */
+  /** Returns the subscribers and the queued emissions of a flow that the first `count` steps have made and not ended. */
   namesOf(flow, count) {
     const subscribers = new Map(), queued = new Map();
     let emitted = 0;
@@ -72,12 +72,12 @@ export class PlayedScript {
   }
 }
 
-/** Returns the digits of a step's value, of which a number of JavaScript may not keep all. */
+/** Returns the digits of a step's value, since a number of JavaScript may not hold all of them. */
 function valueOf(step) {
   return [...step.matchAll(/"value"\s*:\s*(-?\d+)/g)].at(-1)?.[1] ?? "?";
 }
 
-/** Returns how far behind the slowest subscriber of a flow may be. */
+/** Returns the greatest lag that a subscriber of a flow can have. */
 function windowOf({ kind, replay = 0, extra = 0 }) {
   return kind === "share" ? Math.max(LEAST_SHARED_WINDOW, replay) : Math.max(1, replay + extra);
 }
@@ -86,7 +86,7 @@ const listOf = (line) => line.slice(1, -1).split(", ").filter(Boolean);
 
 const holdsValue = ({ kind }) => kind === "state" || kind === "state_in";
 
-/** Returns the values that a subscriber would receive after the first `count` steps, until there is none. */
+/** Returns the values that a subscriber would receive after the first `count` steps, until none is left. */
 function drained(script, count, on, name, most) {
   const lines = script.linesAfter(count, Array.from({ length: most }, () => on({ do: "next", name })));
   const values = [];
@@ -124,7 +124,7 @@ function stateOf(script, count, [name, flow]) {
   const buffer = [cache, ...all.map(({ pending }) => pending)].reduce((a, b) => (a.length < b.length ? b : a));
   return {
     name, flow, cache, buffer, waiting, subscribers: all,
-    // Without a buffer, the value that is there is that of the first emitter that waits.
+    // Without a buffer, the value in the flow is that of the first waiting emitter.
     offered: waiting.length > 0 && flow.replay + flow.extra === 0 ? buffer.length : 0,
     count: Number(lines[1]), value: holdsValue(flow) ? lines[2] : undefined,
   };

@@ -1,4 +1,4 @@
-// The two tabs: a script is played, or a record of calls is checked.
+// The two tabs: one plays a script, the other checks a record of calls.
 import { byId } from "./dom.js";
 
 const tabs = ["script-tab", "record-tab"].map(byId);
@@ -18,7 +18,7 @@ export function showTab(isRecord) {
   });
 }
 
-/** Calls `change` when the reader takes the other tab, by a click or by the arrow keys. */
+/** Calls `change` when the reader chooses the other tab, by a click or by the arrow keys. */
 export function listenToTabs(change) {
   tabs.forEach((tab, at) => {
     tab.addEventListener("click", () => change(at === 1));

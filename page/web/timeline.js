@@ -1,4 +1,4 @@
-// The calls of a record beside each other: a lane for each caller, and a bar for each call, from its begin to its end.
+// A drawing of the calls of a record: a lane for each caller, and a bar for each call, from its beginning to its end.
 import { byId, element } from "./dom.js";
 
 /** A record with more calls is not drawn. */
@@ -17,13 +17,13 @@ function answerWords(answer) {
   return "old" in answer ? `${answer.old} to ${answer.value}` : String(answer.value);
 }
 
-/** Returns a call in words, as `set 3: done`. */
+/** Returns a call in words, for instance `set 3: done`. */
 function callWords({ call, expect, value, first, answer }) {
   const own = first && `[${first.join(", ")}]`;
   return `${[call, expect, value, own].filter((each) => each !== undefined).join(" ")}: ${answerWords(answer)}`;
 }
 
-/** Returns the bar of a call, in columns that are the moments of the record in order. */
+/** Returns the bar of a call. The columns are the moments of the record, in order. */
 function barOf(each, columns, wrong) {
   const { number, begin, end } = each;
   const last = end === undefined ? columns.size : columns.get(end);
@@ -33,7 +33,7 @@ function barOf(each, columns, wrong) {
   return element("li", { class: kind, style, title: words }, element("b", {}, number), ` ${callWords(each)}`);
 }
 
-/** Shows these calls, of which those with the numbers in `wrong` have no order. */
+/** Shows these calls. Those with the numbers in `wrong` have no order. */
 export function showTimeline(calls, wrong) {
   if (calls.length > MOST_CALLS) {
     timeline.replaceChildren(element("p", {}, `${calls.length} calls are too many to draw.`));

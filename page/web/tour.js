@@ -1,4 +1,4 @@
-// The guided tour: eight examples, each with two sentences, and the step that they speak of.
+// The guided tour: eight examples, each with two sentences, and the step that they explain.
 
 const tourStop = (example, title, step, words) => ({ example, title, step, words });
 

@@ -1,4 +1,4 @@
-//! What to time: `WORKLOAD PEER [count=N] [subscribers=N] [before=N] [threads=N] [room=N] [repeats=N]`.
+//! The arguments: `WORKLOAD PEER [count=N] [subscribers=N] [before=N] [threads=N] [room=N] [repeats=N]`.
 use std::time::Instant;
 
 #[derive(Clone, Copy)]
@@ -8,12 +8,12 @@ pub struct Sizes {
     /// Values that are emitted before the clock starts.
     pub before: u64,
     pub threads: u64,
-    /// How many values the flow of a crowd keeps for its subscribers.
+    /// The number of values that the flow of a crowd keeps for its subscribers.
     pub room: u64,
     pub repeats: u64,
 }
 
-/// How long a workload took, how many operations that was, and a sum that shows that the work was done.
+/// The time of a workload, the number of its operations, and a sum that shows that the work was done.
 #[derive(Clone, Copy)]
 pub struct Taken {
     pub nanoseconds: u128,

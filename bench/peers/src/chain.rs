@@ -44,20 +44,20 @@ pub enum Node {
     Script(IntoIter<Entry>),
     Map(Box<Node>, Arithmetic, i64),
     Filter(Box<Node>, Test),
-    /// Until the flag is set.
+    /// Takes items until the flag is set.
     TakeWhile(Box<Node>, Test, bool),
-    /// With what is left of the last item.
+    /// Keeps what is left of the last item.
     Transform(Box<Node>, Vec<i64>, IntoIter<i64>),
     Take(Box<Node>, i64),
     Drop(Box<Node>, i64),
-    /// The flag is set once the first value was given.
+    /// The flag is set once the initial value was given.
     Scan(Box<Node>, Arithmetic, i64, bool),
     FlatMapRange(Box<Node>, i64, RangeInclusive<i64>),
-    /// With the last item, and how often it is still to be given.
+    /// Keeps the last item, and how many times it must still be given.
     FlatMapRepeat(Box<Node>, i64, i64, i64),
     Zip(Box<Node>, Box<Node>, Pairing),
     Distinct(Box<Node>, Option<i64>),
-    /// Until the flag is set.
+    /// Drops items until the flag is set.
     DropWhile(Box<Node>, Test, bool),
     RunningReduce(Box<Node>, Arithmetic, Option<i64>),
 }
@@ -181,7 +181,7 @@ fn next_pair(left: &mut Node, right: &mut Node, pairing: Pairing) -> Answer {
 }
 
 impl Node {
-    /// The next item, or nothing at the end. What pends is asked again.
+    /// Returns the next item, or the end. Asks again while the chain is pending.
     pub fn next(&mut self) -> Answer {
         match self {
             Node::Of(items) => Ok(items.next()),

@@ -52,7 +52,7 @@ fn pairing(word: &str) -> Pairing {
     }
 }
 
-/// The chain behind one more operator, and how deep it is.
+/// Returns the chain with one more operator, and its depth.
 fn behind(upstream: Node, depth: usize, op: &Json) -> Result<(Node, usize), Fault> {
     let upstream = Box::new(upstream);
     let by = || arithmetic(op.get("by").text());

@@ -1,6 +1,6 @@
-//! The `ref` flow behind a mutex, with condition variables by which threads sleep while they wait.
+//! The `ref` flow behind a mutex, with condition variables on which waiting threads sleep.
 //!
-//! A call that gives nobody anything wakes no thread.
+//! A call that adds no value and ends no emission wakes no thread.
 use crate::crowd::Shared;
 use crate::flows::Flow;
 use crate::shared::{Emit, Next};

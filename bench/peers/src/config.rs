@@ -1,4 +1,4 @@
-//! What a shared flow keeps, and what an emission does if there is no room.
+//! The configuration of a shared flow: what it keeps, and what an emission does without room.
 
 /// What an emission does if some subscriber is a full buffer behind (`BufferOverflow`).
 #[derive(Clone, Copy, Debug, PartialEq, Eq)]
@@ -13,7 +13,7 @@ pub struct Config {
     pub replay: u32,
     pub extra: u32,
     pub overflow: Overflow,
-    /// How many numbers are issued to subscribers and emissions.
+    /// The most numbers that are issued to subscribers and emissions.
     pub limit: u64,
 }
 

@@ -1,7 +1,7 @@
-//! Threads that emit, and threads that each receive all that was emitted, through one flow.
+//! Threads that emit into one flow, and threads that each receive all of its values.
 //!
-//! No subscriber loses a value: an emitter waits for the slowest one. A delivery is an operation, and the time is that
-//! of all threads, their making included.
+//! No subscriber loses a value: an emitter waits for the slowest one. An operation is a delivery, and the time is that
+//! of all threads, and includes making them.
 use crate::arguments::{Sizes, Taken};
 use crate::config::{Config, Overflow};
 use crate::flows::{Flow, AT_ONCE};
@@ -11,21 +11,21 @@ use crate::slab::Id;
 use std::thread;
 use std::time::Duration;
 
-/// How threads reach the flow that they share.
+/// A way for threads to call the flow that they share.
 pub trait Shared: Sync {
     fn new(flow: Flow) -> Self;
 
-    /// Emits the values that begin with the first one.
+    /// Emits `count` values, from `first` on.
     fn emit_all(&self, first: i64, count: i64);
 
-    /// Receives so many values, and returns their sum.
+    /// Receives `count` values, and returns their sum.
     fn read_all(&self, id: Id, count: u64) -> i64;
 }
 
-/// Subscribers receive by `next`. A thread that waits lets others run first.
+/// A flow whose subscribers receive by `next`. A waiting thread yields.
 pub struct PollNext<L>(L);
 
-/// Subscribers receive by `drain`. A thread that waits lets others run first.
+/// A flow whose subscribers receive by `drain`. A waiting thread yields.
 pub struct PollDrain<L>(L);
 
 impl<L: Lock<Flow>> Shared for PollNext<L> {
@@ -118,12 +118,12 @@ fn run<S: Shared>(shared: &S, ids: Vec<Id>, sizes: Sizes) -> i64 {
     })
 }
 
-/// How many values are delivered.
+/// Returns how many values are delivered.
 pub fn deliveries(sizes: Sizes) -> u64 {
     sizes.threads * sizes.count * sizes.subscribers
 }
 
-/// A flow that keeps so many values, and its subscribers.
+/// Returns a flow that keeps `room` values, and its subscribers.
 fn subscribed<S: Shared>(room: u64, subscribers: u64) -> (S, Vec<Id>) {
     let config = Config::new(0, room as u32, Overflow::Suspend);
     let mut flow = Flow::new(config).expect("the configuration is right");

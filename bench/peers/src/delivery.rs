@@ -1,17 +1,17 @@
 //! Workloads over one flow and its subscribers, called by one thread.
 use crate::arguments::{Sizes, Taken};
 
-/// How many values are emitted between two readings.
+/// The number of values that are emitted between two readings.
 const BATCH: u64 = 16;
 
-/// How many values a flow keeps for its subscribers.
+/// The number of values that a flow keeps for its subscribers.
 pub const ROOM: usize = 64;
 
 /// A flow that keeps 64 values and drops the oldest, and its subscribers.
 pub trait Delivery {
     fn emit(&mut self, value: i64);
 
-    /// Each subscriber receives all that there is. Returns the sum.
+    /// Lets each subscriber receive all that it can. Returns the sum.
     fn read_all(&mut self) -> i64;
 }
 
@@ -20,20 +20,20 @@ pub trait Admission {
     /// Returns whether the value was accepted without a wait.
     fn offer(&mut self, value: i64) -> bool;
 
-    /// Emits a value that has to wait, has each subscriber receive one value, and sees that the wait has ended. Returns
-    /// the sum of what was received.
+    /// Emits a value that has to wait, lets each subscriber receive one value, and checks that the wait has ended.
+    /// Returns the sum of what was received.
     fn admit(&mut self, value: i64) -> i64;
 }
 
-/// What a channel answers a receiver that asks for a value.
+/// What a channel returns to a receiver that asks for a value.
 pub enum Received {
     Value(i64),
-    /// Values were dropped before this receiver had them.
+    /// Values were dropped before this receiver received them.
     Lost,
     Nothing,
 }
 
-/// Each receiver takes all that there is. Returns the sum.
+/// Lets each receiver take all that it can. Returns the sum.
 pub fn sum_received<R>(receivers: &mut [R], next: impl Fn(&mut R) -> Received) -> i64 {
     let mut sum = 0i64;
     for receiver in receivers {
@@ -69,7 +69,7 @@ fn emit_all(flow: &mut impl Delivery, batches: u64) {
     }
 }
 
-/// Values are emitted in batches, after each of which every subscriber reads to the end. An operation is a delivery.
+/// Emits values in batches; after each, every subscriber reads until nothing is left. An operation is a delivery.
 pub fn time_reading(mut flow: impl Delivery, sizes: Sizes) -> Taken {
     emit_and_read(&mut flow, sizes.before / BATCH);
     let batches = sizes.count / BATCH;
@@ -77,7 +77,7 @@ pub fn time_reading(mut flow: impl Delivery, sizes: Sizes) -> Taken {
     Taken::by(operations, || emit_and_read(&mut flow, batches))
 }
 
-/// Values are emitted, and no subscriber reads. An operation is an emission.
+/// Emits values that no subscriber reads. An operation is an emission.
 pub fn time_emitting(mut flow: impl Delivery, sizes: Sizes) -> Taken {
     emit_all(&mut flow, sizes.before / BATCH);
     let batches = sizes.count / BATCH;
@@ -91,7 +91,7 @@ pub fn time_emitting(mut flow: impl Delivery, sizes: Sizes) -> Taken {
     }
 }
 
-/// The flow is full, so each value that is emitted waits until every subscriber has received one. An operation is a
+/// Emits into a full flow, so each emission waits until every subscriber has received a value. An operation is a
 /// delivery.
 pub fn time_admitting(mut flow: impl Admission, sizes: Sizes) -> Taken {
     let mut room = 0;

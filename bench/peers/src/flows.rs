@@ -1,16 +1,16 @@
-//! The `ref` flow with its subscribers, as the workloads of one thread call it: alone, and behind a lock.
+//! The `ref` flow with its subscribers, as the workloads of one thread call it: without a lock, and behind one.
 use crate::config::{Config, Overflow};
 use crate::delivery::{Admission, Delivery, ROOM};
 use crate::locks::Lock;
 use crate::shared::{Emit, Next, SharedFlow};
 use crate::slab::Id;
 
-/// How many values a drain takes at once.
+/// The most values that a drain takes at once.
 pub const AT_ONCE: usize = 64;
 
 pub type Flow = SharedFlow<i64>;
 
-/// A way to reach the flow.
+/// A way to call the flow.
 pub trait Reach {
     fn with<R>(&mut self, call: impl FnOnce(&mut Flow) -> R) -> R;
 }

@@ -1,4 +1,4 @@
-//! JSON texts that are known to be right: whole numbers of 64 bits, and strings without escapes.
+//! Reads JSON texts that are known to be valid: whole numbers of 64 bits, and strings without escapes.
 
 #[derive(Debug)]
 pub enum Json<'a> {
@@ -58,7 +58,7 @@ impl<'a> Json<'a> {
 }
 
 impl<'a> Reader<'a> {
-    /// The next byte that is no space.
+    /// Returns the next byte that is not a space.
     fn peek(&mut self) -> u8 {
         let bytes = self.text.as_bytes();
         while bytes[self.at].is_ascii_whitespace() {
@@ -75,7 +75,7 @@ impl<'a> Reader<'a> {
         is_next
     }
 
-    /// The text from here on whose bytes are so.
+    /// Takes the text from here on whose bytes pass the test.
     fn take_while(&mut self, is_so: impl Fn(u8) -> bool) -> &'a str {
         let rest = &self.text[self.at..];
         let length = rest.bytes().take_while(|byte| is_so(*byte)).count();

@@ -18,7 +18,7 @@ impl<T: Send> Lock<T> for Mutex<T> {
     }
 }
 
-/// A mutex that lets other threads run first, rather than put the caller to sleep.
+/// A mutex whose waiting callers yield instead of sleeping.
 pub struct Yielding<T>(Mutex<T>);
 
 impl<T: Send> Lock<T> for Yielding<T> {

@@ -1,7 +1,7 @@
 //! What people would use in place of Wumsnair's flows, timed by the same workloads.
 //!
 //! `peers WORKLOAD PEER [count=N] ..` prints one line of JSON. `peers play` reads calls of flows, and prints what each
-//! returns: so `ref` is tested. `peers collect` plays a script whose steps collect chains.
+//! returns, which tests `ref`. `peers collect` plays a script whose steps collect chains.
 mod arguments;
 #[cfg(feature = "async-broadcast")]
 mod async_broadcast_peer;
@@ -120,7 +120,7 @@ fn async_broadcast(workload: &str, sizes: Sizes) -> Option<Taken> {
     }
 }
 
-/// Does the work once. `None` if there is no such workload of this peer.
+/// Does the work once. Returns `None` if this peer has no such workload.
 fn run(workload: &str, peer: &str, sizes: Sizes) -> Option<Taken> {
     match peer {
         "ref" => alone_by_next(workload, sizes),

@@ -24,7 +24,7 @@ enum Flow {
     Share(Sharing<i64, IntoIter<i64>>),
 }
 
-/// What a name stands for. A refused subscription, or an emission that did not have to wait, is not there.
+/// The subscribers and emissions by their names, without refused subscriptions and emissions that did not have to wait.
 #[derive(Default)]
 struct Names {
     subscribers: HashMap<String, Id>,

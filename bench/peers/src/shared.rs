@@ -9,7 +9,7 @@ use crate::config::{Config, ConfigError, Overflow};
 use crate::slab::{Id, Slab};
 use std::collections::VecDeque;
 
-/// No number is left to issue. Carries what was to be emitted or received first.
+/// The refusal when no number is left to issue. Hands back the value, or the subscriber's own first values.
 #[derive(Debug)]
 pub struct Exhausted<T>(pub T);
 
@@ -30,7 +30,7 @@ pub enum Next<T> {
 /// A value that is kept.
 struct Slot<T> {
     value: T,
-    /// How many subscribers receive it next.
+    /// The number of subscribers that receive it next.
     readers: usize,
 }
 
@@ -49,13 +49,13 @@ pub struct SharedFlow<T> {
     config: Config,
     /// The most values that a subscriber may still have to receive.
     window: usize,
-    /// The values that some caller may still ask for, the oldest first.
+    /// The values that a new or an old subscriber may still receive, the oldest first.
     slots: VecDeque<Slot<T>>,
-    /// How many values were emitted.
+    /// The number of values that were emitted.
     emitted: u64,
-    /// How many subscribers have received all of them.
+    /// The number of subscribers that have received all of them.
     caught_up: usize,
-    /// A subscriber whose position is less is at this one.
+    /// A position below this one is read as this one.
     floor: u64,
     /// The number of the last emitted value.
     newest: u64,
@@ -83,7 +83,7 @@ impl<T: Clone> SharedFlow<T> {
         })
     }
 
-    /// Emits a value unless the emitter would have to wait. Returns whether the flow took or dropped it.
+    /// Emits a value unless the emitter would have to wait. Returns whether the flow took or dropped the value.
     pub fn try_emit(&mut self, value: T) -> Result<bool, Exhausted<T>> {
         if self.is_open() {
             let number = match self.issue() {
@@ -190,7 +190,7 @@ impl<T: Clone> SharedFlow<T> {
         Next::Value(value)
     }
 
-    /// Takes at most so many values that the subscriber can receive now. Returns whether it took that many.
+    /// Takes at most `most` values that the subscriber can receive now. Returns whether it took that many.
     pub fn drain(&mut self, id: Id, most: usize, values: &mut Vec<T>) -> bool {
         for _ in 0..most {
             match self.next(id) {
@@ -201,7 +201,7 @@ impl<T: Clone> SharedFlow<T> {
         true
     }
 
-    /// Returns whether the subscriber was there.
+    /// Removes the subscriber. Returns whether it was subscribed.
     pub fn unsubscribe(&mut self, id: Id) -> bool {
         match self.subscribers.remove(id) {
             Some(subscriber) => {

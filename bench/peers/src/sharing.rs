@@ -9,8 +9,8 @@ use crate::shared::{Emit, SharedFlow};
 pub enum Started {
     Eagerly,
     Lazily,
-    /// The chain stops `stop` milliseconds after the last subscriber has gone, and the flow forgets what it replays
-    /// `expire` milliseconds later. `NEVER` for either is a moment that never comes.
+    /// The chain stops `stop` milliseconds after the last subscriber has gone, and the replay cache expires `expire`
+    /// milliseconds later. With `NEVER` neither happens.
     WhileSubscribed {
         stop: u64,
         expire: u64,
@@ -40,13 +40,13 @@ pub enum Event {
 
 #[derive(Clone, Copy, Debug, PartialEq, Eq)]
 pub enum TurnError {
-    /// The moment is before this one, that of the last turn.
+    /// The moment is before this one, which is that of the last turn.
     Backwards(u64),
     /// No number is left for the item. The next turn tries it again.
     Exhausted,
 }
 
-/// What a policy has to know of the turns so far.
+/// What a policy remembers of the turns so far.
 struct Observed {
     moment: u64,
     is_subscribed: bool,
@@ -130,7 +130,7 @@ impl<T: Clone, C: Iterator<Item = T> + Clone> Sharing<T, C> {
         })
     }
 
-    /// Counts the subscribers, starts or stops the chain, and passes on one item at most.
+    /// Counts the subscribers, starts or stops the chain, and emits at most one item.
     pub fn turn(&mut self, now: u64) -> Result<(Command, Event), TurnError> {
         if now < self.observed.moment {
             return Err(TurnError::Backwards(self.observed.moment));

@@ -1,6 +1,6 @@
-//! Places for subscribers, which are reused, and found at once by their ids.
+//! Places for subscribers, which are reused, and found by ids in constant time.
 
-/// Names one item of a slab. No two items of one slab ever have the same number.
+/// The id of one item of a slab. No two items of one slab ever have the same number.
 #[derive(Clone, Copy, Debug)]
 pub struct Id {
     key: usize,

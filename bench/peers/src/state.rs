@@ -57,7 +57,7 @@ impl<T: Clone + PartialEq> StateFlow<T> {
         }
     }
 
-    /// Returns whether the subscriber was there.
+    /// Removes the subscriber. Returns whether it was subscribed.
     pub fn unsubscribe(&mut self, id: Id) -> bool {
         self.subscribers.remove(id).is_some()
     }

@@ -17,11 +17,11 @@ pub trait Number {
 
     fn compare_and_set(&mut self, expect: i64, update: i64) -> bool;
 
-    /// What the subscriber receives, if the value is not the one that it received last.
+    /// Returns what the subscriber receives, if the value is not the one that it received last.
     fn next(&mut self) -> Option<i64>;
 }
 
-/// The `ref` state flow alone.
+/// The `ref` state flow without a lock.
 pub struct Alone {
     state: State,
     id: Id,
@@ -100,8 +100,8 @@ impl<L: Lock<State>> Number for Locked<L> {
     }
 }
 
-/// Times calls of one thread. An operation is a call; of `state_next` a `set` and a `next`. `None` if there is no such
-/// workload.
+/// Times calls of one thread. An operation is a call; in `state_next` it is a `set` and a `next`. Returns `None` if
+/// there is no such workload.
 pub fn time_number(workload: &str, mut number: impl Number, sizes: Sizes) -> Option<Taken> {
     let count = sizes.count as i64;
     let taken = match workload {
@@ -130,7 +130,7 @@ pub fn time_number(workload: &str, mut number: impl Number, sizes: Sizes) -> Opt
     Some(taken)
 }
 
-/// Each thread adds 1 so often. An operation is an addition.
+/// Times threads that each add 1 `count` times. An operation is an addition.
 pub fn time_updates<L: Lock<State>>(_lock: PhantomData<L>, sizes: Sizes) -> Taken {
     let state = L::new(State::new(0, u64::MAX));
     let count_up = || {

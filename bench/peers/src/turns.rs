@@ -3,8 +3,8 @@ use crate::arguments::{Sizes, Taken};
 use crate::shared::Next;
 use crate::sharing::{Sharing, Started};
 
-/// A chain of numbers is shared with subscribers, each of which receives after every turn. An operation is a turn, with
-/// what the subscribers receive of it.
+/// Times a chain of numbers that is shared with subscribers, each of which receives after every turn. An operation is a
+/// turn and what the subscribers receive after it.
 pub fn time_turns(sizes: Sizes) -> Taken {
     let count = sizes.count as i64;
     let mut sharing =

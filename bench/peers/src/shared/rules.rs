@@ -1,4 +1,4 @@
-//! When a shared flow is blocked, which values it keeps, and what follows when room is made.
+//! The rules of a shared flow: when it is blocked, which values it keeps, and what happens when room is made.
 use super::{Exhausted, SharedFlow, Slot};
 
 impl<T: Clone> SharedFlow<T> {
@@ -10,7 +10,7 @@ impl<T: Clone> SharedFlow<T> {
         Some(self.issued)
     }
 
-    /// The position of the first value that is kept.
+    /// Returns the position of the first value that is kept.
     pub(super) fn start(&self) -> u64 {
         self.emitted - self.slots.len() as u64
     }
@@ -20,17 +20,17 @@ impl<T: Clone> SharedFlow<T> {
         kept.max(self.reset_mark)
     }
 
-    /// Some subscriber has a whole window to receive.
+    /// Returns whether some subscriber lags by a whole window.
     pub(super) fn is_blocked(&self) -> bool {
         self.slots.len() == self.window && self.slots[0].readers > 0
     }
 
-    /// A value is accepted at once.
+    /// Returns whether a value is accepted without a wait.
     pub(super) fn is_open(&self) -> bool {
         self.subscribers.is_empty() || (self.config.capacity() > 0 && !self.is_blocked())
     }
 
-    /// Without a buffer, the last value is offered until every subscriber has received it.
+    /// Returns whether the last value is offered: without a buffer, until every subscriber has received it.
     pub(super) fn is_offering(&self) -> bool {
         self.config.capacity() == 0 && self.is_blocked()
     }
@@ -65,7 +65,7 @@ impl<T: Clone> SharedFlow<T> {
         self.trim();
     }
 
-    /// Emits a value, and moves every subscriber that is a full buffer behind to the value after.
+    /// Emits a value, and moves every subscriber that is a full buffer behind to the next value.
     pub(super) fn append_dropping(&mut self, value: T) -> Result<(), Exhausted<T>> {
         let number = match self.issue() {
             Some(number) => number,
@@ -85,14 +85,14 @@ impl<T: Clone> SharedFlow<T> {
         self.floor = self.emitted;
     }
 
-    /// Every subscriber has received the oldest value that is kept.
+    /// Returns whether every subscriber has received the oldest value that is kept.
     fn is_oldest_read(&self) -> bool {
         self.slots
             .front()
             .map_or(false, |oldest| oldest.readers == 0)
     }
 
-    /// Drops the values that no caller may ask for any more.
+    /// Drops the values that no subscriber may receive any more.
     #[inline]
     pub(super) fn trim(&mut self) {
         while self.is_oldest_read() && self.start() < self.cache_start() {
