@@ -3,13 +3,6 @@ use Rattle.std.proofs.lemmas.Grind.{common_steps}
 use Rattle.flow_operators.proofs.TerminalLemmas.{reaches-next}
 use Rattle.flow_operators.proofs.stepping.find.Goals as goal
 
-pub returns-then-passes-wanted-clause-finds : goal.returns-then-passes-wanted-clause-finds
-returns-then-passes-wanted-clause-finds g c = λ m p r d.
-    let passes = c.passes.ensures p d in
-    let finds = c.loop-item.invariant.finds m p r d in
-    let gives = rw c.in-Some.is at (c.in_ok-item.ensures.gives m (c.loop-item.invariant.reads m r)) in
-    grind (arith, common_steps)
-
 pub loop-item-preserved : goal.loop-item-preserved
 loop-item-preserved g c = record {
   callable = c.next_item.ensures.callable;
@@ -22,3 +15,24 @@ loop-item-preserved g c = record {
       grind (arith, common_steps);
   stands = λ m r. reaches-next c.in-Some.item (g.C.Cold.rest c.args.chain.now m) (g.C.Cold.rest c.loop-item.chain m) (g.C.Cold.rest c.next_item.new.chain m) (c.loop-item.invariant.stands m r) (rw c.in-Some.is at (c.in_ok-item.ensures.gives m (c.loop-item.invariant.reads m r)));
 }
+
+pub returns-in_err-item : goal.returns-in_err-item
+returns-in_err-item g c = grind (arith, common_steps)
+
+pub returns-then-passes-wanted : goal.returns-then-passes-wanted
+returns-then-passes-wanted g c = record {
+  callable = grind (arith, common_steps);
+  reads = grind (arith, common_steps);
+  whole = grind (arith, common_steps);
+  finds = λ m p r d.
+      let passes = c.passes.ensures p d in
+      let finds = c.loop-item.invariant.finds m p r d in
+      let gives = rw c.in-Some.is at (c.in_ok-item.ensures.gives m (c.loop-item.invariant.reads m r)) in
+      grind (arith, common_steps);
+  over = grind (arith, common_steps);
+  stands = grind (arith, common_steps);
+  answered = grind (arith, common_steps);
+}
+
+pub returns-in-None : goal.returns-in-None
+returns-in-None g c = grind (arith, common_steps)

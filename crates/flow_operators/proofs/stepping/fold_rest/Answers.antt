@@ -15,3 +15,12 @@ loop-item-preserved g c = record {
       grind (arith, common_steps);
   stands = λ m r. reaches-next c.in-Some.item (g.C.Cold.rest c.args.chain.now m) (g.C.Cold.rest c.loop-item.chain m) (g.C.Cold.rest c.next_item.new.chain m) (c.loop-item.invariant.stands m r) (rw c.in-Some.is at (c.in_ok-item.ensures.gives m (c.loop-item.invariant.reads m r)));
 }
+
+pub returns-in_err-item : goal.returns-in_err-item
+returns-in_err-item g c = grind (arith, common_steps)
+
+pub returns-in_err-last-in-Some : goal.returns-in_err-last-in-Some
+returns-in_err-last-in-Some g c = grind (arith, common_steps)
+
+pub returns-in-None : goal.returns-in-None
+returns-in-None g c = grind (arith, common_steps)

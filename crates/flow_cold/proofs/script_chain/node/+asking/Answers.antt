@@ -29,3 +29,18 @@ pub ask_pair-returns-in_default-clause-behind_right : goal.ask_pair-returns-in_d
 ask_pair-returns-in_default-clause-behind_right t c =
     λ runs. rw c.in-None.is (c.without_item.ensures.behind (node_rest c.args.left.now) (node_rest c.ask_node.new.node)
     (node_rest c.args.right.now) c.ask_node.ensures.gives).1
+
+pub ask_pair-returns-then-pairing : goal.ask_pair-returns-then-pairing
+ask_pair-returns-then-pairing t c = grind (arith, common_steps)
+
+pub ask_pair-returns-in-Some : goal.ask_pair-returns-in-Some
+ask_pair-returns-in-Some t c = grind (arith, common_steps)
+
+pub ask_right-returns : goal.ask_right-returns
+ask_right-returns t c = grind (arith, common_steps)
+
+pub ask_stage-returns-in-Some : goal.ask_stage-returns-in-Some
+ask_stage-returns-in-Some t c = grind (arith, common_steps)
+
+pub ask_stage-returns-in-Some-on_answer : goal.ask_stage-returns-in-Some-on_answer
+ask_stage-returns-in-Some-on_answer t c = grind (arith, common_steps)

@@ -3,29 +3,44 @@ use Rattle.std.proofs.lemmas.Grind.{common_steps}
 use Rattle.flow_operators.proofs.BoundLemmas.{opened-fewer}
 use Rattle.flow_operators.proofs.operators.flat_map_concat.FlatMapConcatCold.ask.Goals as goal
 
-pub returns-in-Item-clause-reads : goal.returns-in-Item-clause-reads
-returns-in-Item-clause-reads g c = λ m r. ((c.loop-item.invariant.reads m.0.0 r.0.0, c.in-Item.ensures.reads m.0.1 (c.loop-item.invariant.inner_reads m.0.1 m.1 r.0.1 r.1)), c.loop-item.invariant.computes m.0.1 m.1 r.1)
+pub returns-in-Item : goal.returns-in-Item
+returns-in-Item g c = record {
+  callable = grind (arith, common_steps);
+  reads = λ m r. ((c.loop-item.invariant.reads m.0.0 r.0.0, c.in-Item.ensures.reads m.0.1 (c.loop-item.invariant.inner_reads m.0.1 m.1 r.0.1 r.1)), c.loop-item.invariant.computes m.0.1 m.1 r.1);
+  whole = grind (arith, common_steps);
+  gives = λ m r. grind (arith, common_steps, c.loop-item.invariant.rest m.0.0 m.0.1 m.1 r.0.0 r.0.1 r.1, c.in-Item.ensures.gives m.0.1 (c.loop-item.invariant.inner_reads m.0.1 m.1 r.0.1 r.1));
+  fewer = grind (arith, common_steps);
+  over = grind (arith, common_steps);
+  answered = grind (arith, common_steps);
+  behind = λ running m r. grind (arith, common_steps, c.loop-item.invariant.behind m.0.0 m.0.1 m.1 r.0.0 r.0.1 r.1, c.in-Item.ensures.gives m.0.1 (c.loop-item.invariant.inner_reads m.0.1 m.1 r.0.1 r.1));
+  end = grind (arith, common_steps);
+}
 
-pub returns-in-Item-clause-gives : goal.returns-in-Item-clause-gives
-returns-in-Item-clause-gives g c = λ m r. grind (arith, common_steps, c.loop-item.invariant.rest m.0.0 m.0.1 m.1 r.0.0 r.0.1 r.1, c.in-Item.ensures.gives m.0.1 (c.loop-item.invariant.inner_reads m.0.1 m.1 r.0.1 r.1))
+pub returns-in-Pending : goal.returns-in-Pending
+returns-in-Pending g c = record {
+  callable = grind (arith, common_steps);
+  reads = λ m r. ((c.loop-item.invariant.reads m.0.0 r.0.0, c.in-Pending.ensures.reads m.0.1 (c.loop-item.invariant.inner_reads m.0.1 m.1 r.0.1 r.1)), c.loop-item.invariant.computes m.0.1 m.1 r.1);
+  whole = grind (arith, common_steps);
+  gives = λ m r. grind (arith, common_steps, c.loop-item.invariant.rest m.0.0 m.0.1 m.1 r.0.0 r.0.1 r.1, c.in-Pending.ensures.gives m.0.1 (c.loop-item.invariant.inner_reads m.0.1 m.1 r.0.1 r.1));
+  fewer = grind (arith, common_steps);
+  over = grind (arith, common_steps);
+  answered = grind (arith, common_steps);
+  behind = λ running m r. grind (arith, common_steps, c.loop-item.invariant.behind m.0.0 m.0.1 m.1 r.0.0 r.0.1 r.1, c.in-Pending.ensures.gives m.0.1 (c.loop-item.invariant.inner_reads m.0.1 m.1 r.0.1 r.1));
+  end = grind (arith, common_steps);
+}
 
-pub returns-in-Item-clause-behind : goal.returns-in-Item-clause-behind
-returns-in-Item-clause-behind g c = λ running m r. grind (arith, common_steps, c.loop-item.invariant.behind m.0.0 m.0.1 m.1 r.0.0 r.0.1 r.1, c.in-Item.ensures.gives m.0.1 (c.loop-item.invariant.inner_reads m.0.1 m.1 r.0.1 r.1))
-
-pub returns-in-Pending-clause-reads : goal.returns-in-Pending-clause-reads
-returns-in-Pending-clause-reads g c = λ m r. ((c.loop-item.invariant.reads m.0.0 r.0.0, c.in-Pending.ensures.reads m.0.1 (c.loop-item.invariant.inner_reads m.0.1 m.1 r.0.1 r.1)), c.loop-item.invariant.computes m.0.1 m.1 r.1)
-
-pub returns-in-Pending-clause-gives : goal.returns-in-Pending-clause-gives
-returns-in-Pending-clause-gives g c = λ m r. grind (arith, common_steps, c.loop-item.invariant.rest m.0.0 m.0.1 m.1 r.0.0 r.0.1 r.1, c.in-Pending.ensures.gives m.0.1 (c.loop-item.invariant.inner_reads m.0.1 m.1 r.0.1 r.1))
-
-pub returns-in-Pending-clause-behind : goal.returns-in-Pending-clause-behind
-returns-in-Pending-clause-behind g c = λ running m r. grind (arith, common_steps, c.loop-item.invariant.behind m.0.0 m.0.1 m.1 r.0.0 r.0.1 r.1, c.in-Pending.ensures.gives m.0.1 (c.loop-item.invariant.inner_reads m.0.1 m.1 r.0.1 r.1))
-
-pub returns-in-Fault-clause-gives : goal.returns-in-Fault-clause-gives
-returns-in-Fault-clause-gives g c = λ m r. grind (arith, common_steps, c.loop-item.invariant.rest m.0.0 m.0.1 m.1 r.0.0 r.0.1 r.1, c.in-Fault.ensures.gives m.0.1 (c.loop-item.invariant.inner_reads m.0.1 m.1 r.0.1 r.1))
-
-pub returns-in-Fault-clause-behind : goal.returns-in-Fault-clause-behind
-returns-in-Fault-clause-behind g c = λ running m r. grind (arith, common_steps, c.loop-item.invariant.behind m.0.0 m.0.1 m.1 r.0.0 r.0.1 r.1, c.in-Fault.ensures.gives m.0.1 (c.loop-item.invariant.inner_reads m.0.1 m.1 r.0.1 r.1))
+pub returns-in-Fault : goal.returns-in-Fault
+returns-in-Fault g c = record {
+  callable = grind (arith, common_steps);
+  reads = grind (arith, common_steps);
+  whole = grind (arith, common_steps);
+  gives = λ m r. grind (arith, common_steps, c.loop-item.invariant.rest m.0.0 m.0.1 m.1 r.0.0 r.0.1 r.1, c.in-Fault.ensures.gives m.0.1 (c.loop-item.invariant.inner_reads m.0.1 m.1 r.0.1 r.1));
+  fewer = grind (arith, common_steps);
+  over = grind (arith, common_steps);
+  answered = grind (arith, common_steps);
+  behind = λ running m r. grind (arith, common_steps, c.loop-item.invariant.behind m.0.0 m.0.1 m.1 r.0.0 r.0.1 r.1, c.in-Fault.ensures.gives m.0.1 (c.loop-item.invariant.inner_reads m.0.1 m.1 r.0.1 r.1));
+  end = grind (arith, common_steps);
+}
 
 pub loop-item-preserved : goal.loop-item-preserved
 loop-item-preserved g c = record {
@@ -55,23 +70,34 @@ loop-item-preserved g c = record {
       grind (arith, common_steps, left, asked, gives, opened.1);
 }
 
-pub returns-in-Err-open-clause-gives : goal.returns-in-Err-open-clause-gives
-returns-in-Err-open-clause-gives g c = λ m r. grind (arith, common_steps, c.loop-item.invariant.rest m.0.0 m.0.1 m.1 r.0.0 r.0.1 r.1, c.in-End.ensures.gives m.0.1 (c.loop-item.invariant.inner_reads m.0.1 m.1 r.0.1 r.1), c.in-Ok.ensures.behind (λ e. grind (arith, common_steps)) m.0.0 (c.loop-item.invariant.reads m.0.0 r.0.0), c.in-Err-open.ensures.opens m.0.1 m.1 (c.loop-item.invariant.computes m.0.1 m.1 r.1))
+pub returns-in-Err-open : goal.returns-in-Err-open
+returns-in-Err-open g c = record {
+  callable = grind (arith, common_steps);
+  reads = grind (arith, common_steps);
+  whole = grind (arith, common_steps);
+  gives = λ m r. grind (arith, common_steps, c.loop-item.invariant.rest m.0.0 m.0.1 m.1 r.0.0 r.0.1 r.1, c.in-End.ensures.gives m.0.1 (c.loop-item.invariant.inner_reads m.0.1 m.1 r.0.1 r.1), c.in-Ok.ensures.behind (λ e. grind (arith, common_steps)) m.0.0 (c.loop-item.invariant.reads m.0.0 r.0.0), c.in-Err-open.ensures.opens m.0.1 m.1 (c.loop-item.invariant.computes m.0.1 m.1 r.1));
+  fewer = grind (arith, common_steps);
+  over = grind (arith, common_steps);
+  answered = grind (arith, common_steps);
+  behind = λ running m r. grind (arith, common_steps, c.loop-item.invariant.behind m.0.0 m.0.1 m.1 r.0.0 r.0.1 r.1, c.in-End.ensures.gives m.0.1 (c.loop-item.invariant.inner_reads m.0.1 m.1 r.0.1 r.1), c.in-Ok.ensures.behind (λ e. grind (arith, common_steps)) m.0.0 (c.loop-item.invariant.reads m.0.0 r.0.0), c.in-Err-open.ensures.opens m.0.1 m.1 (c.loop-item.invariant.computes m.0.1 m.1 r.1));
+  end = grind (arith, common_steps);
+}
 
-pub returns-in-Err-open-clause-behind : goal.returns-in-Err-open-clause-behind
-returns-in-Err-open-clause-behind g c = λ running m r. grind (arith, common_steps, c.loop-item.invariant.behind m.0.0 m.0.1 m.1 r.0.0 r.0.1 r.1, c.in-End.ensures.gives m.0.1 (c.loop-item.invariant.inner_reads m.0.1 m.1 r.0.1 r.1), c.in-Ok.ensures.behind (λ e. grind (arith, common_steps)) m.0.0 (c.loop-item.invariant.reads m.0.0 r.0.0), c.in-Err-open.ensures.opens m.0.1 m.1 (c.loop-item.invariant.computes m.0.1 m.1 r.1))
-
-pub returns-in-Err-clause-gives : goal.returns-in-Err-clause-gives
-returns-in-Err-clause-gives g c = λ m r. grind (arith, common_steps, c.loop-item.invariant.rest m.0.0 m.0.1 m.1 r.0.0 r.0.1 r.1, c.in-End.ensures.gives m.0.1 (c.loop-item.invariant.inner_reads m.0.1 m.1 r.0.1 r.1), c.in-Err.ensures.behind (λ e. grind (arith, common_steps)) m.0.0 (c.loop-item.invariant.reads m.0.0 r.0.0))
-
-pub returns-in-Err-clause-behind : goal.returns-in-Err-clause-behind
-returns-in-Err-clause-behind g c = λ running m r. grind (arith, common_steps, c.loop-item.invariant.behind m.0.0 m.0.1 m.1 r.0.0 r.0.1 r.1, c.in-End.ensures.gives m.0.1 (c.loop-item.invariant.inner_reads m.0.1 m.1 r.0.1 r.1), c.in-Err.ensures.behind (λ e. grind (arith, common_steps)) m.0.0 (c.loop-item.invariant.reads m.0.0 r.0.0))
-
-pub returns-in-Err-clause-fewer : goal.returns-in-Err-clause-fewer
-returns-in-Err-clause-fewer g c = elim c.in-Err.ensures.pends [
-  | inl final ↦ inl final
-  | inr fewer ↦ inr (let most = opened-fewer _ _ g.D.Cold.limit 0 fewer (omega arith) in grind (arith, common_steps))
-]
+pub returns-in-Err : goal.returns-in-Err
+returns-in-Err g c = record {
+  callable = grind (arith, common_steps);
+  reads = grind (arith, common_steps);
+  whole = grind (arith, common_steps);
+  gives = λ m r. grind (arith, common_steps, c.loop-item.invariant.rest m.0.0 m.0.1 m.1 r.0.0 r.0.1 r.1, c.in-End.ensures.gives m.0.1 (c.loop-item.invariant.inner_reads m.0.1 m.1 r.0.1 r.1), c.in-Err.ensures.behind (λ e. grind (arith, common_steps)) m.0.0 (c.loop-item.invariant.reads m.0.0 r.0.0));
+  fewer = elim c.in-Err.ensures.pends [
+    | inl final ↦ inl final
+    | inr fewer ↦ inr (let most = opened-fewer _ _ g.D.Cold.limit 0 fewer (omega arith) in grind (arith, common_steps))
+  ];
+  over = grind (arith, common_steps);
+  answered = grind (arith, common_steps);
+  behind = λ running m r. grind (arith, common_steps, c.loop-item.invariant.behind m.0.0 m.0.1 m.1 r.0.0 r.0.1 r.1, c.in-End.ensures.gives m.0.1 (c.loop-item.invariant.inner_reads m.0.1 m.1 r.0.1 r.1), c.in-Err.ensures.behind (λ e. grind (arith, common_steps)) m.0.0 (c.loop-item.invariant.reads m.0.0 r.0.0));
+  end = grind (arith, common_steps);
+}
 
 pub returns-then-self : goal.returns-then-self
 returns-then-self g c = grind (arith, common_steps)
