@@ -98,18 +98,19 @@ fn after_items(line: &str) -> &str {
     }
 }
 
-/// Adds a mark to a lane that has not ended: two dots in the last column, and this content in any other.
+/// Adds a mark to a lane that has not ended. After the last column of items, a lane that goes on gets two dots.
 fn add_content<'a>(picture: &mut Picture<'a>, lane: usize, content: Content<'a>) {
     if !picture.is_open(lane) {
         return;
     }
     let column = picture.columns;
-    let (sign, words) = if column == MOST_ITEMS {
+    let ends = matches!(content.0, Sign::Ends | Sign::Refused);
+    let (sign, words) = if column == MOST_ITEMS && !ends {
         (Sign::Told, Words::Text(".."))
     } else {
         content
     };
-    if matches!(sign, Sign::Ends | Sign::Refused) {
+    if ends {
         picture.end_lane(lane, column);
     }
     picture.add_mark(lane, sign, words, Note::None);
@@ -127,8 +128,8 @@ fn add_columns<'a>(picture: &mut Picture<'a>, source: Source<'a>, given: Given<'
     }
 }
 
-/// Returns the picture of a collection, by the chain, its answer and its line. Each lane has at most 24 marks, and two
-/// dots after them if it has not ended by then.
+/// Returns the picture of a collection, by the chain, its answer and its line. Each lane has at most 24 marks before its
+/// end, or before two dots for the other items.
 ///
 /// # Errors
 /// `AllocError`: out of memory.
