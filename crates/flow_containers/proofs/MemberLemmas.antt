@@ -31,7 +31,7 @@ module _ {R : Type 0} where
         | false ↦ (rises.0, rises_without member.number top number members rises.1)
       ]
 
-  -- no member has a number that is at most a lower bound of all numbers
+  -- no member has a number that is at most the floor, which is below all numbers
   pub row_below : (floor top number : ℕ) (members : List (Member R)) → RisesTo floor (numbers members) top → number ≤ floor → row_of number members ≡ None
   row_below floor top number [] rises below = refl
   row_below floor top number (member ∷ members) rises below =

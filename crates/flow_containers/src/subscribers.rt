@@ -17,7 +17,8 @@ use std::marker::Model;
 
 /// Subscribers, in the order of their numbers.
 ///
-/// A position below the floor is read as the floor. So raising the floor moves all slow subscribers at once.
+/// A position below the floor is read as the floor. So raising the floor moves all slow subscribers without visiting
+/// them.
 #[derive(Drop)]
 pub struct Subscribers<T: Drop, A: Allocator> {
     members: Members<Row<T, A>, A>,

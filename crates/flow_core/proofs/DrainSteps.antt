@@ -10,7 +10,7 @@ use Rattle.flow_law.specs.declared.outcome.Drained.TheVariants as drained
 use Rattle.flow_law.specs.Draining.{DrainsBy, EndsBy}
 use Rattle.flow_law.proofs.DrainingLemmas.{HasTaken, takes_before}
 
--- n values were taken, and the list then got room without changing its items
+-- n values were taken, and asking for room then did not change the list's items
 module _ {X T : Type 0} (R : X → Result (Next T) FlowFault → X → Type 0) (n most : ℕ) (old now : X) (old_list list same : List T) (taken : HasTaken R n old old_list list now) (less : n < most) (is : same ≡ list) where
   so_far : HasTaken R n old old_list same now
   so_far = subst (λ l. HasTaken R n old old_list l now) {x = list} {y = same} (sym is) taken

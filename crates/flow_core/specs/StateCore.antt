@@ -36,7 +36,7 @@ module _ {T : Type 0} where
   abbrev pub cache_reply : {A : Type 0} → Result (Vec T A) FlowFault → StateReply T
   cache_reply = replied state_flow (λ values. reply.Cached values.items)
 
-  -- what `reset_replay_cache` returned, as a reply: no state flow gives the reply that stands for `Ok`
+  -- what `reset_replay_cache` returned, as a reply: `Ok` stands for a reply that no state flow gives to a reset
   abbrev pub reset_reply : Result (Unit {0}) FlowFault → StateReply T
   reset_reply = replied state_flow (λ none. reply.Done)
 

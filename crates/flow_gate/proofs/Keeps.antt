@@ -52,7 +52,7 @@ module _ {S E : Type 0} (stands : S → List (HistoryEvent E) → Type 0) where
       (λ (h : (i ≢ id) × KnownAt views i a t). all i a t h.1)
       (known_set views id i a (seat_view (map f v.known) b) t x)
 
-  -- what holds of each view that holds the state holds after a view that does not hold it was changed
+  -- what holds of each view that holds the state still holds after a view was replaced by one that does not hold it
   quiet : (views : List (SeatView E)) (id : ℕ) (w : SeatView E) → w.holds ≡ false → (P : ℕ → SeatView E → Type 0) → ((i : ℕ) (v : SeatView E) → get_elem? views i ≡ some v → v.holds ≡ true → P i v)
       → (i : ℕ) (v : SeatView E) → get_elem? (set views id w) i ≡ some v → v.holds ≡ true → P i v
   quiet views id w off P old i v at on = ⊎_elim (λ (h : (i ≡ id) × (w ≡ v)). absurd (true≢false (sym on ∙ (ap (λ (z : SeatView E). z.holds) (sym h.1) ∙ off))))

@@ -10,7 +10,7 @@ use std::marker::Brand;
 use std::sync::Wait;
 use std::thread::{Threads, join};
 
-/// What the reader of a message has at the end: its token, the value of the message, and the value that it then read.
+/// What the reader of a message has at the end: its handle, the value of the message, and the value that it then read.
 #[derive(Drop)]
 pub struct Heard<'a> {
     pub reader: WordSetter<'a, u64>,
@@ -74,7 +74,7 @@ fn pass_between<'a, F: OneFlow + Send, R: Threads + Wait + Sync>(
     heard
 }
 
-/// Runs two threads: one sets the value and sends a message about it, the other waits for the message and then reads.
+/// Joins two closures: one sets the value and sends a message about it, the other waits for the message and then reads.
 ///
 /// Returns `None` if there is no memory for the channel or the message. The reader finds the value that was set, or one
 /// that another caller set after it.

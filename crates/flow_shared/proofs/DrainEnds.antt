@@ -27,7 +27,7 @@ module _ {T S C R : Type 0} (kind : Kind T S C R) (law : Lawful kind) (flow : Or
   drain_fault most s u old new (Ok end) d = tt
   drain_fault most s u old new (Err fault) d = ended_fault d.last u fault d.ended
 
--- a drain through a reader is refused if the flow's own drain is
+-- a drain through a reader is refused only if the flow's own drain is
 pub ends_alike : (P : Type 0) (r : Result DrainEnd OutOfMemory) → OnErr (drained_by (answer_by memory_fault r)) P → OnErr r P
 ends_alike P (Ok drain_end.Most) h = tt
 ends_alike P (Ok drain_end.Empty) h = tt

@@ -31,7 +31,7 @@ module _ {T S C R : Type 0} (kind : Kind T S C R) (flow : Origin S) where
   abbrev pub Meets : Token (Said C R) → Token (Said C R) → Token (Said C R) → Token (Said C R) → Type 0
   Meets = MeetsIn kind flow.first
 
-  -- a `subscribe` with the subscription's name, after which the subscription's token is made through the caller's
+  -- a `subscribe` with the subscription's name; if it was not refused, the subscription's token is then made through the caller's
   abbrev pub Subscribes : (List ℕ → C) → Token (Said C R) → Result (NumberedToken (Said C R)) FlowFault → Token (Said C R) → Type 0
   Subscribes = SubscribesIn kind flow.first
 

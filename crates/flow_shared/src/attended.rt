@@ -25,7 +25,7 @@ pub struct Attended<S: FlowCore, A: Allocator + Copy = Global> {
     to_wake: ToWake<A>,
 }
 
-/// The sleepers that a call has removed. They are woken after the call has left the gate.
+/// The sleepers that calls have removed and not woken yet. They are woken after the call has left the gate.
 #[derive(Drop)]
 pub(crate) struct ToWake<A: Allocator = Global> {
     readers: Woken<A>,

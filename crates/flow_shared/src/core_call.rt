@@ -60,7 +60,7 @@ impl<'a, S: FlowCore, C: CoreCall<S>> NamesEvents<Said<S::Call, S::Reply>> for C
     ghost events = { λ e knows. said (C.call e.call.value (subscription_name knows)) (C.reply e.answer.now) ∷ [] };
 }
 
-/// Leaves the gate, and then wakes the sleepers that calls have removed.
+/// Leaves the gate, and then wakes the sleepers that calls have removed and not woken yet.
 #[inline]
 pub(crate) fn leave_and_wake<S: FlowCore, A: Allocator + Copy, X>(
     held: Held<'_, Attended<S, A>, A>,

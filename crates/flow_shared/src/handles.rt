@@ -2,8 +2,9 @@
 //!
 //! # Names
 //! A plain name is the flow's own call: it takes `rt`, and waits while another caller is inside the flow. A name that
-//! begins with `try_` is the same call without `rt`: it returns at once, and may fail with `Busy`. The exception is
-//! `try_emit`, named as in kotlinx.coroutines: it takes `rt`, and does not wait for room. `emit_now` waits for nothing.
+//! begins with `try_` is the same call without `rt`: it returns at once, and fails with `Busy`, or gives the handle
+//! back, if another caller is inside. The exception is `try_emit`, named as in kotlinx.coroutines: it takes `rt`, and
+//! does not wait for room. `emit_now` waits for nothing.
 //!
 //! `receive`, `changed` and `send` wait for a value and for room: the thread sleeps until another call wakes it.
 mod awaiting;

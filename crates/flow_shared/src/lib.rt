@@ -11,17 +11,18 @@
 //! or `flow.setter(seat)`.
 //!
 //! # What each call promises
-//! A call that is one event has a clause with the word `Calls` (of a state flow `StateCalls`): the token has then seen
-//! a history of the flow, which is all that it had seen, followed by events of other callers and by this call with this
-//! reply. The history is legal (each reply is one that the documented flow may give at that point) and owned (no caller
-//! uses another one's subscription or emission).
+//! A call that is one event has a clause with the word `Calls` (of a state flow `StateCalls`), or with one that is
+//! defined by it, such as `Subscribes`, `Nexts` or `Emits`: the token has then seen a history of the flow, which is all
+//! that it had seen, followed by events of other callers and by this call with this reply. The history is legal (each
+//! reply is one that the documented flow may give at that point) and owned (no caller uses another one's subscription
+//! or emission).
 //!
 //! # Waiting
 //! A call that takes `rt` waits while another caller is inside the flow. A call whose name ends in `_now`, or of a
-//! handle begins with `try_` (except `try_emit`), does not wait: it returns `Busy` if another caller is inside, and
-//! changes nothing. Neither waits for room or for a value: `emit` returns `Queued`, and `next` returns `Empty`. `send`,
-//! `receive`, `changed` and `wait_for` of handles wait for these: the thread sleeps meanwhile. A `Watcher` sleeps until
-//! the number of subscribers changes.
+//! handle begins with `try_` (except `try_emit`), does not wait: if another caller is inside, it returns `Busy`, or
+//! gives back the subscription or the emission, and does not change the flow. Neither waits for room or for a value:
+//! `emit` returns `Queued`, and `next` returns `Empty`. `send`, `receive`, `changed` and `wait_for` of handles wait for
+//! these: the thread sleeps meanwhile. A `Watcher` sleeps until the number of subscribers changes.
 //!
 //! # Dropping
 //! A dropped seat is lost. A dropped subscription stays, and may block emitters for good. A dropped emission stays

@@ -126,7 +126,7 @@ impl<A: Allocator + Copy> Watcher<A> {
     }
 
     /// Ends a watch, and sleeps until a waker that was left is dropped, or for `most`, if that is given. It may return
-    /// early. If no waker was left, it yields instead.
+    /// early. If no waker was left, or a watched call has to be made again, it yields instead.
     pub fn sleep<R: Wait>(&mut self, rt: &R, most: Option<Duration>) {
         self.unwatch();
         self.thread.sleep(rt, most);

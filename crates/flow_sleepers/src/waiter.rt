@@ -102,7 +102,7 @@ impl<A: Allocator> Drop for ThreadWaker<A> {
 /// What a thread does at its next wait.
 #[derive(Drop)]
 enum Rest {
-    /// It yields: since its last wait it has neither left a waker nor asked again.
+    /// It yields: since its last wait or `begin` it has neither left a waker nor asked again.
     None,
     /// It sleeps until the waker that it left is dropped.
     Asleep,
@@ -147,8 +147,8 @@ impl<A: Allocator + Copy> ThreadWaiter<A> {
         Ok(waker)
     }
 
-    /// Forgets how an earlier wait ended: only wakers that are left from now on end the next sleep. The thread leaves
-    /// one at the first call that finds nothing.
+    /// Forgets how an earlier wait ended: a waker that was dropped before does not end the next sleep. The thread
+    /// leaves one at the first call that finds nothing.
     pub fn begin<R: Wait>(&mut self, rt: &R) {
         self.rest = Rest::None;
         self.looks = LOOKS;

@@ -27,12 +27,12 @@ runs policy = policy.running
 
 -- ---- one observation more, whatever was observed before
 
--- `since` is the idle moment after the observation o
+-- `since` is the idle moment that the policy keeps after the observation o
 abbrev pub GivesSince : Policy → SharingObservation → Option ℕ → Type 0
 GivesSince policy o since =
     (started : Started) (seen : List SharingObservation) → HasSeen started policy seen → since ≡ kept_since started (o ∷ seen)
 
--- `runs` says whether the policy runs after the observation o, where `since` is the idle moment
+-- `runs` says whether the policy runs after the observation o, if `since` is the idle moment that the policy keeps
 abbrev pub GivesRunning : Policy → SharingObservation → Option ℕ → Bool → Type 0
 GivesRunning policy o since runs =
     (started : Started) (seen : List SharingObservation) → HasSeen started policy seen → since ≡ kept_since started (o ∷ seen) →

@@ -15,7 +15,7 @@ use Rattle.flow_turns.specs.SharingViews.{state_of, chain_and_hub}
 
 -- `whole` and `rest` are the runs of the chain; `does` and `waits` are those of the hub
 module _ {C H T : Type 0} (whole rest : C → ChainRun T) (does : (c : HubCall T) → H → HubAnswer c → H → Type 0) (waits : H → Bool) where
-  -- the call of the hub has this answer, and nothing but the hub changes
+  -- the call of the hub has this answer, and the runs of the chain do not change
   abbrev pub CallsHub : (c : HubCall T) → Sharing C H T → HubAnswer c → Sharing C H T → Type 0
   CallsHub call old answer new =
       CallDoes (HubStep does waits) (to_hub call) (chain_and_hub whole rest old) answer (chain_and_hub whole rest new)

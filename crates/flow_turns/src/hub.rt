@@ -13,7 +13,7 @@ use flow_law::{FlowFault, Refused};
 pub trait Hub: Drop {
     type Item;
 
-    /// Whether the hub has an emission that waited at the last poll.
+    /// Whether the hub has an emission that waited at the last put or poll.
     ghost waits: { Self → Bool };
 
     /// What a call does, by the call, the hub before it, its answer, and the hub after it.

@@ -1,8 +1,8 @@
 //! When a sharing runs, depending on the number of subscribers (`SharingStarted`).
 //!
-//! A policy keeps no list of observations. It keeps the last moment, the moment since which all counts are zero, and
-//! whether it runs; these also show whether a reset was due. Its clauses speak of every list of observations that leads
-//! to what it keeps.
+//! A policy keeps no list of observations. It keeps the last moment, whether it runs, and, if it is one that stops, the
+//! moment since which all counts are zero after a positive one; these also show whether a reset was due. Its clauses
+//! speak of every list of observations that leads to what it keeps.
 ghost use Rattle.std.specs.Prelude.{◌≡◌, ◌≤◌, ◌<◌, [], true, false, None, IfOk, OnErr};
 ghost use Rattle.std.specs.Option.{ForSome};
 ghost use Rattle.flow_law.specs.Sharing.{command_of, runs_after, is_past_expiry};
@@ -101,7 +101,8 @@ impl Policy {
         }
     }
 
-    /// Returns the moment since which all counts are zero, after one more observation.
+    /// Returns the idle moment that the policy keeps after one more observation: `None` unless the policy stops and the
+    /// zero counts follow a positive one.
     fn since_after(&self, now: u64, count: u64) -> Option<u64>
         requires { self.now.last ≤ now }
         ensures since { GivesSince self.now (record { moment = now; count = count }) result }

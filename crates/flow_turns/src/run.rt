@@ -84,7 +84,7 @@ impl<C: Cold, H: WatchedHub<Item = C::Item>> Sharing<C, H> {
     }
 
     /// Rests after a turn with this event. If there is nothing to do, begins a watch for the next turn, or, after a
-    /// turn that was watched, sleeps. Returns whether the hub watches the next turn.
+    /// watched turn that did not come to `Queued`, sleeps. Returns whether the hub watches the next turn.
     fn rest<R: Wait + Clock, S: StopSignal>(
         &mut self,
         rt: &R,

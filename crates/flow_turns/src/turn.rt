@@ -83,7 +83,7 @@ impl<C: Cold, H: Hub<Item = C::Item>> Sharing<C, H> {
     /// policy says, and emits at most one item while the sharing runs.
     ///
     /// An emission that waits is polled first; once it is done the next item follows, in the same turn. The next turn
-    /// begins with what a refusal left undone: a kept item, a cancel, a reset.
+    /// does what a refusal left undone: a cancel, a reset, then a kept item, unless a stop drops it.
     ///
     /// # Errors
     /// `Backwards` if `now` is before the last moment: nothing is observed. `Chain` if the chain fails, and `Ended` in

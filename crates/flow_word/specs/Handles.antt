@@ -1,4 +1,4 @@
--- What contracts see of the handles of a word state: callers and readers, and what callers know that one caller has made.
+-- What contracts see of the handles of a word state: callers and readers, and the seats that are made through one caller.
 use Rattle.std.specs.Prelude.{◌≡◌, ◌<◌, ℕ, List, slice_index_or}
 use Rattle.flow_law.specs.declared.call.StateCall.{StateCall}
 use Rattle.flow_law.specs.declared.call.StateReply.{StateReply}

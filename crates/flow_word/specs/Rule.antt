@@ -13,7 +13,8 @@ use Rattle.flow_word.specs.View.{begun}
 abbrev pub counts : {T : Type 0} → StateFlowState T → ℕ
 counts s = s.issued * 4294967296 + length s.subscribers
 
--- the history begins with what the token has seen and keeps the token's rule of names, and the token is of the flow with this start
+-- The history begins with what the token has seen, other callers made the rest, and it keeps the token's rule of names. The token is of
+-- the flow with this start.
 abbrev pub IsFine : {T : Type 0} → Start → StateHistory T → Known T → Type 0
 IsFine start history x = Fits history x.knows × (x.start ≡ start)
 

@@ -30,8 +30,9 @@ impl<T: Packed> WordState<T> {
 
     /// Updates the value by a function of it.
     ///
-    /// The function is called once in each round. If another caller sets the value in between, the round is lost: the
-    /// thread yields, and the next round begins. No caller waits while the function runs.
+    /// The function is called once in each round. If the value is then no longer the one that the round read, because
+    /// another caller set it in between, the round is lost: the thread yields, and the next round begins. No caller
+    /// waits while the function runs.
     pub fn update<R: Wait, F: Fn(T) -> T>(&self, rt: &R, seat: &mut WordSeat<T>, f: F)
         requires flow { seat.old.table_id ≡ self.now.table_id }
         requires callable { F.IsAlwaysCallable f }

@@ -44,8 +44,9 @@ impl<T: FlowValue, A: Allocator + Copy> SharedCore<T, A> {
     /// Returns how many emitted values a subscriber has not received yet, or `None` if no subscriber has this number.
     /// Its own first values do not count.
     ///
-    /// The lag is at most `replay + extra`, or 1 if both are 0. If a subscriber has the greatest lag, `overflow`
-    /// decides: emitters wait, the subscriber loses its oldest value, or new values are dropped.
+    /// The lag is at most `replay + extra`, or 1 if both are 0. If a subscriber's lag is that great, `overflow`
+    /// decides: emitters wait, the subscriber loses the oldest emitted value that it has not received, or new values
+    /// are dropped.
     pub fn lag(&self, id: SubId) -> Option<u64>
         ensures lag { (s : SharedFlowState T) →
             StandsFor self.now s → result ≡ lag_of (number_of id) s }

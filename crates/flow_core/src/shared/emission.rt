@@ -70,7 +70,8 @@ impl<T: FlowValue, A: Allocator + Copy> SharedCore<T, A> {
         Ok(number)
     }
 
-    /// Emits a value, and returns its number. A subscriber that was a whole buffer behind loses its oldest value.
+    /// Emits a value, and returns its number. A subscriber that was a whole buffer behind loses the oldest emitted
+    /// value that it has not received.
     fn append_dropping(&mut self, value: T) -> Result<u64, Refused<T>>
         requires full { (kept_full self.old ≡ true) ×
             (self.old.config.overflow ≡ Overflow.DropOldest) }
@@ -93,7 +94,8 @@ impl<T: FlowValue, A: Allocator + Copy> SharedCore<T, A> {
         Ok(number)
     }
 
-    /// Appends a value. A subscriber that was a whole buffer behind loses its oldest value.
+    /// Appends a value. A subscriber that was a whole buffer behind loses the oldest emitted value that it has not
+    /// received.
     fn push_dropping(&mut self, value: T, number: u64)
         requires full { (kept_full self.old ≡ true) ×
             (self.old.config.overflow ≡ Overflow.DropOldest) }

@@ -33,8 +33,8 @@ impl<'a, T: FlowValue, A: Allocator + Copy> FlowReader<'a, StateCore<T, A>, A> {
     }
 
     /// Waits until the current value passes a test, and returns it. The current value is tested at once, even if the
-    /// subscriber received it before. The subscriber receives all tested values, as by `changed`, which does not return
-    /// them again.
+    /// subscriber received it before. The subscriber has then received all tested values, as by `changed`, which does
+    /// not return them again.
     ///
     /// # Errors
     /// `OutOfMemory` if a value could not be copied: a later call tests it, or a newer one.
@@ -70,8 +70,8 @@ impl<'a, T: FlowValue, A: Allocator + Copy> FlowReader<'a, StateCore<T, A>, A> {
     }
 
     /// Waits as `wait_for` does, for no longer than `limit`, and returns `None` if no value has passed the test by
-    /// then. The current value is tested in any case; if the clock cannot be read, no other value is. Values that
-    /// failed count as received.
+    /// then. The current value is tested in any case. If the clock cannot be read, it returns `None` at the first
+    /// `next` after that which finds nothing. Values that failed count as received.
     ///
     /// # Errors
     /// `OutOfMemory` if a value could not be copied: a later call tests it, or a newer one.

@@ -1,4 +1,5 @@
-//! Calls of emissions that do not wait: if another caller is inside, they return at once and change nothing.
+//! Calls of emissions that do not wait: if another caller is inside, they return what they were given, and do not
+//! change the flow.
 ghost use Rattle.std.specs.Prelude.{◌≡◌};
 ghost use Rattle.flow_shared.specs.SharedReplies.{EmitsNow, PollsNow, CancelsNow};
 

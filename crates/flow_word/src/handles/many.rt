@@ -57,8 +57,8 @@ impl<'a, T: Packed> WordSetter<'a, T> {
     /// Returns the value after all that this caller and the others did, and after nothing else under their names. Call
     /// it once the threads of the others have ended.
     ///
-    /// All meet, the value is read, and all meet again. After the first round the value that is read comes after all
-    /// that they did; the second round shows that none of them has done more.
+    /// All meet, the value is read, and all meet again. Because of the first round, the read comes after all that they
+    /// did; the second round shows that none of them has done more.
     pub fn final_value(&mut self, others: &mut [WordSetter<'_, T>]) -> T
         requires { All (λ c. c.flow.table_id ≡ self.old.flow.table_id) others.old }
         ensures flow { self.new.flow ≡ self.old.flow }

@@ -9,8 +9,8 @@ use std::sync::Wait;
 impl<'a, T: Packed> WordSetter<'a, T> {
     /// Updates the value by a function of it.
     ///
-    /// The function may be called several times: if another caller sets the value in between, the update reads again.
-    /// No other caller waits while the function runs.
+    /// The function may be called several times: if the value is no longer the one that was read, because another
+    /// caller set it in between, the update reads again. No other caller waits while the function runs.
     pub fn update<R: Wait, F: Fn(T) -> T>(&mut self, rt: &R, f: F)
         requires callable { F.IsAlwaysCallable f }
         ensures flow { self.new.flow ≡ self.old.flow }

@@ -153,8 +153,9 @@ impl<'a, T: Packed + Drop> WordReader<'a, T> {
     }
 
     /// Waits as `wait_for` does, for no longer than `limit`, and returns `None` if no value has passed the test by
-    /// then. The current value is tested in any case; if the clock cannot be read, no other value is. Values that
-    /// failed count as received.
+    /// then. The current value is tested in any case. If the clock cannot be read, it does not sleep: it looks once
+    /// after each value that fails, and returns `None` if that look finds nothing. Values that failed count as
+    /// received.
     ///
     /// # Source
     /// `withTimeoutOrNull` around `StateFlow.first { }`.

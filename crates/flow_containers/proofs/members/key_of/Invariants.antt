@@ -3,7 +3,7 @@ use Rattle.slab.specs.Slab.{get}
 use Rattle.flow_containers.specs.declared.members.Member.{Member}
 use Rattle.flow_containers.proofs.members.key_of.Given as goal
 
--- every entry that is left is one of the slab's, and an entry with the number is among them
+-- every entry that is left is one of the slab's, and any entry of the slab that has the number is among them
 abbrev pub invariant-loop-key : goal.invariant-loop-key
 invariant-loop-key g l =
     (goal.iterator-loop-key g).can_next l.key-iterator ×
