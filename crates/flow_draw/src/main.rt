@@ -1,5 +1,5 @@
-//! Draws a flow script from standard input to standard output: `flow_draw [--text | --explain]`. Explains on standard
-//! error why a script is refused.
+//! Draws a flow script from standard input to standard output: `flow_draw [--text | --explain]`. Why a script
+//! is refused is explained on standard error, too, beside the line on standard output.
 #![tactic(auto)]
 
 use flow_script::Watched;

@@ -33,7 +33,7 @@ module _ {T : Type 0} where
   abbrev accepted_in : Says T → List T
   accepted_in e = accepted_by e.call e.reply
 
-  -- no token has ended a subscription or an emission
+  -- no token has ended a subscription or an emission, or subscribed with first values
   abbrev pub NoneEnded : List (Knowledge (Says T)) → Type 0
   NoneEnded = AllByRecursion (λ (k : Knowledge (Says T)). AllByRecursion (λ (e : Says T). EndsNothing e.call) (done_by k))
 

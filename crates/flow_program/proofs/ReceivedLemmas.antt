@@ -1,5 +1,5 @@
--- In a history of a flow that suspends and has a buffer, in which no emission and no subscription was ended, a subscriber that received as
--- many values as the flow accepted received exactly these, in order.
+-- In a history of a flow that suspends and has a buffer, in which no emission and no subscription was ended and no subscriber had first
+-- values of its own, a subscriber that received as many values as the flow accepted received exactly these, in order.
 use Rattle.std.proofs.Common.{inl, inr, ◌≡◌, ◌≢◌, ◌⊎◌, ⊎_elim, ℕ, zero, suc, ◌+◌, ◌-◌, ◌<◌, ◌≤◌, false, ◌==◌, cond, List, [], ◌∷◌, ◌++◌, length, map, drop, Option, Some, None, refl, sym, ap, ◌∙◌, subst, arith, append-nil, length-append}
 use Rattle.std.specs.Prelude.{IsSome}
 use Rattle.std.specs.List.{AllByRecursion}
@@ -38,7 +38,8 @@ nothing : {A : Type 0} (xs : List A) → length xs ≡ 0 → xs ≡ []
 nothing [] e = refl
 nothing (x ∷ xs) e = absurd (omega arith)
 
--- a subscriber received just the accepted values, if it received at least as many, and these begin the emitted values from k on
+-- if what a subscriber received begins the emitted values from k on, and is at least as many values as were accepted (the emitted ones and
+-- the queued ones), it is exactly the accepted values
 whole_list : {T : Type 0} (got rest vs qs xs : List T) (k : ℕ) → got ++ rest ≡ drop k vs → vs ++ qs ≡ xs → length xs ≤ length got → got ≡ xs
 whole_list got rest vs qs xs k e f l =
     let a : length got + length rest ≡ length vs - k = sym (length-append got rest) ∙ ap length e ∙ length-drop k vs in

@@ -27,7 +27,7 @@ module _ {T : Type 0} where
   subscribed_right name u [] ys has = has
   subscribed_right name u (x ∷ xs) ys has = inr (subscribed_right name u xs ys has)
 
-  -- a seat through which others were made before it did anything is the first seat, which has only subscribed
+  -- the first seat, through which n others were made before it did anything, is a maker
   pub begins_maker : (n : ℕ) (k : Knowledge (Says T)) → k ≡ makes_many n first_knowledge → IsMaker k
   begins_maker n k e = record { name = ap (λ (x : Knowledge (Says T)). x.name) e; did = subst (λ (x : Knowledge (Says T)). AllByRecursion (λ (e : Says T). IsSubscribing e.call) (done_by x)) (sym e) tt }
 

@@ -35,7 +35,8 @@ value_line value = lined (codes "value " ++ signed_decimal value)
 abbrev pub count_line : Counting → List ℕ
 count_line size = value_line (pos (size.threads * size.updates))
 
--- The line of the count was printed, with status 0; or `out of memory` was printed.
+-- The line of the count was printed, with status 0, or `out of memory`, with status 4; or the write failed after a first part of either
+-- line, with status 3.
 abbrev pub RunsCount : Counting → Bool → Option (List ℕ) → Option (List ℕ) → ℕ → Type 0
 RunsCount size failed old new answered =
     Tells failed old new (count_line size) 0 answered ⊎ Tells failed old new memory_line 4 answered

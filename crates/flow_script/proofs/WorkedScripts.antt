@@ -19,7 +19,8 @@ pub share-and-stop : meaning (codes "{\"version\":1,\"flow\":{\"kind\":\"share\"
 unfolding serde_json_on_literals is_utf8 chars digits most_levels
 share-and-stop = refl
 
--- a subscriber receives its own first values, and then the replayed ones
+-- a subscriber receives its own first values, and then the emitted values that were not dropped; a late subscriber receives the
+-- replayed one
 pub own-first-values : meaning (codes "{\"version\":2,\"flows\":{\"p\":{\"kind\":\"shared\",\"replay\":1,\"extra\":1,\"overflow\":\"drop_oldest\"}},\"steps\":[{\"do\":\"try_emit\",\"flow\":\"p\",\"value\":1},{\"do\":\"subscribe\",\"flow\":\"p\",\"name\":\"a\",\"first\":[8,9]},{\"do\":\"emit\",\"flow\":\"p\",\"name\":\"e2\",\"value\":2},{\"do\":\"emit\",\"flow\":\"p\",\"name\":\"e3\",\"value\":3},{\"do\":\"emit\",\"flow\":\"p\",\"name\":\"e4\",\"value\":4},{\"do\":\"cache\",\"flow\":\"p\"},{\"do\":\"next\",\"flow\":\"p\",\"name\":\"a\"},{\"do\":\"next\",\"flow\":\"p\",\"name\":\"a\"},{\"do\":\"next\",\"flow\":\"p\",\"name\":\"a\"},{\"do\":\"next\",\"flow\":\"p\",\"name\":\"a\"},{\"do\":\"next\",\"flow\":\"p\",\"name\":\"a\"},{\"do\":\"subscribe\",\"flow\":\"p\",\"name\":\"b\"},{\"do\":\"next\",\"flow\":\"p\",\"name\":\"b\"}]}") ≡ Ok (codes "true\nsubscribed\ndone\ndone\ndone\n[4]\nvalue 8\nvalue 9\nvalue 3\nvalue 4\nempty\nsubscribed\nvalue 4\n")
 unfolding serde_json_on_literals is_utf8 chars digits
 own-first-values = refl

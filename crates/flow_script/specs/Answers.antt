@@ -1,4 +1,5 @@
--- The answers of a script: one for each step, and one for each flow that was refused when it was made.
+-- The answers of a script: one for each flow that was refused when it was made, and one for each step, unless a flow without a name was
+-- refused.
 -- Begin with `Answer`. The line of an answer is `line_of` in Lines.
 use Rattle.std.specs.Prelude.{ℕ, ℤ, Bool, List, Result, Ok, Err}
 use Rattle.flow_law.specs.ChainRun.{items, ending}

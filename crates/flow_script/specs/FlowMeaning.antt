@@ -53,11 +53,11 @@ module _ {S C R : Type 0} (kind : Kind ℤ S C R) (played : Played S C R) where
   abbrev pub after : C → S → S
   after call s = kind.after s call (played.reply_to call s)
 
-  -- the number that a call issues, if any
+  -- the number that the reply gives to the caller: of a new subscriber or of a queued emission; none otherwise
   abbrev pub given : C → R → Option ℕ
   given call reply = option_map (λ owner. number_in owner.number) (kind.gives [] call reply)
 
-  -- the call that a step makes; none if its name stands for no number
+  -- the call that a step makes; none if its name stands for no number, or if the kind of flow does not have the step
   abbrev pub call_of : FlowStep → Numbers → Option C
   call_of (step.TryEmit value) n = Some (played.try_emit value)
   call_of step.Subscribe n = Some (kind.subscribe [])

@@ -15,7 +15,7 @@ use Rattle.flow_script.specs.Numbers.{Numbers, number_at}
 abbrev pub shared_reply : SharedCall ℤ → SharedFlowState ℤ → SharedReply ℤ
 shared_reply call s = (answer_to call s).reply
 
--- the calls of the steps that only shared flows have
+-- the calls of the steps of shared flows that not every kind of flow has
 abbrev pub shared_own_call : FlowStep → List (Option ℕ) → Option (SharedCall ℤ)
 shared_own_call (step.Emit value) emissions = Some (call.Emit value)
 shared_own_call (step.Poll place) emissions = option_map call.Poll (number_at place emissions)

@@ -1,5 +1,6 @@
 -- The steps of a script on a shared chain (`shareIn`, `stateIn`), for both kinds of flow.
--- Begin with `sharing_step`. A turn is that of SharingFlows in flow_law. Any other step is one on the flow, and only reads it.
+-- Begin with `sharing_step`. A turn is that of SharingFlows in flow_law. Any other step is one on the flow if it only reads the flow;
+-- otherwise it is not allowed.
 use Rattle.std.specs.Prelude.{ℕ, ℤ, Bool, true, false, if◌then◌else◌, List, []}
 use Rattle.flow_law.specs.declared.sharing.Started.{Started}
 use Rattle.flow_law.specs.declared.sharing.SharingObservation.{SharingObservation}

@@ -38,7 +38,7 @@ state_reply call.SubscriptionCount s = reply.Counted (length s.subscribers)
 state_reply call.ReplayCache s = reply.Cached (s.value ∷ [])
 state_reply call.ResetReplayCache s = reply.Refused Unsupported
 
--- the calls of the steps that only state flows have
+-- the calls of the steps of state flows that not every kind of flow has
 abbrev pub state_own_call : FlowStep → List (Option ℕ) → Option (StateCall ℤ)
 state_own_call step.Reset emissions = Some call.ResetReplayCache
 state_own_call step.Value emissions = Some call.GetValue

@@ -9,7 +9,7 @@ pub enum Answer {
     Tested(bool),
     /// Whether an emission still waits.
     Waits(bool),
-    /// The value was emitted at once.
+    /// The emission was done at once: the value was emitted, or dropped by `DropLatest`.
     Done,
     /// The emission waits.
     Queued,
@@ -51,7 +51,8 @@ pub struct Seen {
     /// How many values the step emitted, or `None` if its flow is not a shared flow. A step that makes room emits
     /// values that were waiting.
     pub emitted: Option<u64>,
-    /// The lag of the step's subscriber after the step: how many values it has yet to receive.
+    /// The lag of the step's subscriber after the step: how many emitted values it has yet to receive. Its own first
+    /// values do not count.
     pub lag: Option<u64>,
     /// The moment of a turn.
     pub at: Option<u64>,

@@ -6,7 +6,7 @@ use crate::members::{number_at, text_at};
 use serde_json::Value;
 use std::alloc::{AllocError, Global};
 
-/// A subscriber, and how many values it has yet to receive.
+/// A subscriber, and its lag: how many emitted values it has yet to receive.
 #[derive(Clone, Copy)]
 struct Behind<K> {
     subscriber: K,
@@ -28,7 +28,7 @@ pub struct Losses<K: Copy + PartialEq> {
     window: u64,
     values: Vec<i64>,
     subscribers: Vec<Behind<K>>,
-    /// The subscribers that lost a value by the last emission.
+    /// The subscribers that lost a value by the last step.
     losers: Vec<K>,
 }
 

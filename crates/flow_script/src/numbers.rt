@@ -11,7 +11,7 @@ use std::alloc::Global;
 /// The numbers that the names of a script stand for, each kind in the order of introduction.
 #[derive(Drop)]
 pub struct Numbers {
-    /// The number of each emission, or `None` if it did not have to wait.
+    /// The number of each emission that was queued, or `None` if it was done at once or refused.
     emissions: Vec<Option<u64>>,
     /// Each subscription, or `None` if it was refused.
     subscribers: Vec<Option<SubId>>,

@@ -1,4 +1,4 @@
-//! The steps that only shared flows have, each with its answer.
+//! The steps of shared flows that not every kind of flow has, each with its answer.
 ghost use Rattle.std.specs.Prelude.{◌≡◌, IfOk, IfErr};
 ghost use Rattle.flow_law.specs.Standing.{StandsFor};
 ghost use Rattle.flow_law.specs.SharedHistory.{shared_flow};

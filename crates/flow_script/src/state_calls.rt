@@ -1,4 +1,4 @@
-//! The steps that only state flows have, each with its answer.
+//! The steps of state flows that not every kind of flow has, each with its answer.
 ghost use Rattle.std.specs.Prelude.{◌≡◌, IfOk, IfErr};
 ghost use Rattle.flow_law.specs.StateFlow.{state_flow};
 ghost use Rattle.flow_script.specs.FlowMeaning.{own_turn};

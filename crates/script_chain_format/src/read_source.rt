@@ -28,9 +28,9 @@ pub fn numbers_in(
     }
 }
 
-/// Returns these values as whole numbers of 64 bits. A fault reports the step `at`: it is `BadShape` if a value is not
-/// a whole number, otherwise `TooLarge` if there are more than `most` values, and `OutOfMemory` if memory is refused.
-/// No list is made of more than `most` values.
+/// Returns these values as whole numbers of 64 bits. A fault is `BadShape` of the step `at` if a value is not a whole
+/// number, otherwise `TooLarge` of that step if there are more than `most` values; or `OutOfMemory`, which names no
+/// step, if memory is refused. No list is made of more than `most` values.
 pub fn numbers_of(
     alloc: Global,
     at: u64,

@@ -26,7 +26,8 @@ TellsLines text drawn = TellsInOrder (lines_of text) drawn
 
 -- ---- pictures
 
--- The drawing of a script that writes a text contains its lines. A script that is refused is refused with the same fault, or out of memory.
+-- The drawing of a script that writes a text contains its lines. Any script may fail out of memory; every other fault is the one with which
+-- the script is refused.
 abbrev pub Pictures : Result (List ℕ) ScriptFault → Result (String Global) ScriptFault → Type 0
 Pictures meant (Ok drawn) = (text : List ℕ) × (meant ≡ Ok text) × TellsLines text (string_bytes drawn)
 Pictures meant (Err fault) = Gives {A = List ℕ} meant (Err fault)

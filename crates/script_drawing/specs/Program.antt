@@ -12,7 +12,7 @@ use Rattle.script_drawing.specs.Drawing.{Draws}
 abbrev pub usage_line : List ℕ
 usage_line = lined (codes "usage: flow_draw [--text | --explain]")
 
--- the form that the arguments ask for: none, `--text`, or `--explain`
+-- the form that the arguments ask for, which are none, `--text`, or `--explain`; `None` for any others
 abbrev pub form_of : {A : Type 0} → List (String A) → Option Form
 form_of [] = Some Svg
 form_of (word ∷ []) = cond (bytes_eq (string_bytes word) (codes "--text")) (Some Text) (cond (bytes_eq (string_bytes word) (codes "--explain")) (Some Explained) None)

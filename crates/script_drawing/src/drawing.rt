@@ -22,7 +22,7 @@ use std::alloc::{AllocError, Global};
 pub enum Form {
     Text,
     Svg,
-    /// No picture, but after each line the rule by which its step wrote it.
+    /// No picture, but after each line that a step wrote the rule by which it wrote it.
     Explained,
 }
 

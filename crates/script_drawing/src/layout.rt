@@ -24,7 +24,7 @@ pub struct Cell<'a> {
     pub comes: bool,
     /// Whether its line continues in the next column.
     pub goes_on: bool,
-    /// Whether the lane is that of an emission that waits.
+    /// Whether the lane is that of an emission, whose emitter waits as long as the lane has a line.
     pub waits: bool,
 }
 

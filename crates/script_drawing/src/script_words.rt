@@ -86,7 +86,8 @@ pub fn add_collection(page: &mut Page, step: usize, chain: &Value) {
     add_chain(page, chain);
 }
 
-/// Adds the value of a key, after a space: the source and the operators of a chain, or the members of another object.
+/// Adds the value of a key, after a space: of a chain its source and its operators, of another object its members, and
+/// of anything else the value itself.
 fn add_member(page: &mut Page, key: &str, value: &Value) {
     match value {
         Value::Object(_) if key == "chain" => add_chain(page, value),

@@ -116,7 +116,7 @@ impl Canvas {
         }
     }
 
-    /// Adds the label of a lane, and the width of the labels.
+    /// Adds the label of a lane, and begins its columns after labels of this width.
     fn add_name(&mut self, label: Label<'_>, width: usize) {
         let y = self.height.saturating_add(LANE / 2 + 5);
         self.x = pixels(width);

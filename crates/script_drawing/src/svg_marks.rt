@@ -137,7 +137,8 @@ fn add_note_at(page: &mut Page, note: Note, x: usize, y: usize) {
     page.push_str(END_TEXT);
 }
 
-/// Adds the line of a lane through a column from `x` on. `middle` is the middle of the column's mark.
+/// Adds the line of a lane through a column from `x` on. `middle` is the middle of the column's mark, or the place
+/// where a mark would begin if there is none.
 fn add_line(page: &mut Page, cell: Cell<'_>, x: usize, middle: usize, y: usize) {
     let end = x.saturating_add(pixels(cell.width));
     let from = if cell.comes { x } else { middle };

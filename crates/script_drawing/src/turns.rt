@@ -25,7 +25,8 @@ impl Asking {
         }
     }
 
-    /// Returns the item that the flow accepted in a turn, by the turn's report. Asks the chain if the turn asked it.
+    /// Returns the item that the flow accepted in a turn, by the turn's report. Asks the chain after a
+    /// turn that put or queued an item, or found the chain pending or completed.
     ///
     /// # Errors
     /// `AllocError`: out of memory.

@@ -20,7 +20,7 @@ fn number_width(number: u64) -> usize {
     (number.checked_ilog10().unwrap_or(0) as usize).saturating_add(1)
 }
 
-/// Returns how many characters a number has after `+`, including that.
+/// Returns how many characters `+` and a number have together.
 fn more_width(count: u64) -> usize {
     number_width(count).saturating_add(1)
 }
@@ -57,7 +57,8 @@ pub fn labels_width(lanes: &[Lane<'_>]) -> usize {
     widest
 }
 
-/// Adds the label of a lane, with the three characters `of_flow` before the name of a flow. Cuts longer names.
+/// Adds the label of a lane, with `of_flow`, which shows as three characters, before the name of a flow. Cuts longer
+/// names.
 pub fn add_label(page: &mut Page, label: Label<'_>, of_flow: &str) {
     add_cut(page, label.name, MOST_NAME);
     if let Some(flow) = label.flow {
@@ -111,7 +112,7 @@ pub fn add_words(page: &mut Page, words: Words<'_>) {
     }
 }
 
-/// Adds a number after `+`.
+/// Adds `+` and a number.
 fn add_more(page: &mut Page, count: u64) {
     page.push('+');
     page.push_number(count);

@@ -55,7 +55,8 @@ fn look_at_flow<'a>(script: Script<'a>, step: Spot<'a>, report: &mut Report) -> 
     Ok(())
 }
 
-/// Checks the names that a step uses.
+/// Reports the flow that a step names, if there is none of that name, or else the name that the step uses, which is
+/// known to be wrong.
 pub fn look_at_uses<'a>(
     script: Script<'a>,
     index: usize,

@@ -58,8 +58,9 @@ pub type Looked = Result<(), Ended>;
 /// The words before what was expected.
 pub const EXPECTED: &str = "\n  expected: ";
 
-/// The message about a script. It begins with `begin` or `begin_value`, which add the place of what is wrong, and ends
-/// with `end` or `end_near`. If memory is refused, words are missing, and the end returns `OutOfMemory`.
+/// The message about a script. It begins with `begin` or `begin_value`, which add the place of what is wrong, unless
+/// the fault has no place, and ends with `end` or `end_near`. If memory is refused, words are missing, and the end
+/// returns `OutOfMemory`.
 #[derive(Drop)]
 pub struct Report {
     /// The part of the script that has the fault, if it is known: 0 is the head, and steps are numbered from 1.

@@ -57,8 +57,8 @@ fn next_rule<'a>(
 /// Returns the rules by which the steps of a script have their answers, each in one sentence. A rule is empty if its
 /// step cannot have this answer.
 ///
-/// The rule of a turn is that of its command if it starts or stops the chain, otherwise that of its event. If a value
-/// is dropped that subscribers had yet to receive, the rule says which value, and names up to 16 of these subscribers.
+/// The rule of a turn is that of its command, unless that is `Keep`: then it is that of its event. If a value is
+/// dropped that subscribers had yet to receive, the rule says which value, and names up to 16 of these subscribers.
 /// Source of the rules: kotlinx.coroutines' public documentation, as docs/DEFINITIONS.md says rule by rule.
 ///
 /// # Errors

@@ -207,7 +207,7 @@ impl<'a> Search<'a, '_> {
         Ok(())
     }
 
-    /// Checks a value, and what is inside it.
+    /// Checks a value, and the keys or the items inside it. The values of its keys are checked later.
     fn look(&mut self, task: Task<'a>) -> Looked {
         if !task.form.fits(task.spot.value) {
             return self

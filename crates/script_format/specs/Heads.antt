@@ -55,7 +55,7 @@ state_of d = option_and_then (λ initial. option_and_then (λ limit. where_true 
 abbrev pub started_named : List ℕ → Option Started
 started_named text = if bytes_eq text (codes "eagerly") then Some Eagerly else (if bytes_eq text (codes "lazily") then Some Lazily else None)
 
--- the keys of a chain that runs while it has subscribers; version 1 has no `expire`
+-- the keys of the object under `started`, for a chain that runs while its flow has subscribers; version 1 has no `expire`
 abbrev pub started_keys : Version → List (List ℕ)
 started_keys One = codes "stop" ∷ []
 started_keys Two = codes "stop" ∷ codes "expire" ∷ []
@@ -64,7 +64,8 @@ started_keys Two = codes "stop" ∷ codes "expire" ∷ []
 abbrev pub expire_at : Data → Option ℕ
 expire_at d = option_map_or (λ expire. option_and_then as_u64 (as_number expire)) (get (codes "expire") d) (Some never)
 
--- a chain that runs while it has subscribers, with the times until it stops and until its replay cache expires
+-- when a chain runs, by an object: while its flow has subscribers, with the time until it then stops, and the time from that stop until the
+-- replay cache expires
 abbrev pub while_subscribed : Version → Data → Option Started
 while_subscribed version d =
     where_true (has_only (started_keys version) d) (option_and_then (λ stop. option_map (λ expire. WhileSubscribed stop expire) (expire_at d)) (u64_at (codes "stop") d))
@@ -77,7 +78,7 @@ started_of version d = option_map_or started_named (as_str d) (while_subscribed 
 abbrev pub started_at : Version → Data → Option Started
 started_at version d = option_and_then (started_of version) (get (codes "started") d)
 
--- what a head says of a shared chain, for every kind of flow
+-- what a head says of a shared chain, whichever kind of flow it is shared into
 pub record SharedParts : Type 0 where
   pub chain : Data
   pub started : Started

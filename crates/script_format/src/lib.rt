@@ -1,6 +1,7 @@
 //! Reads JSON flow scripts: a text gives a `Script`, or the first fault in it.
 //!
-//! `read_script` checks the whole text before it returns a script. `ScriptFault` says which step was refused.
+//! `read_script` checks the whole text before it returns a script. `ScriptFault` says why it was refused, and for a
+//! fault of a step or of the head (step 0), which one.
 #![tactic(auto)]
 
 mod name_form;

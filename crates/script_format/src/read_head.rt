@@ -168,8 +168,8 @@ fn flows_in(alloc: Global, version: Version, value: &Value) -> Result<Vec<NamedF
     }
 }
 
-/// Returns the flows and the steps of a head. A bad form takes precedence over a limit, so the form of the steps is
-/// checked first.
+/// Returns the flows and the steps of a head. A bad form takes precedence over a limit, so the keys of the head, and
+/// that `steps` is a list, are checked first.
 pub fn head_in(
     alloc: Global,
     version: Version,

@@ -26,7 +26,8 @@ fn started_named(text: &str) -> Option<Started>
     }
 }
 
-/// Returns the keys of a chain that runs while it has subscribers. Version 1 has no `expire`.
+/// Returns the keys of the object under `started`, for a chain that runs while its flow has subscribers. Version 1 has
+/// no `expire`.
 fn started_keys(version: Version) -> &'static [&'static str]
     ensures { map (λ key. key.now) result.now ≡ heads.started_keys version }
 {
@@ -46,7 +47,8 @@ fn expire_at(started: &Value) -> Option<u64>
     }
 }
 
-/// Returns the start of an object with the key `stop`: the chain runs while it has subscribers.
+/// Returns when a chain runs, by an object with the key `stop`: while its flow has subscribers, and until `stop` after
+/// that.
 fn while_subscribed(version: Version, started: &Value) -> Option<Started>
     ensures { result ≡ heads.while_subscribed version (view started.now) }
 {

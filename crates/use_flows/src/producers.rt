@@ -25,7 +25,7 @@ fn subscribe_all<'a, R: Wait>(
     Ok((p.subscribe(rt)?, p.subscribe(rt)?, p.subscribe(rt)?))
 }
 
-/// Runs the producers and the consumers at the same time.
+/// Runs the producers and the consumers side by side, or the producers first if no thread can be made.
 fn run_all<R: Wait + Threads + Sync>(
     rt: &R,
     p: &mut Emitter<'_, i64>,

@@ -9,7 +9,8 @@ ghost use Rattle.script_chain_format.specs.Members as members;
 use serde_json::{Map, Value};
 
 /// Returns the number under a key, if it is a whole number from 0 to 2^64 - 1. Like each function here that looks up a
-/// key, it returns `None` if the value is not an object, has no such key, or has another kind of value under it.
+/// key, it returns `None` if the value is not an object or has no such key. All of them except `only_at`, which takes
+/// any value, also return `None` if what is under the key is not such a number or text.
 pub fn u64_at(value: &Value, key: &str) -> Option<u64>
     ensures { result ≡ members.u64_at key.now (view value.now) }
 {

@@ -24,7 +24,7 @@ fn idle_rule(flow: &Value) -> &'static str {
     }
 }
 
-/// Returns the rule for the event of a turn that neither starts nor stops the chain.
+/// Returns the rule for the event of a turn whose command is `Keep`.
 fn event_rule(flow: &Value, event: Event) -> &'static str {
     match event {
         Event::Put => "a turn puts one item at most: the next one went into the flow",
@@ -37,7 +37,7 @@ fn event_rule(flow: &Value, event: Event) -> &'static str {
     }
 }
 
-/// Returns the rule of a turn: that of its command if it starts or stops the chain, otherwise that of its event.
+/// Returns the rule of a turn: that of its command, unless that is `Keep`: then that of its event.
 fn report_rule(flow: &Value, report: &Report) -> &'static str {
     match (report.command, report.event) {
         (Command::Start, _) => start_rule(flow),

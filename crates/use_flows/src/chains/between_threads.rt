@@ -20,7 +20,7 @@ pub fn add_up<R: Wait + Clock + Threads + Sync>(rt: &R, alloc: Global) -> Result
     run_both(rt, &mut sharing, &mut reader)
 }
 
-/// Runs the sharing while the reader adds up all items, and returns their sum.
+/// Runs the sharing, and beside it, or after it if no thread can be made, adds up all items. Returns their sum.
 fn run_both<R: Wait + Clock + Threads + Sync>(
     rt: &R,
     sharing: &mut Sharing<OfRange, SharedFlowHub<'_, i64>>,
