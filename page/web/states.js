@@ -47,7 +47,10 @@ export class PlayedScript {
     return played.status === STATUS.GIVEN ? textOf(played).split("\n").slice(-further.length - 1, -1) : undefined;
   }
 
-  /** Returns the subscribers and the queued emissions of a flow that the first `count` steps have made and not ended. */
+  /**
+   * Returns the subscribers of a flow after the first `count` steps, each with the number of its own first values that are left, the
+   * emissions that were queued, each with its value, of which some may have ended, and the number of steps that may have emitted.
+   */
   namesOf(flow, count) {
     const subscribers = new Map(), queued = new Map();
     let emitted = 0;

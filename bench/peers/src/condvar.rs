@@ -1,6 +1,6 @@
 //! The `ref` flow behind a mutex, with condition variables on which waiting threads sleep.
 //!
-//! A call that adds no value and ends no emission wakes no thread.
+//! A call of `next` that ends no emission wakes no thread. Each emission wakes the subscribers that sleep.
 use crate::crowd::Shared;
 use crate::flows::Flow;
 use crate::shared::{Emit, Next};

@@ -10,7 +10,7 @@ pub enum Started {
     Eagerly,
     Lazily,
     /// The chain stops `stop` milliseconds after the last subscriber has gone, and the replay cache expires `expire`
-    /// milliseconds later. With `NEVER` neither happens.
+    /// milliseconds later. `NEVER` for either is a moment that never comes.
     WhileSubscribed {
         stop: u64,
         expire: u64,

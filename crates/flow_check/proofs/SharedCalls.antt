@@ -84,7 +84,7 @@ module _ (size k : ℕ) (owners : List Owner) where
         or_right (law.is_queued e s) (law.is_offered_as e s) (both_true (offers_of size m s owners seats values rises none (some none offers.1)) (ap (λ (n : ℕ). n == e) same ∙ both.1))
   ]
 
-  -- the caller's subscription has fewer values to receive, or ends
+  -- lags, own values and subscribers change, and the greatest lag does not grow: a caller receives a value, or its subscription ends
   pub seat_changed : (m : Kept) (s : SharedFlowState ℕ) (lags : List (Option ℕ)) (owns : List (List ℕ)) (us : List (Subscriber ℕ)) → StandsAs size m k s owners → InOrder s → InOrder (record s { subscribers = us })
       → SeatsAs size lags owns us (length s.emitted) owners → most_lag lags ≤ most_lag m.lags → StandsAs size (record m { lags = lags; owns = owns }) k (record s { subscribers = us }) owners
   seat_changed m s lags owns us st rises after seats low =

@@ -64,7 +64,7 @@ own_absent : (u : ℕ) (us : List (Subscriber ℕ)) → position_of u us ≡ Non
 own_absent u [] e = refl
 own_absent u (w ∷ us) e = split (w.number == u) (λ t. cond t (Some w.position) (position_of u us) ≡ None → cond t w.own (own_of u us) ≡ []) (λ _ e. absurd (cc)) (λ _ e. own_absent u us e) e
 
--- for each lag that the values cover there is a value
+-- for each positive lag of at most as many values as there are, there is a value
 value_some : (lag : ℕ) (values : List ℕ) → suc lag ≤ length values → (v : ℕ) × (value_at (suc lag) values ≡ Some v)
 value_some lag values low =
     let within : length values - suc lag < length values = omega arith in

@@ -16,8 +16,9 @@ use Rattle.flow_check.specs.declared.shared_machine.Held.{Held}
 use Rattle.flow_check.specs.Subscribed.{kept_of, present}
 use Rattle.flow_check.specs.Words.{number_of, maybe_of, parts_of}
 
--- The last emitted values, and how many of them the replay cache has. For each caller its lag, None if it is not subscribed, and
--- what is left of its own first values. The values whose emitters wait, and the caller whose value was emitted without a buffer.
+-- The last emitted values, and how many of them the replay cache has. For each caller its lag, which is how many emitted values it
+-- has still to receive, None if it is not subscribed, and what is left of its own first values. The values whose emitters wait, and
+-- the caller whose value was emitted without a buffer.
 pub record Kept : Type 0 where
   pub config : Config
   pub values : List ℕ
@@ -117,7 +118,7 @@ abbrev pub raised : ℕ → Option ℕ → Option ℕ
 raised most None = None
 raised most (Some lag) = Some (min (lag + 1) most)
 
--- the lag of a subscriber that has nothing more to receive
+-- the lag of a subscriber that has no emitted value to receive
 abbrev pub cleared : Option ℕ → Option ℕ
 cleared None = None
 cleared (Some lag) = Some 0
@@ -148,7 +149,8 @@ admit s (held ∷ queue) = if is_blocked s then record s { queue = held ∷ queu
 abbrev pub settle : Kept → Kept
 settle s = admit s s.queue
 
--- the state without the values that can be neither received nor replayed, and without an offer that all have received
+-- the state without the values that can be neither received nor replayed, and without an offer that no subscriber has still to
+-- receive
 abbrev pub trim : Kept → Kept
 trim s = record s { values = last_values (max (most_lag s.lags) s.cached) s.values; offered = offering s }
 

@@ -71,8 +71,9 @@ MayMake s owners caller (operation.EmitOrNot v) = HasNoEmission s owners caller
 MayMake s owners caller (operation.Subscribe own) = HasNoSubscription s owners caller
 MayMake s owners caller _ = Unit {0}
 
--- The recorded call may add no event: an `emit` returns if no emission of the caller waits, and a cancelled one may have been done
--- before it was cancelled, or may not have begun.
+-- The recorded call may add no event: the return or the cancel of an `emit` adds none if no emission of the caller waits, since the
+-- `emit` was done before, or a cancelled one did not begin; the beginning of a cancelled `emit` may add none, since it may not have
+-- begun.
 abbrev pub MayAddNothing : SharedFlowState ℕ → List Owner → ℕ → SharedEntry → Type 0
 MayAddNothing s owners caller entry = by entry.operation
   where

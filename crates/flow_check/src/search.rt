@@ -49,7 +49,7 @@ fn take_turn<C: Copy, M: Machine<C>>(
     Some(candidate.turn)
 }
 
-/// Returns the node that follows this turn, if the flow may give the recorded answer.
+/// Returns the node that follows this turn, if the call is skipped or the flow may give the recorded answer.
 fn advance<C: Copy, M: Machine<C>>(
     alloc: Global,
     callers: &[Vec<Timed<C>>],

@@ -24,7 +24,8 @@ fn has_fault(config: Config) -> bool
 }
 
 /// Judges recorded calls of a shared flow of this configuration, as `check_state` does those of a
-/// state flow. No flow has a configuration with a fault, so calls of one are illegal.
+/// state flow. No flow has a configuration with a fault, so with such a configuration all calls are
+/// illegal.
 pub fn check_shared<'a>(
     alloc: Global,
     config: Config,

@@ -54,9 +54,10 @@ pub enum EmitCase {
 }
 
 /// The state of a shared flow. It has the emitted values that can still be received or replayed,
-/// and how many of them the replay cache has. For each caller it has the lag, if the caller is
-/// subscribed, and what is left of the caller's own first values. It also has the emitters that
-/// wait, and the one whose value is offered.
+/// and how many of them the replay cache has. For each caller it has the lag, which is how many
+/// emitted values the caller has still to receive, if the caller is subscribed, and what is left of
+/// the caller's own first values. It also has the emitters that wait, and the one whose value is
+/// offered.
 ///
 /// It has neither positions nor numbers, so that equal states are the same.
 #[derive(Drop)]

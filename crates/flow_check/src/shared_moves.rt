@@ -27,7 +27,7 @@ fn raised(
     Ok(copy)
 }
 
-/// Copies the lags after the offered value was withdrawn: no subscriber has a value to receive.
+/// Copies the lags after the offered value was withdrawn: no subscriber has an emitted value to receive.
 fn cleared(alloc: Global, lags: &[Option<usize>]) -> Result<Vec<Option<usize>>, AllocError>
     ensures { IfOk result (λ copy. copy.items ≡ map cleared lags.now) }
 {
@@ -105,7 +105,8 @@ impl SharedMachine {
         Ok(())
     }
 
-    /// Drops the values that can be neither received nor replayed, and an offer that all have received.
+    /// Drops the values that can be neither received nor replayed, and an offer that no subscriber has still to
+    /// receive.
     fn trim(&mut self, alloc: Global) -> Result<(), AllocError>
         ensures { OnOk result (self.new ≡ trim self.old) }
     {

@@ -49,7 +49,8 @@ abbrev pub TakesNone : Op → Type 0
 TakesNone (op.Take count) = count ≡ 0
 TakesNone _ = ⊥
 
--- the operator is refused on a chain of this depth: as NotPositive if it takes no items, else as TooDeep
+-- the operator is refused with this fault on a chain of this depth, before anything is made: NotPositive if it takes no items, else
+-- TooDeep if the depth with it is over 64
 abbrev pub RefusesDepth : Op → ℕ → ChainFault → Type 0
 RefusesDepth o depth NotPositive = TakesNone o
 RefusesDepth o depth TooDeep = (¬ TakesNone o) × (64 < op_depth o depth)

@@ -30,7 +30,7 @@ node_rest (Source source) = source_rest source
 node_rest (On' p upstream stage) = stage_rest stage (node_rest upstream)
 node_rest (Zip' p left q right pairing) = pairing_rest pairing (node_rest left) (node_rest right)
 
--- the chain has nothing left to emit
+-- the chain is over: each ask answers the end and changes nothing, until it is rewound
 abbrev pub IsNodeOver : Node → Type 0
 IsNodeOver (Source source) = IsSourceOver source
 IsNodeOver (On' p upstream stage) = IsStageOver stage

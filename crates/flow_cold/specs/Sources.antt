@@ -17,7 +17,7 @@ source_rest (List s) = list_run (drop s.at s.items.items)
 source_rest (Range s) = range_rest s
 source_rest (Scripted s) = scripted_run (drop s.at s.entries.items)
 
--- the source has nothing left to emit
+-- the source is over: it has no item or entry left, so each ask answers the end and changes nothing
 abbrev pub IsSourceOver : Source → Type 0
 IsSourceOver (List s) = length s.items.items ≤ s.at
 IsSourceOver (Range s) = range_left s ≡ 0

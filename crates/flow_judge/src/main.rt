@@ -1,6 +1,6 @@
 //! Judges recorded calls of a flow, read from standard input: whether the documented flow may have answered so.
-//! `flow_judge --order` also prints an order of the calls that explains them; `flow_judge --draw [--text]` draws the
-//! calls over time, as SVG or as text.
+//! `flow_judge --order` also prints, for a legal record, an order of the calls that explains them; `flow_judge --draw
+//! [--text]` draws the calls over time, as SVG or as text.
 //!
 //! Statuses: 0 legal, 1 illegal, 2 refused, 3 gave up, 4 out of memory, or a read or a write failed.
 #![tactic(auto)]

@@ -98,7 +98,8 @@ abbrev pub AsksLeft : {A B : Type 0} → Option A → ChainRun A → Asked B →
 AsksLeft (Some x) before result after = after ≡ before
 AsksLeft None before result after = AsksOnce before result after
 
--- a `zip` then asks its right side once, if it has a left item; the first run is the left side's rest, behind the kept item
+-- a `zip` then asks its right side once, if it has a left item and did not fail with `OutOfMemory` before; the first run is the left
+-- side's rest, behind the kept item
 abbrev pub AsksRight : {A B C : Type 0} → ChainRun A → ChainRun B → Asked C → ChainRun B → Type 0
 AsksRight (gives x r) before result after = AsksOnce before result after ⊎ ((result ≡ Fault OutOfMemory) × (after ≡ before))
 AsksRight (pends r) before result after = after ≡ before

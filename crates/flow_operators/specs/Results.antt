@@ -48,7 +48,8 @@ module _ {C A U : Type 0} (rest : C → ChainRun A) where
   abbrev pub results_rest : (U × A → Result U ChainFault) → Results C U → ChainRun U
   results_rest f s = unless_ended s.upstream.ended (scan_rest f s.initial s.last (rest s.upstream.chain))
 
-  -- the last result and the next item, or the answer of the scan if it has no item, whatever function it applies to them
+  -- the last result and the next item, or the answer of the scan in place of them (its initial value is one), whatever function it
+  -- applies to them
   abbrev pub ResultGives : Results C U → Result (U × A) (Asked U) → Results C U → Type 0
   ResultGives old (Ok pair) new =
       (old.upstream.ended ≡ false) × (new.upstream.ended ≡ false)

@@ -53,8 +53,8 @@ pub trait Cold: Drop {
 
     ghost limit: { ℕ };
 
-    /// Whether the chain is over: each ask then answers `End`, and changes nothing. A chain that has ended or failed is
-    /// over.
+    /// Whether the chain is over: each ask then answers `End`, and changes nothing. A chain that has ended or failed
+    /// since it was started is over.
     ghost IsOver: { Self → Type 0 };
 
     /// Whether the chain has answered this end since it was started. It always holds of a chain that does not record

@@ -21,7 +21,7 @@ pub struct Stop {
 /// How many brackets of a text may be open at once.
 const MOST_NESTED: usize = 127;
 
-/// The kind of the last token before a place, which decides what may follow.
+/// The kind of the last token before a place. With the innermost open bracket it decides what may follow.
 #[derive(Clone, Copy)]
 enum Last {
     /// There is no token before the place.

@@ -106,8 +106,8 @@ impl<'a> Text<'a> {
         rest.get(..length).unwrap_or(rest)
     }
 
-    /// Returns the offset of the next key or value, from an offset between two of them, or None if the object, the list
-    /// or the text ends first.
+    /// Returns the offset of the next key or value, from an offset outside of them, or None if the object, the list or
+    /// the text ends first.
     pub fn part_from(self, from: usize) -> Option<usize> {
         for (index, byte) in self.rest(from).iter().enumerate() {
             match *byte {

@@ -36,7 +36,8 @@ fn end_of(call: Option<WrittenCall>) -> u64 {
     }
 }
 
-/// Returns the last of a caller's changes that was over before a moment, or `last` if all were over before it.
+/// Returns the last of a caller's changes that was over before the moment and not before `last` was, or `last` if there
+/// is none.
 fn change_in(calls: &[WrittenCall], moment: u64, last: Option<WrittenCall>) -> Option<WrittenCall> {
     let mut last_end = end_of(last);
     let mut last = last;

@@ -16,7 +16,8 @@ pub enum Form {
 /// The most calls in a picture.
 const MOST_CALLS: usize = 1000;
 
-/// The number of calls that are over at the end of a picture without a conflict.
+/// A picture without a conflict ends at the moment by which this many calls are over, or with the record if fewer calls
+/// end.
 const MOST_OVER: usize = 30;
 
 /// A call in a picture, and the columns in which it begins and ends.

@@ -18,7 +18,7 @@ fn finds_when_a_read_goes_wrong(rt: HostRuntime) -> Result<(), AllocError> {
     Ok(())
 }
 
-/// The `set` may not have happened before it ended.
+/// A `set` that has not ended may not have happened yet, so a read that overlaps it may return the old value.
 #[test]
 fn finds_nothing_wrong(rt: HostRuntime) -> Result<(), AllocError> {
     let set = call(Set(1), Done, 0, 6);

@@ -14,7 +14,8 @@ use std::thread::{Threads, join, yield_now};
 /// The least number of races.
 const LEAST_RACES: u32 = 100;
 
-/// The greatest number of races. They end earlier once each of the two calls has been first.
+/// The greatest number of races. They end earlier if each of the two calls has been first, but not before the least
+/// number.
 const MOST_RACES: u32 = 10_000;
 
 /// Waits until the other thread has begun. In every fourth run it then yields, so that the other thread can be first.
@@ -99,7 +100,8 @@ fn race<R: Threads + Wait + Abort + Sync>(rt: &R, alloc: Global, run: u32, room:
     }
 }
 
-/// Races the two calls until each of them has been first.
+/// Races the two calls more than `LEAST_RACES` times, and until each of them has been first. Ends the test if one was
+/// first in all `MOST_RACES` races.
 fn race_often<R: Threads + Wait + Abort + Sync>(rt: &R, alloc: Global, room: u32) {
     let mut cancelled_first = 0u32;
     for run in 0..MOST_RACES {

@@ -1,4 +1,4 @@
-//! Waits whose requests for memory are refused, one in each run. A thread without memory for its waker yields and tries
+//! Waits whose requests for memory are refused, each in turn. A thread without memory for its waker yields and tries
 //! again, so the wait returns the same as with memory.
 use crate::compare::compare;
 use crate::flows::{new_reader, new_state_reader};
@@ -17,7 +17,7 @@ fn a_millisecond() -> Duration {
     Duration::from_millis(1)
 }
 
-/// Sends a value, and once more if it is refused. Returns whether it was taken.
+/// Sends a value, and once more if it is refused. Returns how the last call ended, or None if it is refused again.
 fn send_again<R: Wait + Clock, A: Allocator + Copy>(
     rt: &R,
     emitter: &mut Emitter<'_, i64, A>,

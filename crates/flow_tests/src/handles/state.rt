@@ -129,7 +129,7 @@ pub static WAITS: &[&[Call]] = &[
         WaitInTime(0, 10, None),
         Next(None),
     ],
-    // Like `withTimeoutOrNull`: null if no value was set in time, and otherwise the value.
+    // Like `withTimeoutOrNull`: null if no value that is waited for is there in time, and otherwise the value.
     &[
         ChangedInTime(1, Some(7)),
         ChangedInTime(1, None),

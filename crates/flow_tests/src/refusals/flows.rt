@@ -59,7 +59,8 @@ static EXAMPLES: &[(Example, &[usize])] = &[
         },
         &[0, 3, 4, 5, 6, 7],
     ),
-    // A subscriber receives its own first values before the replay cache. They are moved, so they are never refused.
+    // A subscriber receives its own first values before the replay cache, and they are never dropped. They are moved,
+    // so they are never refused.
     (
         Example {
             kind: Shared(DROPPING),

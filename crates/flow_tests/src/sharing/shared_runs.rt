@@ -70,7 +70,8 @@ impl CountedStop {
         is_right && self.sleeps(rt)
     }
 
-    /// Subscribes, receives the items, and drops the reader. Returns whether the run slept between them.
+    /// Subscribes, receives the items, and drops the reader. Returns whether it received the right items, and the run
+    /// slept before each of them and after the last one.
     fn sleeps_beside_reader<R: Wait + Clock + Abort>(
         &self,
         rt: &R,
