@@ -1,5 +1,5 @@
--- How long an emission waits. Key facts: `moves_on` (each received value advances a subscriber), `waited_keeps` (the emitted
--- values and those ahead of a queued emission never grow together), `admits` (the law).
+-- How long an emission waits. Key facts: `moves_on` (each received value advances a subscriber), `waited_keeps` (the number of
+-- emitted values plus that of the values ahead of a queued emission never grows), `admits` (the law).
 use Rattle.std.proofs.Common.{inl, inr, ◌≡◌, ℕ, suc, ◌+◌, ◌-◌, ◌≤◌, ◌<◌, Bool, true, false, not, ◌==◌, cond, List, [], ◌∷◌, ◌++◌, length, map, Some, refl, sym, ap, ◌∙◌, subst, arith, append_assoc, append-nil, length-append, ne_eqb}
 use Rattle.std.specs.Prelude.{filter, nat_le, IsSome}
 use Rattle.std.specs.List.{list_any, slice_get}

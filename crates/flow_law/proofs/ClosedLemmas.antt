@@ -1,4 +1,5 @@
--- In a closed history each event is one of the tokens', and what they did is all that was done.
+-- If the tokens are all tokens of the flow, then in a closed history each event is one of the tokens', and what they did is all that
+-- was done.
 use Rattle.std.proofs.Common.{◌≡◌, ℕ, ◌+◌, ◌≤◌, ◌<◌, inl, inr, true, false, IsTrue, eqb, cond, suc, List, [], ◌∷◌, ◌++◌, length, refl, sym, ap, ◌∙◌, subst, arith, append_assoc, append-nil}
 use Rattle.std.specs.List.{AllByRecursion}
 use Rattle.std.proofs.lemmas.List.{append_cancel_left}

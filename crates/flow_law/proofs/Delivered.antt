@@ -17,7 +17,7 @@ use Rattle.flow_law.proofs.Sound.{Sound, sound_keeps, opened_sound, always_sound
 use Rattle.flow_law.proofs.Boxes.{Boxed, admit_subscribers}
 use Rattle.flow_law.proofs.Steps.{event_good}
 
--- a flow whose strategy drops values has a buffer
+-- a flow that drops the oldest values has a buffer
 usable_from : (o : Overflow) (c : ℕ) → ((c == 0) && not (needs_no_buffer o)) ≡ false → o ≡ DropOldest → 0 < c
 usable_from Suspend c e f = absurd (cc)
 usable_from DropLatest c e f = absurd (cc)

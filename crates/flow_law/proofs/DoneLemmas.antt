@@ -136,7 +136,7 @@ module _ {E : Type 0} where
     names = names_left k.name k.made h later.seen y (subst (λ (n : List ℕ). NamesOnlyMade n k.made later.seen) same.name (subst (λ (m : ℕ). NamesOnlyMade later.name m later.seen) same.made names));
   }
 
-  -- a history that accounts for a token accounts for it before, if the token has done nothing since
+  -- if the token has done nothing since, a history that accounts for what it knows now also accounts for what it knew before
   pub accounts_before : (h : List (HistoryEvent E)) (old k : Knowledge E) → Made [] old k → Accounts h k → Accounts h old
   accounts_before h old k same a = record {
     done = ap (λ (n : List ℕ). said_by n h) (sym same.name) ∙ a.done ∙ same.done ∙ append-nil (done_by old);

@@ -1,4 +1,4 @@
--- An emission of a shared flow that waits keeps waiting, until the first that waits is a later one.
+-- An emission of a shared flow that waits keeps waiting until it is cancelled, or no emission up to it waits any more.
 use Rattle.std.proofs.Common.{inl, inr, ◌≡◌, ◌≢◌, ◌⊎◌, ℕ, suc, ◌+◌, ◌-◌, ◌<◌, ◌≤◌, Bool, true, false, ◌==◌, ◌&&◌, ◌||◌, cond, List, [], ◌∷◌, ◌++◌, length, map, filter, not, Option, Some, None, refl, sym, ap, ◌∙◌, subst, arith, eq-eqb}
 use Rattle.std.specs.Prelude.{IsSome, IsSomeAnd, nat_le, max, slice_get}
 use Rattle.std.specs.List.{list_any}

@@ -13,13 +13,13 @@ use Rattle.flow_law.specs.SharedFlow.{SharedFlowState}
 use Rattle.flow_law.specs.SharedHistory.{History, IsLegal, state_after}
 
 module _ {T : Type 0} where
-  -- the value that the flow accepted by this call, if it accepted one
+  -- the value that a call gave to the flow, if its reply says that the flow took it (under `DropLatest` the flow may have dropped it)
   abbrev pub accepted_by : SharedCall T → SharedReply T → List T
   accepted_by (call.TryEmit v) (reply.Tested true) = v ∷ []
   accepted_by (call.Emit v) (reply.Emitted e) = v ∷ []
   accepted_by _ _ = []
 
-  -- the values that the flow accepted by these calls, in order
+  -- the values that these calls gave to the flow, in order
   abbrev pub accepted : List (Said (SharedCall T) (SharedReply T)) → List T
   accepted = flat_map (λ (e : Said (SharedCall T) (SharedReply T)). accepted_by e.call e.reply)
 

@@ -69,6 +69,7 @@ module _ {E : Type 0} where
   AreNumbered name n (k ∷ ks) =
       ((k.name ≡ child_name name (suc n)) × (k.made ≡ 0)) × AreNumbered name (suc n) ks
 
--- the law: in a closed history each event is one of the tokens', and what they did is all that was done
+-- the law: if the tokens are all tokens of the flow, then in a closed history each event is one of the tokens', and what they did is
+-- all that was done
 abbrev pub LawClosed : Type 0 → Type 0
 LawClosed E = (ks : List (Knowledge E)) (h : List (HistoryEvent E)) → AreAll ks → IsClosed h ks → IsAllDone h ks

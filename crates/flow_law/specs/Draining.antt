@@ -1,5 +1,6 @@
 -- Draining: repeated calls of `next`, whose values are appended to a list. `Nexts` is what one `next` does, as its contract says.
--- Begin with `DrainsBy`: the values are those of that many calls in a row, and so is the state after them.
+-- Begin with `DrainsBy`: the values are what that many calls of `next` in a row gave, and at most one more call, which gave no value,
+-- came after them.
 use Rattle.std.specs.Prelude.{◌≡◌, ◌↔◌, ◌⊎◌, ℕ, ◌≤◌, List, ◌++◌, length, Vec, Result, Ok, Err}
 use Rattle.std.specs.List.{FoldsTo}
 use Rattle.std.specs.Vec.{vec_len, vec_capacity}

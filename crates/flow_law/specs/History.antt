@@ -42,7 +42,8 @@ pub record Kind (T S C R : Type 0) : Type 1 where
   pub Replies : S → C → R → Type 0
   -- the state after this call with this reply
   pub after : S → C → R → S
-  -- the number that a call issues by its reply, and its owner; the first argument is the caller's name
+  -- the number that a token is given by this call and this reply, and that token's name, if one is given; the first argument is the
+  -- caller's name
   pub gives : List ℕ → C → R → Option Owner
   -- the number that a call names, if it names one
   pub speaks_of : C → Option Number

@@ -33,7 +33,8 @@ module _ {T : Type 0} where
   arrive room box [] = box
   arrive room box (v ∷ vs) = arrive room (keep_last room (box ++ v ∷ [])) vs
 
-  -- the mailbox after one more value was taken; the arguments are what was taken, what is left of the own values, and the box
+  -- the mailbox after a `next`, which takes one more value if there is one; the arguments are what was taken, what is left of the own
+  -- values, and the box
   abbrev pub take_first : List T → List T → List T → Mailbox T
   take_first taken (v ∷ own) box = record { taken = taken ++ v ∷ []; own = own; box = box }
   take_first taken [] [] = record { taken = taken; own = []; box = [] }

@@ -89,7 +89,7 @@ module _ {T : Type 0} where
 
   -- ---- lag
 
-  -- how many values the flow's buffer holds
+  -- how many values the flow's buffer may hold
   abbrev pub capacity : SharedFlowState T → ℕ
   capacity s = s.config.replay + s.config.extra
 

@@ -76,7 +76,8 @@ module _ {T : Type 0} where
   abbrev pub after : SharedFlowState T → SharedCall T → SharedReply T → SharedFlowState T
   after s c r = if is_refused r then s else (answer_to c s).after
 
-  -- the number that a call issues, and its owner: the subscription owns the subscriber's number, the caller that of a waiting emission
+  -- the number that a token is given by a call, if one is: the subscription owns the subscriber's number, the caller that of a waiting
+  -- emission
   abbrev pub gives : List ℕ → SharedCall T → SharedReply T → Option Owner
   gives name (call.Subscribe given first) (reply.Subscribed u) = Some (record { number = subscriber u; name = given })
   gives name (call.Emit v) (reply.Emitted (Queued e)) = Some (record { number = emission e; name = name })

@@ -95,7 +95,7 @@ module _ {T : Type 0} where
 
 -- ---- a turn
 
--- a turn over a flow that answers by `reply` and does not run out of memory
+-- a turn over a flow that answers by `reply`, if neither the flow nor the chain runs out of memory
 abbrev pub flow_turn : {T F : Type 0} → ((c : HubCall T) → F → After (HubAnswer c) F) → Started → ℕ → List SharingObservation → SharingState T → ChainAndHub T F → After (Turned T) (ChainAndHub T F)
 flow_turn reply started now seen s both = plays (call_reply reply) (turn_steps started now seen s) both
 

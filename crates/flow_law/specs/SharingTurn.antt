@@ -23,9 +23,9 @@ pub record SharingState (T : Type 0) : Type 0 where
   pub kept : Option T
   -- whether it runs, by the last observation
   pub runs : Bool
-  -- a stop has not yet cancelled the hub's emission
+  -- there was a stop, and the hub's emission is still to be cancelled since
   pub cancel_due : Bool
-  -- a stop and its expiry have not yet reset the flow
+  -- a stop and its expiry came, and the flow is still to be reset since
   pub reset_due : Bool
   -- the chain has ended normally since the last start
   pub completed : Bool

@@ -26,7 +26,7 @@ module _ {T S C R : Type 0} (kind : Kind T S C R) where
 
   -- what a kind of flow defines, and is proved to have, so that its callers may sleep
   pub record Sleeping : Type 1 where
-    -- how many values subscribers could have seen so far
+    -- a count of values that subscribers could have seen so far; it may stay 0 if each new value is a set (`is_set`)
     pub mark : S → ℕ
     -- the call sets the value that all subscribers see
     pub is_set : C → R → Bool

@@ -92,8 +92,8 @@ module _ {T H : Type 0} (does : (c : HubCall T) → H → HubAnswer c → H → 
   OutcomeMeans before accepted (Err Ended) t new = ⊥
   OutcomeMeans before accepted (Err (Backwards last)) t new = ⊥
 
-  -- What a turn's answer means, if the hub had accepted these items since the last start. A fault has no command, so the turn may or
-  -- may not have started the chain.
+  -- What a turn's answer means, if the hub had accepted these items since the last start. A fault has no command, so a turn with a
+  -- fault of the chain or of the flow may or may not have started the chain.
   abbrev pub TurnMeans : List T → SharingState T → ChainAndHub T H → Result Report ShareFault → SharingState T → ChainAndHub T H → Type 0
   TurnMeans accepted s old (Ok report) t new =
       OutcomeMeans (rest_at report.command old) (since_start report.command accepted) (Ok report.event) t new

@@ -47,7 +47,8 @@ module _ {T : Type 0} where
         (added : List (Said (StateCall T) (StateReply T)))
         × Made added before after × OnlyUpdates added × (updates added ≡ n)
 
--- the law: if the tokens changed the value only by updates with g, it is g applied to the first value once for each of their updates
+-- the law: if these are all tokens, the history is closed, and they changed the value only by updates with g, the value is g applied
+-- to the first value once for each of their updates
 abbrev pub LawUpdated : Type 0 → Type 0
 LawUpdated T =
     (g : T → T) (first : StateFlowState T)

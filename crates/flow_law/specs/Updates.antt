@@ -29,7 +29,7 @@ module _ {Id T : Type 0} (first : StateFlowState T) (Gives : T → T → Type 0)
     none_lost : {t : StateToken Id T} → LosesRounds t t
     one_lost : {s t u : StateToken Id T} {x y : T} → LosesRounds s t → IsRound false t x y u → LosesRounds s u
 
-  -- some rounds failed, and then one succeeded, in which the token read x and the function answered y
+  -- any number of rounds failed (perhaps none), and then one succeeded, in which the token read x and the function answered y
   pub record Updates (before : StateToken Id T) (x y : T) (after : StateToken Id T) : Type 0 where
     pub between : StateToken Id T
     pub lost : LosesRounds before between
@@ -54,7 +54,7 @@ module _ {Id T : Type 0} (first : StateFlowState T) where
   abbrev pub ReadsInVain : (T → Type 0) → StateToken Id T → StateToken Id T → Type 0
   ReadsInVain Stops before after = CallsIn state_flow first before GetValue (Refused fault.OutOfMemory) after ⊎ ((x : T) × CallsIn state_flow first before GetValue (Got x) after × Stops x)
 
-  -- some rounds failed, and then the update stopped at a read: nothing was set
+  -- any number of rounds failed (perhaps none), and then the update stopped at a read: nothing was set
   pub record StopsAt (Gives : T → T → Type 0) (Stops : T → Type 0) (before after : StateToken Id T) : Type 0 where
     pub between : StateToken Id T
     pub lost : LosesRounds first Gives before between

@@ -26,7 +26,7 @@ pub struct Busy;
 #[error("a state flow's replay cache cannot be reset")]
 pub struct Unsupported;
 
-/// Why an `emit` or a `subscribe` fails: a call that needs a number.
+/// Why a call that takes a number and memory fails: an `emit` or a `subscribe`.
 #[derive(Clone, Copy, Debug, PartialEq, Eq, Error)]
 pub enum NumberError {
     #[error("out of memory")]

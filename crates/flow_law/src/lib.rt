@@ -1,8 +1,8 @@
 //! The types, definitions and laws of flows.
 //!
 //! The code here makes configurations and errors, and copies, compares and packs values. `specs/` defines shared flows,
-//! state flows and chains, their histories, and the states that a core stands for. The other crates are proved against
-//! these definitions.
+//! state flows and chains, their histories, and the states that a core stands for. The crates that build on this one and
+//! speak of flows are proved against these definitions.
 #![tactic(auto)]
 
 mod call;

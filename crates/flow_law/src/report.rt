@@ -13,7 +13,7 @@ pub enum Event {
     Busy,
     /// The sharing is not running.
     Idle,
-    /// The flow accepted an item, and its emission is done.
+    /// The flow took an item (under `DropLatest` it may have dropped it), and its emission is done.
     Put,
     /// The flow accepted an item, and its emission waits for subscribers.
     Queued,
