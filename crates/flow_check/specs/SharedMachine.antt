@@ -49,7 +49,7 @@ most_lag (Some lag ∷ lags) = max lag (most_lag lags)
 abbrev pub no_values : {C : Type 0} → List C → List (List ℕ)
 no_values = map (λ _. [])
 
--- how many values the flow's buffer holds
+-- how many values the flow's buffer may hold
 abbrev pub capacity : Kept → ℕ
 capacity s = s.config.replay + s.config.extra
 

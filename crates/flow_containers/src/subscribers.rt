@@ -110,7 +110,7 @@ impl<T: Drop, A: Allocator> Subscribers<T, A> {
         self.counts.add();
     }
 
-    /// Records that a value was emitted. A subscriber that was a whole window behind loses its oldest value.
+    /// Records that a value was emitted. A subscriber that was a whole window behind loses the oldest value of the window.
     pub fn add_dropping(&mut self)
         requires full { self.old.window ≤ self.old.emitted }
         requires room { self.old.emitted + 1 < 2 ^ 64 }

@@ -87,7 +87,7 @@ module _ {T : Type 0} where
   Replies s c (Refused OutOfMemory) = MayNeedMemory s c
   Replies s c r = IsReply s c r
 
-  -- the number that a call issues, and its owner: the subscription owns the subscriber's number
+  -- the number that a token is given by a call, if one is: the subscription owns the subscriber's number
   abbrev pub gives : List ℕ → StateCall T → StateReply T → Option Owner
   gives name (Subscribe given) (Subscribed u) = Some (record { number = subscriber u; name = given })
   gives name _ _ = None

@@ -52,7 +52,7 @@ pub struct StateFlowState<T> {
 /// A documented shared flow into which a sharing emits.
 pub struct EmittingFlow<T> {
     pub flow: SharedFlowState<T>,
-    /// The number of the sharing's emission, if it waited at the last poll.
+    /// The number of the sharing's emission, if it waited at the last put or poll.
     pub waiting: Option<u64>,
 }
 

@@ -10,7 +10,7 @@ use std::alloc::{Allocator, Global};
 #[derive(Drop)]
 pub struct CoreHub<T: FlowValue, A: Allocator + Copy = Global> {
     pub(crate) core: SharedCore<T, A>,
-    /// The number of the sharing's emission, if it waited at the last poll.
+    /// The number of the sharing's emission, if it waited at the last put or poll.
     pub(crate) emission: Option<u64>,
 }
 

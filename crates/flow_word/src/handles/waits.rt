@@ -130,8 +130,8 @@ impl<'a, T: Packed + Drop> WordReader<'a, T> {
     }
 
     /// Waits until the current value passes a test, and returns it. The current value is tested at once, even if the
-    /// subscriber received it before. The subscriber receives all tested values, as by `changed`, which does not return
-    /// them again.
+    /// subscriber received it before. The subscriber has then received all tested values, as by `changed`, which does not
+    /// return them again.
     ///
     /// # Source
     /// `StateFlow.first { }`.
