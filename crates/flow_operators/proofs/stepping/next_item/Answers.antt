@@ -2,9 +2,6 @@ use Rattle.std.proofs.Common.{arith}
 use Rattle.std.proofs.lemmas.Grind.{common_steps}
 use Rattle.flow_operators.proofs.stepping.next_item.Goals as goal
 
-pub loop-item-preserved : goal.loop-item-preserved
-loop-item-preserved g c = grind (arith, common_steps)
-
 pub returns-in-Item : goal.returns-in-Item
 returns-in-Item g c = grind (arith, common_steps)
 

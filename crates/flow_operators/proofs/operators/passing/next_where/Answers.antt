@@ -22,26 +22,16 @@ loop-item-preserved g c = record {
       grind (arith, common_steps);
 }
 
-pub returns-in_err-item : goal.returns-in_err-item
-returns-in_err-item g c = grind (arith, common_steps)
+pub returns-then-passes-wanted-clause-gives : goal.returns-then-passes-wanted-clause-gives
+returns-then-passes-wanted-clause-gives g c = λ m p r d.
+    let passes = c.passes.ensures p d in
+    let rest = c.loop-item.invariant.rest m p r d in
+    let gives = c.in_ok-item.ensures.gives m (c.loop-item.invariant.reads m r) in
+    grind (arith, common_steps)
 
-pub returns-then-passes-wanted : goal.returns-then-passes-wanted
-returns-then-passes-wanted g c = record {
-  callable = grind (arith, common_steps);
-  reads = grind (arith, common_steps);
-  whole = grind (arith, common_steps);
-  gives = λ m p r d.
-      let passes = c.passes.ensures p d in
-      let rest = c.loop-item.invariant.rest m p r d in
-      let gives = c.in_ok-item.ensures.gives m (c.loop-item.invariant.reads m r) in
-      grind (arith, common_steps);
-  behind = λ running m p r d.
-      let passes = c.passes.ensures p d in
-      let behind = c.loop-item.invariant.behind m p r d in
-      let gives = c.in_ok-item.ensures.behind (λ e. running (sym c.loop-item.invariant.ended ∙ e)) m (c.loop-item.invariant.reads m r) in
-      grind (arith, common_steps);
-  fewer = grind (arith, common_steps);
-  pends = grind (arith, common_steps);
-  over = grind (arith, common_steps);
-  end = grind (arith, common_steps);
-}
+pub returns-then-passes-wanted-clause-behind : goal.returns-then-passes-wanted-clause-behind
+returns-then-passes-wanted-clause-behind g c = λ running m p r d.
+    let passes = c.passes.ensures p d in
+    let behind = c.loop-item.invariant.behind m p r d in
+    let gives = c.in_ok-item.ensures.behind (λ e. running (sym c.loop-item.invariant.ended ∙ e)) m (c.loop-item.invariant.reads m r) in
+    grind (arith, common_steps)

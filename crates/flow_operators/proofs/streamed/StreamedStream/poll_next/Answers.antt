@@ -3,9 +3,6 @@ use Rattle.std.proofs.lemmas.Grind.{common_steps}
 use Rattle.flow_operators.proofs.StreamLemmas.{streams_fault}
 use Rattle.flow_operators.proofs.streamed.StreamedStream.poll_next.Goals as goal
 
-pub returns-then-self : goal.returns-then-self
-returns-then-self g c = grind (arith, common_steps)
-
 pub returns-in-Item : goal.returns-in-Item
 returns-in-Item g c = grind (arith, common_steps)
 

@@ -16,18 +16,14 @@ returns-in-Item g c = record {
   end = grind (arith, common_steps);
 }
 
-pub returns-in-Pending : goal.returns-in-Pending
-returns-in-Pending g c = record {
-  callable = grind (arith, common_steps);
-  reads = λ m r. ((c.loop-item.invariant.reads m.0.0 r.0.0, c.in-Pending.ensures.reads m.0.1 (c.loop-item.invariant.inner_reads m.0.1 m.1 r.0.1 r.1)), c.loop-item.invariant.computes m.0.1 m.1 r.1);
-  whole = grind (arith, common_steps);
-  gives = λ m r. grind (arith, common_steps, c.loop-item.invariant.rest m.0.0 m.0.1 m.1 r.0.0 r.0.1 r.1, c.in-Pending.ensures.gives m.0.1 (c.loop-item.invariant.inner_reads m.0.1 m.1 r.0.1 r.1));
-  fewer = grind (arith, common_steps);
-  over = grind (arith, common_steps);
-  answered = grind (arith, common_steps);
-  behind = λ running m r. grind (arith, common_steps, c.loop-item.invariant.behind m.0.0 m.0.1 m.1 r.0.0 r.0.1 r.1, c.in-Pending.ensures.gives m.0.1 (c.loop-item.invariant.inner_reads m.0.1 m.1 r.0.1 r.1));
-  end = grind (arith, common_steps);
-}
+pub returns-in-Pending-clause-reads : goal.returns-in-Pending-clause-reads
+returns-in-Pending-clause-reads g c = λ m r. ((c.loop-item.invariant.reads m.0.0 r.0.0, c.in-Pending.ensures.reads m.0.1 (c.loop-item.invariant.inner_reads m.0.1 m.1 r.0.1 r.1)), c.loop-item.invariant.computes m.0.1 m.1 r.1)
+
+pub returns-in-Pending-clause-gives : goal.returns-in-Pending-clause-gives
+returns-in-Pending-clause-gives g c = λ m r. grind (arith, common_steps, c.loop-item.invariant.rest m.0.0 m.0.1 m.1 r.0.0 r.0.1 r.1, c.in-Pending.ensures.gives m.0.1 (c.loop-item.invariant.inner_reads m.0.1 m.1 r.0.1 r.1))
+
+pub returns-in-Pending-clause-behind : goal.returns-in-Pending-clause-behind
+returns-in-Pending-clause-behind g c = λ running m r. grind (arith, common_steps, c.loop-item.invariant.behind m.0.0 m.0.1 m.1 r.0.0 r.0.1 r.1, c.in-Pending.ensures.gives m.0.1 (c.loop-item.invariant.inner_reads m.0.1 m.1 r.0.1 r.1))
 
 pub returns-in-Fault : goal.returns-in-Fault
 returns-in-Fault g c = record {

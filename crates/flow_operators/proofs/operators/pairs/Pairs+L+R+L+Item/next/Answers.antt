@@ -10,12 +10,3 @@ returns-in-End g c = grind (arith, common_steps)
 
 pub returns-in-Fault : goal.returns-in-Fault
 returns-in-Fault g c = grind (arith, common_steps)
-
-pub returns-then-self : goal.returns-then-self
-returns-then-self g c = grind (arith, common_steps)
-
-pub returns-in_err-left-in-None : goal.returns-in_err-left-in-None
-returns-in_err-left-in-None g c = grind (arith, common_steps)
-
-pub returns-in-Item : goal.returns-in-Item
-returns-in-Item g c = grind (arith, common_steps)

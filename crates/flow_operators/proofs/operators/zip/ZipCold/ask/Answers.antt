@@ -15,15 +15,5 @@ returns-in-Ok g c = record {
   end = grind (arith, common_steps);
 }
 
-pub returns-in-Err : goal.returns-in-Err
-returns-in-Err g c = record {
-  callable = grind (arith, common_steps);
-  reads = grind (arith, common_steps);
-  whole = grind (arith, common_steps);
-  gives = grind (arith, common_steps);
-  fewer = grind (arith, common_steps);
-  over = grind (arith, common_steps);
-  answered = grind (arith, common_steps);
-  behind = λ running m r. c.in-Err.ensures.behind running m.0.0 m.0.1 r.0.0 r.0.1;
-  end = grind (arith, common_steps);
-}
+pub returns-in-Err-clause-behind : goal.returns-in-Err-clause-behind
+returns-in-Err-clause-behind g c = λ running m r. c.in-Err.ensures.behind running m.0.0 m.0.1 r.0.0 r.0.1
