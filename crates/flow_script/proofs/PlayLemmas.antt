@@ -2,7 +2,7 @@
 use Rattle.std.proofs.Common.{◌≡◌, ℤ, Result, Ok, Err, OnOk, Global, List, [], ◌∷◌, length, refl, ap, ◌∙◌, arith}
 use Rattle.std.specs.Prelude.{IfOk}
 use Rattle.flow_script.specs.declared.answer.Answer.{Answer as Given}
-use Rattle.flow_script.specs.Answers.{answer_of, not_allowed}
+use Rattle.flow_script.specs.Answers.{answer_of, no_flow}
 use Rattle.flow_script.specs.ScriptMeaning.{shared, state, share, state_in, state_turn, player_turn, player_subscribes_with}
 use Rattle.flow_script.specs.Shown.{Follows}
 use Rattle.flow_script.specs.Players.{Shows}
@@ -51,9 +51,9 @@ hub-follows step old new n m answer follows same p shows =
       did.2,
     )
 
--- a subscription with first values on a flow that does not allow it changes nothing
+-- a subscription with first values on a flow that does not have it changes nothing
 pub others-follow : (first : List ℤ) (player : KeptPlayer) (n : Kept) (answer : Given) → ((core : SharedCore ℤ Global) → player ≡ Shared core → ⊥)
-    → answer_of answer ≡ not_allowed → Follows Shows (player_subscribes_with first) player player n n answer
+    → answer_of answer ≡ no_flow → Follows Shows (player_subscribes_with first) player player n n answer
 others-follow first (Shared core) n answer other is p shows = absurd (other core refl)
 others-follow first (State core) n answer other is (shared s) shows = absurd shows
 others-follow first (State core) n answer other is (state s) shows = (shows, refl, is)

@@ -44,10 +44,8 @@ pub data Answer : Type 0 where
   -- the items of a chain, and how it ended
   collected : List ℤ → End → Answer
   not_built : ChainFault → Answer
-  -- the flow was refused when it was made
+  -- The flow was refused when it was made. A flow that does not have the step answers this, too, but no script that is read has such a step
   no_flow : Answer
-  -- the flow does not allow the step. No script that is read has such a step
-  not_allowed : Answer
 
 -- the answer to a call of a shared flow, by its reply
 abbrev pub shared_answer : SharedCall ℤ → SharedReply ℤ → Answer
@@ -102,4 +100,3 @@ answer_of (given.TurnRefused fault) = turn_refused fault
 answer_of (given.Collected values end) = collected values.items end
 answer_of (given.NotBuilt fault) = not_built fault
 answer_of given.NoFlow = no_flow
-answer_of given.NotAllowed = not_allowed

@@ -10,7 +10,7 @@ use Rattle.flow_law.specs.History.{Kind}
 use Rattle.flow_law.specs.Lawful.{number_in}
 use Rattle.script_format.specs.declared.script.FlowStep.{FlowStep}
 use Rattle.script_format.specs.declared.script.FlowStep.TheVariants as step
-use Rattle.flow_script.specs.Answers.{Answer, waits, tested, received, subscribed, not_allowed}
+use Rattle.flow_script.specs.Answers.{Answer, waits, tested, received, subscribed, no_flow}
 use Rattle.flow_script.specs.Answers as told
 use Rattle.flow_script.specs.Memory.{IsToldFlowFault}
 use Rattle.flow_script.specs.Numbers.{Numbers, number_at, with_emission, with_subscriber}
@@ -21,13 +21,17 @@ pub record Turn (P : Type 0) : Type 0 where
   pub after : P
   pub numbers : Numbers
 
+-- a turn on a part of something, as a turn on the whole
+abbrev pub as_part : {P W : Type 0} → (P → W) → Turn P → Turn W
+as_part whole t = record { answer = t.answer; after = whole t.after; numbers = t.numbers }
+
 -- The answer of a step that makes no call. An emission that was done at once or refused does not wait; a refused subscription is gone
 abbrev pub answer_without_call : FlowStep → Answer
 answer_without_call (step.Poll place) = waits false
 answer_without_call (step.Next place) = received Gone
 answer_without_call (step.Cancel place) = tested false
 answer_without_call (step.Unsubscribe place) = tested false
-answer_without_call _ = not_allowed
+answer_without_call _ = no_flow
 
 -- a step that makes no call, and changes nothing
 abbrev pub without_call : {P : Type 0} → FlowStep → P → Numbers → Turn P

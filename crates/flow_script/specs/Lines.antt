@@ -135,7 +135,6 @@ line_of (answer.turn_refused fault) = share_fault_text fault
 line_of (answer.collected values end) = list_text values ++ end_text end
 line_of (answer.not_built fault) = codes "refused " ++ chain_fault_text fault
 line_of answer.no_flow = codes "no flow"
-line_of answer.not_allowed = codes "not allowed"
 
 -- the lines of some answers, one after the other
 abbrev pub lines_of : List Answer → List ℕ

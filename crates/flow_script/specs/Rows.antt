@@ -9,7 +9,7 @@ use Rattle.flow_script.specs.declared.answer.Answer.{Answer as Given}
 use Rattle.flow_script.specs.declared.answer.Told.{Told}
 use Rattle.flow_script.specs.Answers.{answer_of}
 use Rattle.flow_script.specs.Players.{Shows}
-use Rattle.flow_script.specs.ScriptMeaning.{Answers, NotMade, Play, PlayedFlow, RowTurn, after_refusals, answers_from, answers_of, only_steps, place_turn, player_of, with_flow}
+use Rattle.flow_script.specs.ScriptMeaning.{Answers, NotMade, Play, PlayedFlow, StepResult, after_refusals, answers_from, answers_of, only_steps, place_turn, player_of, with_flow}
 use Rattle.flow_script.specs.Said.{said_of}
 use Rattle.flow_script.specs.Shown.{numbers_of}
 
@@ -34,7 +34,7 @@ FollowsPlace play old new answer =
     ShowsPlace new (place_turn play place).after × (answer_of answer ≡ (place_turn play place).answer)
 
 -- a step is played on a row of flows, with this answer
-abbrev pub FollowsRow : (List (Option PlayedFlow) → RowTurn) → List (Option Kept) → List (Option Kept) → Given → Type 0
+abbrev pub FollowsRow : (List (Option PlayedFlow) → StepResult (List (Option PlayedFlow))) → List (Option Kept) → List (Option Kept) → Given → Type 0
 FollowsRow step old new answer =
     (row : List (Option PlayedFlow)) → ShowsRow old row →
     ShowsRow new (step row).after × (answer_of answer ≡ (step row).answer)

@@ -22,7 +22,7 @@ use Rattle.flow_law.specs.SharingFlows.{shared_reply, state_reply}
 use Rattle.flow_law.specs.StateFlow.{first_state_flow, state_flow}
 use Rattle.script_format.specs.declared.script.FlowStep.{FlowStep}
 use Rattle.script_format.specs.declared.script.FlowStep.TheVariants as step
-use Rattle.flow_script.specs.FlowMeaning.{Turn, flow_turn, without_call}
+use Rattle.flow_script.specs.FlowMeaning.{Turn, as_part, flow_turn, without_call}
 use Rattle.flow_script.specs.Numbers.{Numbers, no_numbers}
 use Rattle.flow_script.specs.SharedMeaning.{plays_shared, subscribes_with}
 use Rattle.flow_script.specs.SharingMeaning.{SharingPlay, first_sharing, beside_emission, beside_initial, sharing_step}
@@ -39,10 +39,6 @@ pub data Player : Type 0 where
 
 -- ---- steps
 
--- a turn on a flow of one kind, as a turn on any
-abbrev pub played_as : {P : Type 0} → (P → Player) → Turn P → Turn Player
-played_as player t = record { answer = t.answer; after = player t.after; numbers = t.numbers }
-
 -- a step on a shared flow
 abbrev pub shared_turn : FlowStep → SharedFlowState ℤ → Numbers → Turn (SharedFlowState ℤ)
 shared_turn = flow_turn shared_flow plays_shared
@@ -53,17 +49,15 @@ state_turn = flow_turn state_flow plays_state
 
 -- a step on a flow of any kind
 abbrev pub player_turn : FlowStep → Player → Numbers → Turn Player
-player_turn step (shared s) n = played_as shared (shared_turn step s n)
-player_turn step (state s) n = played_as state (state_turn step s n)
-player_turn step (share p) n = played_as share (sharing_step (beside_emission shared_turn) shared_reply step p n)
-player_turn step (state_in p) n = played_as state_in (sharing_step (beside_initial state_turn) state_reply step p n)
+player_turn step (shared s) n = as_part shared (shared_turn step s n)
+player_turn step (state s) n = as_part state (state_turn step s n)
+player_turn step (share p) n = as_part share (sharing_step (beside_emission shared_turn) shared_reply step p n)
+player_turn step (state_in p) n = as_part state_in (sharing_step (beside_initial state_turn) state_reply step p n)
 
--- a subscription with first values of its own; only a shared flow into which no chain is shared allows it
+-- a subscription with first values of its own; only a shared flow into which no chain is shared has it
 abbrev pub player_subscribes_with : List ℤ → Player → Numbers → Turn Player
-player_subscribes_with first (shared s) n = played_as shared (subscribes_with first s n)
-player_subscribes_with first (state s) n = without_call step.Subscribe (state s) n
-player_subscribes_with first (share p) n = without_call step.Subscribe (share p) n
-player_subscribes_with first (state_in p) n = without_call step.Subscribe (state_in p) n
+player_subscribes_with first (shared s) n = as_part shared (subscribes_with first s n)
+player_subscribes_with first other n = without_call step.Subscribe other n
 
 -- ---- rows of flows
 
@@ -80,35 +74,30 @@ first_played p = record { player = p; numbers = no_numbers }
 abbrev pub Play : Type 0
 Play = Player → Numbers → Turn Player
 
--- a step's answer, and what is at its place afterwards: nothing if the flow was refused when it was made
-pub record PlaceTurn : Type 0 where
+-- a step's answer, and what it leaves
+pub record StepResult (A : Type 0) : Type 0 where
   pub answer : Answer
-  pub after : Option PlayedFlow
+  pub after : A
 
--- a step on what is at a place
-abbrev pub place_turn : Play → Option PlayedFlow → PlaceTurn
+-- a step on what is at a place: nothing if the flow was refused when it was made
+abbrev pub place_turn : Play → Option PlayedFlow → StepResult (Option PlayedFlow)
 place_turn play None = record { answer = no_flow; after = None }
 place_turn play (Some flow) =
     let t = play flow.player flow.numbers in
     record { answer = t.answer; after = Some (record { player = t.after; numbers = t.numbers }) }
-
--- a step's answer, and the row afterwards
-pub record RowTurn : Type 0 where
-  pub answer : Answer
-  pub after : List (Option PlayedFlow)
 
 -- the flow at a place, if it was made
 abbrev pub flow_at : ℕ → List (Option PlayedFlow) → Option PlayedFlow
 flow_at place row = option_and_then (λ flow. flow) (slice_get row place)
 
 -- a step on the flow at a place; it leaves all other places as they were
-abbrev pub turn_at : ℕ → Play → List (Option PlayedFlow) → RowTurn
+abbrev pub turn_at : ℕ → Play → List (Option PlayedFlow) → StepResult (List (Option PlayedFlow))
 turn_at place play row =
     let t = place_turn play (flow_at place row) in
     record { answer = t.answer; after = slice_set row place t.after }
 
 -- a step of a script; a collection acts on no flow
-abbrev pub turn : Action → List (Option PlayedFlow) → RowTurn
+abbrev pub turn : Action → List (Option PlayedFlow) → StepResult (List (Option PlayedFlow))
 turn (on_flow place step) row = turn_at place (player_turn step) row
 turn (subscribe_with place first) row = turn_at place (player_subscribes_with first) row
 turn (collect build) row = record { answer = collection_answer build; after = row }

@@ -32,10 +32,9 @@ pub enum Answer {
     Collected(Vec<i64>, End),
     /// Why a chain could not be built.
     NotBuilt(ChainFault),
-    /// The flow was refused when it was made.
+    /// The flow was refused when it was made. A flow that does not have the step answers this, too, but no script that
+    /// was read has such a step.
     NoFlow,
-    /// The flow does not allow the step. No script that was read has such a step.
-    NotAllowed,
 }
 
 /// A flow that was refused when it was made.

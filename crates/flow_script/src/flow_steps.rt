@@ -20,7 +20,7 @@ pub fn answer_without_call(step: FlowStep) -> Answer
         FlowStep::Poll(_) => Answer::Waits(false),
         FlowStep::Next(_) => Answer::Received(Next::Gone),
         FlowStep::Cancel(_) | FlowStep::Unsubscribe(_) => Answer::Tested(false),
-        _ => Answer::NotAllowed,
+        _ => Answer::NoFlow,
     }
 }
 

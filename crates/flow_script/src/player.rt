@@ -95,8 +95,8 @@ impl Player {
         }
     }
 
-    /// Subscribes with first values of the subscriber's own. Only a shared flow into which no chain is shared allows
-    /// this.
+    /// Subscribes with first values of the subscriber's own. Only a shared flow into which no chain is shared has this
+    /// step.
     pub fn subscribe_with(
         &mut self,
         numbers: &mut Numbers,

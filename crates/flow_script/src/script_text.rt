@@ -36,7 +36,6 @@ pub fn add_answer(text: &mut String, answer: &Answer) -> Result<(), AllocError>
         Answer::Collected(items, end) => add_collected(text, items.as_slice(), *end),
         Answer::NotBuilt(fault) => add_with_chain_fault(text, "refused ", *fault),
         Answer::NoFlow => add_line(text, "no flow"),
-        Answer::NotAllowed => add_line(text, "not allowed"),
     }
 }
 

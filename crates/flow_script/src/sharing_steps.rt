@@ -1,12 +1,10 @@
 //! The steps of a script on a shared chain, for both kinds of flow.
 ghost use Rattle.std.specs.Prelude.{◌≡◌, IfOk, IfErr};
-ghost use Rattle.flow_script.specs.SharingMeaning.{turn_at, sharing_step as documented_step};
-ghost use Rattle.flow_script.specs.SharingMeaning as meaning;
+ghost use Rattle.flow_script.specs.SharingMeaning.{beside_sharing, turn_at, sharing_step as documented_step};
 ghost use Rattle.flow_script.specs.Shown.{Follows};
 ghost use Rattle.flow_script.specs.Sharings.{ShowsSharing};
 
 use crate::answer::Answer;
-use crate::flow_steps::answer_without_call;
 use crate::numbers::Numbers;
 use crate::refusal::turn_refusal;
 use crate::script_hub::ScriptHub;
@@ -30,36 +28,17 @@ fn turn<H: ScriptHub>(
     }
 }
 
-/// Returns whether a step only reads the flow. A flow into which a chain is shared allows no other steps, except turns.
-fn is_reading(step: FlowStep) -> bool
-    ensures { result ≡ meaning.is_reading step }
-{
-    match step {
-        FlowStep::Subscribe
-        | FlowStep::Next(_)
-        | FlowStep::Unsubscribe(_)
-        | FlowStep::Cache
-        | FlowStep::Count
-        | FlowStep::Value => true,
-        _ => false,
-    }
-}
-
-/// Plays a step other than a turn.
-fn read<H: ScriptHub>(
+/// Plays a step on the flow into which the chain is shared.
+fn step_on_flow<H: ScriptHub>(
     sharing: &mut Sharing<ScriptChain, H>,
     numbers: &mut Numbers,
     step: FlowStep,
 ) -> Result<Answer, ScriptFault>
-    ensures plays { IfOk result (Follows (ShowsSharing H.stands) (meaning.reading H.flow step)
+    ensures plays { IfOk result (Follows (ShowsSharing H.stands) (beside_sharing H.flow step)
         sharing.old sharing.new numbers.old numbers.new) }
     ensures fault { IfErr result (λ fault. fault ≡ ScriptFault.OutOfMemory) }
 {
-    if is_reading(step) {
-        sharing.hub_mut().step(numbers, step)
-    } else {
-        Ok(answer_without_call(step))
-    }
+    sharing.hub_mut().step(numbers, step)
 }
 
 /// Plays a step on a shared chain.
@@ -75,6 +54,6 @@ pub fn sharing_step<H: ScriptHub>(
 {
     match step {
         FlowStep::Turn(now) => turn(sharing, numbers, now),
-        other => read(sharing, numbers, other),
+        other => step_on_flow(sharing, numbers, other),
     }
 }

@@ -56,7 +56,7 @@ fn reset(core: &mut StateCore<i64>, numbers: &Numbers) -> Result<Answer, ScriptF
     ensures fault { IfErr result (λ fault. fault ≡ ScriptFault.OutOfMemory) }
 {
     match core.reset_replay_cache() {
-        Ok(()) => Ok(Answer::Set),
+        Ok(()) => unreachable!(),
         Err(fault) => call_refusal(fault),
     }
 }
