@@ -50,6 +50,7 @@ mod transfer;
 mod watched;
 
 pub use answer::{Answer, Answers, NotMade, Seen, Subscriber, Told};
+pub use chain_lines::chain_fault_words;
 pub use losses::{Loss, Losses};
 pub use members::{number_at, text_at};
 pub use playing::{answers_of, lines_of, play, played};

@@ -65,16 +65,16 @@ struct Given<'a> {
 }
 
 impl<'a> Given<'a> {
-    /// Returns what a collection gave, by its answer and its line.
+    /// Returns what a collection gave. If its chain could not be built, its mark has its line.
     fn new(answer: &'a Answer, line: &'a str) -> Self {
         let (items, end) = match answer {
             Answer::Collected(items, End::Completed) => (
                 items.as_slice(),
                 (Sign::Ends, Words::None),
             ),
-            Answer::Collected(items, End::Failed(_)) => (
+            Answer::Collected(items, End::Failed(fault)) => (
                 items.as_slice(),
-                (Sign::Refused, Words::Text(after_items(line))),
+                (Sign::Refused, Words::Failed(*fault)),
             ),
             _ => (&[] as &[i64], (Sign::Refused, Words::Text(line))),
         };
@@ -87,14 +87,6 @@ impl<'a> Given<'a> {
             Some(item) => (Sign::Value, Words::Number(*item)),
             None => self.end,
         }
-    }
-}
-
-/// Returns the words of a collection's line after its items.
-fn after_items(line: &str) -> &str {
-    match line.split_once("] ") {
-        Some((_, end)) => end,
-        None => line,
     }
 }
 

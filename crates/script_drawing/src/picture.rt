@@ -1,5 +1,6 @@
 //! A picture: lanes, and the marks on them, from left to right.
 
+use flow_law::ChainFault;
 use std::alloc::{AllocError, Global};
 
 /// What a mark means.
@@ -36,6 +37,8 @@ pub enum Words<'a> {
     More(u64),
     /// A line or a part of one, of any length.
     Text(&'a str),
+    /// Why a chain failed.
+    Failed(ChainFault),
 }
 
 /// The note beside a mark.

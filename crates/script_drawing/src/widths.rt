@@ -2,6 +2,8 @@
 
 use crate::page::Page;
 use crate::picture::{Label, Lane, Mark, Note, Sign, Words};
+use flow_law::ChainFault;
+use flow_script::chain_fault_words;
 
 /// The least width of the labels before the lanes.
 const LEAST_LABELS: usize = 14;
@@ -99,6 +101,7 @@ pub fn words_width(words: Words<'_>) -> usize {
         }
         Words::More(count) => more_width(count),
         Words::Text(text) => text.len().min(WORDS_WIDTH),
+        Words::Failed(fault) => fault_width(fault),
     }
 }
 
@@ -109,6 +112,31 @@ pub fn add_words(page: &mut Page, words: Words<'_>) {
         Words::Number(number) => page.push_number(number),
         Words::More(count) => add_more(page, count),
         Words::Text(words) => add_cut(page, words, WORDS_WIDTH),
+        Words::Failed(fault) => add_fault(page, fault),
+    }
+}
+
+/// The text before the words of a chain's fault.
+const FAILED: &str = "failed ";
+
+/// Returns how many characters the words of a chain's fault have. They are never cut.
+fn fault_width(fault: ChainFault) -> usize {
+    let (name, number) = chain_fault_words(fault);
+    let width = FAILED.len().saturating_add(name.len());
+    match number {
+        Some(number) => width.saturating_add(number_width(number as u64)).saturating_add(1),
+        None => width,
+    }
+}
+
+/// Adds the words of a chain's fault.
+fn add_fault(page: &mut Page, fault: ChainFault) {
+    let (name, number) = chain_fault_words(fault);
+    page.push_str(FAILED);
+    page.push_str(name);
+    if let Some(number) = number {
+        page.push(' ');
+        page.push_number(number);
     }
 }
 

@@ -1,7 +1,8 @@
 //! Explanations of scripts: of the faults and answers that no script leads to, and of one of each kind that a script
 //! does lead to.
 use crate::program::Host;
-use flow_script::{Answer, ScriptFault, Seen, Told};
+use flow_law::ChainFault;
+use flow_script::{Answer, ScriptFault, Seen, Told, chain_fault_words};
 use script_explain::{explain_refusal, rules_of};
 use serde_json::Value;
 
@@ -103,4 +104,10 @@ fn an_answer_has_its_rule(rt: HostRuntime) {
     for (script, step, test, rule) in RULES {
         expect_rule(&rt, script, step, *test, rule);
     }
+}
+
+#[test]
+fn a_fault_of_a_source_has_its_number(rt: HostRuntime) {
+    let words = chain_fault_words(ChainFault::Source(7));
+    assert_eq!(rt; words, ("4 Source", Some(7)));
 }
