@@ -68,7 +68,7 @@ pub const LEGEND: &str = "\
 <rect class=\"m c1\" x=\"8\" y=\"70\" width=\"26\" height=\"26\" rx=\"13\"/>
 <text class=\"n k\" x=\"21\" y=\"88\">1</text>
 <text class=\"h\" x=\"37\" y=\"78\">+2</text>
-<text class=\"h\" x=\"56\" y=\"87\">2 more are there to receive</text>
+<text class=\"h\" x=\"56\" y=\"87\">2 more values to receive</text>
 <rect class=\"m c0\" x=\"235\" y=\"70\" width=\"31\" height=\"26\" rx=\"13\"/>
 <text class=\"n k\" x=\"250\" y=\"88\">+1</text>
 <text class=\"h\" x=\"272\" y=\"87\">a waiting value got in</text>

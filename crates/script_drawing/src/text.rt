@@ -18,7 +18,7 @@ use std::alloc::{AllocError, Global};
 const LEGEND: &str = "\
 (3) taken by the flow, or received    ?3 its emitter waits    x3 not taken, cancelled or dropped
  .  nothing there                      | begins, or ends       ! refused
-+2  so many more are there to receive  (+1) a waiting value got in
++2  2 more values to receive          (+1) a waiting value got in
 
 ";
 

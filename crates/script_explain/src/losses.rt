@@ -35,7 +35,7 @@ fn write_loss(words: &mut String, loss: Loss<'_, &str>) -> Result<(), AllocError
     for (before, name) in loss.losers.iter().enumerate() {
         add_loser(words, before, name, loss.value)?;
     }
-    words.push_str(" had still to receive")
+    words.push_str(" had not received yet")
 }
 
 impl<'a> KnownFlow<'a> {

@@ -20,7 +20,7 @@ pub fn tested_rule(answer: &Answer, if_true: &'static str, if_false: &'static st
 pub fn exhausted_rule(fault: FlowFault) -> &'static str {
     match fault {
         FlowFault::Exhausted => {
-            "refused: as many numbers are taken as the flow's limit says, and nothing has changed"
+            "refused: the flow has given out as many numbers as its limit allows, and nothing has changed"
         }
         _ => "",
     }
@@ -53,7 +53,7 @@ pub fn next_rule(answer: &Answer, value: &'static str, empty: &'static str) -> &
 /// Returns the rule of a `count`.
 pub fn count_rule(answer: &Answer) -> &'static str {
     match answer {
-        Answer::Counted(_) => "how many subscribers there are; at first there is none",
+        Answer::Counted(_) => "how many subscribers there are; at first there are none",
         _ => "",
     }
 }

@@ -27,7 +27,7 @@ fn has_buffer(flow: &Value) -> bool {
 fn taken_rule(flow: &Value) -> &'static str {
     match text_at(flow, "overflow") {
         "drop_oldest" => ROOM,
-        "drop_latest" => "taken, or dropped where a subscriber has a whole buffer still to receive",
+        "drop_latest" => "taken, or dropped if a subscriber still has a full buffer to receive",
         _ if has_buffer(flow) => ROOM,
         _ => "taken: there is no subscriber for whom the emitter would wait",
     }
@@ -49,7 +49,7 @@ fn try_emit_rule(flow: &Value, answer: &Answer) -> &'static str {
         Answer::Tested(true) => taken_rule(flow),
         Answer::Tested(false) => blocked_rule(
             flow,
-            "blocked: a subscriber has a whole window still to receive",
+            "blocked: a subscriber still has a full buffer to receive",
             "blocked: without a buffer an emitter waits until every subscriber has received the value",
         ),
         Answer::Refused(fault) => exhausted_rule(*fault),
@@ -62,7 +62,7 @@ fn emit_rule(flow: &Value, answer: &Answer) -> &'static str {
     match answer {
         Answer::Queued => blocked_rule(
             flow,
-            "blocked: a subscriber has a whole window still to receive, and the emitter waits in the queue",
+            "blocked: a subscriber still has a full buffer to receive, and the emitter waits in the queue",
             "without a buffer the emitter waits until every subscriber has received the value",
         ),
         Answer::Done => taken_rule(flow),
@@ -111,7 +111,7 @@ fn cache_rule(flow: &Value, step: &str, answer: &Answer) -> &'static str {
     match (step, answer) {
         ("cache", Answer::Cached(values)) => values_rule(flow, values.as_slice()),
         ("reset", Answer::Reset) => {
-            "a reset empties the replay cache for new subscribers; old ones keep what they have still to receive"
+            "a reset empties the replay cache for new subscribers; the others still receive what they have not received yet"
         }
         _ => "",
     }
@@ -125,18 +125,18 @@ pub fn shared_rule(flow: &Value, step: &Value, answer: &Answer) -> &'static str 
         "poll" => poll_rule(answer),
         "cancel" => tested_rule(
             answer,
-            "the emission waited: a queued value is lost, an offered one reaches nobody else",
+            "the emission waited: a queued value is lost, and an offered one goes to no further subscriber",
             "the emission did not wait, so nothing is cancelled",
         ),
         "subscribe" => subscribe_rule(answer, first_values(flow, step)),
         "unsubscribe" => unsubscribe_rule(
             answer,
-            "the subscriber is gone, and emitters who waited for it alone go on",
+            "the subscriber is gone, and emitters that waited only for it go on",
         ),
         "next" => next_rule(
             answer,
-            "the oldest of the values that the subscriber has still to receive",
-            "the subscriber has received all that it is to receive so far",
+            "the oldest value that the subscriber has not received yet",
+            "the subscriber has received everything so far",
         ),
         "count" => count_rule(answer),
         word => cache_rule(flow, word, answer),

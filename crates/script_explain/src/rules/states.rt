@@ -10,7 +10,7 @@ use flow_script::Answer;
 fn value_rule(step: &str, answer: &Answer) -> &'static str {
     match (step, answer) {
         ("set", Answer::Set) => {
-            "the value is the current one now; setting one that is the same does nothing"
+            "the value is now the current one; setting the same value changes nothing"
         }
         ("cache", Answer::Cached(_)) => {
             "the replay cache of a state flow is its current value alone"
@@ -28,12 +28,12 @@ pub fn state_rule(step: &str, answer: &Answer) -> &'static str {
     match step {
         "try_emit" => tested_rule(
             answer,
-            "a state flow always takes a value: it is the current one now",
+            "a state flow always takes a value: it is now the current one",
             "",
         ),
         "compare_and_set" => tested_rule(
             answer,
-            "the current value was the expected one, and the new one is current now",
+            "the current value was the expected one, and the new one is now current",
             "the current value is not the expected one, and stays",
         ),
         "subscribe" => subscribe_rule(

@@ -29,7 +29,7 @@ fn event_rule(flow: &Value, event: Event) -> &'static str {
     match event {
         Event::Put => "a turn puts one item at most: the next one went into the flow",
         Event::Queued => "the item waits in the queue for slow subscribers",
-        Event::Waiting => { "the item of an earlier turn waits still, so the chain is not asked" }
+        Event::Waiting => { "the item of an earlier turn still waits, so the chain is not asked" }
         Event::Pending => "the chain has no item yet",
         Event::Completed => "the chain has ended, which affects no subscriber",
         Event::Idle => idle_rule(flow),
@@ -43,7 +43,7 @@ fn report_rule(flow: &Value, report: &Report) -> &'static str {
         (Command::Start, _) => start_rule(flow),
         (Command::Keep, event) => event_rule(flow, event),
         (Command::Stop, Event::Idle) => {
-            "the stop time has passed without a subscriber: what waits is cancelled, and a kept item dropped"
+            "the stop time has passed without a subscriber: what waits is cancelled, and a kept item is dropped"
         }
         (Command::StopAndReset, Event::Idle) => {
             "the times of stop and expire have passed without a subscriber: the flow forgets what it replays"
@@ -57,7 +57,7 @@ fn refused_turn_rule(fault: &ShareFault) -> &'static str {
     match fault {
         ShareFault::Backwards(_) => "a moment before that of the last turn is refused",
         ShareFault::Ended => "the chain failed in an earlier turn, which ended the sharing",
-        ShareFault::Chain(_) => "a fault of the chain ends the sharing, and is told once",
+        ShareFault::Chain(_) => "a fault of the chain ends the sharing, and only this turn reports it",
         ShareFault::Flow(_) => "the flow refused the item, which is kept and put in the next turn",
     }
 }
@@ -78,7 +78,7 @@ fn end_rule(end: &End) -> &'static str {
             "a collection runs the chain from its beginning, and gives what it emits up to its end"
         }
         End::Failed(ChainFault::Overflow) => {
-            "a result that is no whole number of 64 bits ends the chain, and of its item nothing is given"
+            "a result that does not fit in 64 bits ends the chain, and nothing is given for its item"
         }
         End::Failed(_) => "a fault of the source ends the chain; the items before it are given",
     }
