@@ -7,7 +7,7 @@
 
 use record_judging::{Form, REFUSED, draw_record, judge_record};
 use std::env::args;
-use std::io::{self, Read, Write};
+use std::io::{self, ErrorKind, Read, Write};
 use std::process::ExitCode;
 
 /// Out of memory, or a read or a write failed.
@@ -64,6 +64,11 @@ fn run_program(rt: &HostRuntime) -> io::Result<u8> {
 fn main(rt: HostRuntime) -> ExitCode {
     match run_program(&rt) {
         Ok(status) => ExitCode::from(status),
-        Err(_) => ExitCode::from(FAILED),
+        Err(error) => {
+            if error.kind() == ErrorKind::OutOfMemory {
+                let _ = writeln!(rt.stdout(), "out of memory");
+            }
+            ExitCode::from(FAILED)
+        }
     }
 }

@@ -150,21 +150,21 @@ pub fn judge_record<W: Write>(
 }
 
 /// Draws the calls of a record with this verdict.
-fn draw_verdict<W: Write>(
+fn draw_verdict(
     alloc: Global,
-    out: &mut W,
     sheet: &Sheet,
     verdict: &Verdict,
     form: Form,
-) -> io::Result<u8> {
+) -> io::Result<(Vec<u8>, u8)> {
     let (word, status, conflict) = match verdict {
         Verdict::Legal(_) => ("legal", LEGAL, None),
         Verdict::Illegal => ("illegal", ILLEGAL, Conflict::find(alloc, sheet)?),
         Verdict::GaveUp => ("gave up", GAVE_UP, None),
     };
     let picture = Picture::new(alloc, sheet, conflict)?;
-    write_picture(alloc, out, sheet, &picture, word, form)?;
-    Ok(status)
+    let mut drawn = Vec::new(alloc);
+    write_picture(alloc, &mut drawn, sheet, &picture, word, form)?;
+    Ok((drawn, status))
 }
 
 /// Judges the record of these bytes as `judge_record` does, and draws its calls over time. For an illegal record it
@@ -178,12 +178,13 @@ pub fn draw_record<W: Write>(
     bytes: &[u8],
     form: Form,
 ) -> io::Result<u8> {
-    match judge_bytes(alloc, bytes) {
-        Ok((sheet, verdict)) => draw_verdict(alloc, out, &sheet, &verdict, form),
+    let (words, status) = match judge_bytes(alloc, bytes) {
+        Ok((sheet, verdict)) => draw_verdict(alloc, &sheet, &verdict, form)?,
         Err(unread) => {
             let told = tell_refusal(alloc, bytes, unread, false)?;
-            out.write_all(told.words.as_slice())?;
-            Ok(REFUSED)
+            (told.words, REFUSED)
         }
-    }
+    };
+    out.write_all(words.as_slice())?;
+    Ok(status)
 }
