@@ -135,7 +135,7 @@ module _ {T : Type 0} where
       covers-last core_after after (window_of core.config) moved (omega (arith, need_is core_after after moved, moved.appended, near)) in
       subst (λ (t : SharedFlowState T). Covers (dropped (pushed v (core.issued + 1) (record core { issued = core.issued + 1 }))) (drop_oldest t)) (appended_is core s v stands) kept
 
--- ---- how far behind subscribers are after one more value
+-- ---- the lags of subscribers after one more value
 
 module _ {T A : Type 0} where
   pub near_free : (c : Inside T A) → IsSound c → kept_full (fields_of c) ≡ false

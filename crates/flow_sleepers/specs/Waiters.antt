@@ -4,5 +4,5 @@ use Rattle.flow_sleepers.specs.declared.waiter.ThreadWaiter.{ThreadWaiter}
 use Rattle.flow_sleepers.specs.declared.waiter.Rest.TheVariants as rest
 
 -- the thread has left its waker, or asks again
-abbrev pub IsToldToWait : {A : Type 0} → ThreadWaiter A → Type 0
-IsToldToWait w = w.rest ≢ rest.None
+abbrev pub IsReadyToWait : {A : Type 0} → ThreadWaiter A → Type 0
+IsReadyToWait w = w.rest ≢ rest.None

@@ -1,7 +1,7 @@
 //! The callers that can sleep: a task that is polled, and a thread.
 ghost use Rattle.std.specs.Prelude.{◌≡◌, ◌≢◌, ◌⊎◌, ⊤, IsSome};
 ghost use Rattle.futures.specs.Task.{IsArmed, Keeps};
-ghost use Rattle.flow_sleepers.specs.Waiters.{IsToldToWait};
+ghost use Rattle.flow_sleepers.specs.Waiters.{IsReadyToWait};
 
 use crate::limit::Limit;
 use futures::task::{Context, Poll, Source, Waker};
@@ -176,7 +176,7 @@ impl<A: Allocator + Copy> ThreadWaiter<A> {
 
     /// Sleeps until the waker that was left is dropped, or yields if the thread has to ask again.
     pub fn wait<R: Wait>(&mut self, rt: &R)
-        requires { IsToldToWait self.old }
+        requires { IsReadyToWait self.old }
     {
         self.sleep(rt, None);
     }
@@ -184,7 +184,7 @@ impl<A: Allocator + Copy> ThreadWaiter<A> {
     /// Sleeps as `wait` does, but no longer than the limit allows; it may return early. Returns `false` at once if no
     /// time is left.
     pub fn wait_within<R: Wait + Clock>(&mut self, rt: &R, limit: &Limit) -> bool
-        requires { IsToldToWait self.old }
+        requires { IsReadyToWait self.old }
     {
         let Some(left) = limit.left(rt) else {
             return false;
@@ -195,7 +195,7 @@ impl<A: Allocator + Copy> ThreadWaiter<A> {
 }
 
 impl<A: Allocator + Copy> Waiter<A> for ThreadWaiter<A> {
-    ghost is_armed = { λ w. IsToldToWait w };
+    ghost is_armed = { λ w. IsReadyToWait w };
 
     ghost keeps = { λ old new. ⊤ };
 
@@ -204,7 +204,7 @@ impl<A: Allocator + Copy> Waiter<A> for ThreadWaiter<A> {
     fn leave_waker(&mut self, alloc: A, wakers: &mut Wakers<A>)
         ensures left { (self.new.rest ≡ Rest.Again) ⊎ IsSome wakers.new.thread }
         // The clauses of the trait.
-        ensures armed { IsToldToWait self.new }
+        ensures armed { IsReadyToWait self.new }
         ensures kept { ⊤ }
     {
         if let Rest::Again = self.rest {

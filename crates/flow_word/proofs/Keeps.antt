@@ -108,9 +108,9 @@ module _ (T : Type 0) (packs : ℕ → Type 0) (value_of : ℕ → T) (start : S
           (fits_more h z.knows x.knows.name (said c y ∷ []) xz.0 zx.1 f.0, f.1)
 
   -- and the step proves that call to its caller
-  pub tells_event : (s : St) (r : Rule s) (id : ℕ) (v : V) (cs : List (ℕ × Unit {0})) (c : StateCall T) (y : StateReply T) (got : Option LastGot) → v ≡ only v ∷ [] → get_elem? s.views id ≡ some v
+  pub names_event : (s : St) (r : Rule s) (id : ℕ) (v : V) (cs : List (ℕ × Unit {0})) (c : StateCall T) (y : StateReply T) (got : Option LastGot) → v ≡ only v ∷ [] → get_elem? s.views id ≡ some v
       → Replies (now r.history) c y → MayCall state_flow c (only v).knows.name r.history → Makes value_of (v, cs) c y (after_call (only v) r.history c y got ∷ [], cs)
-  tells_event s r id v cs c y got is at replies may = (
+  names_event s r id v cs c y got is at replies may = (
     record {
       name = refl;
       made = refl;
@@ -150,7 +150,7 @@ module _ (T : Type 0) (packs : ℕ → Type 0) (value_of : ℕ → T) (start : S
         keeps,
         tt,
         makes_event s r id me.0 call.GetValue y (only me.0).subscriber (set s.words 0 found) r.word is at replies tt (set-get_or s.words 0 0 ∙ r.words) r.packed r.value,
-        (subst packs (sym same) r.packed, tells_event s r id me.0 me.1 call.GetValue y (only me.0).subscriber is at replies tt),
+        (subst packs (sym same) r.packed, names_event s r id me.0 me.1 call.GetValue y (only me.0).subscriber is at replies tt),
       )
 
   pub setting : (slots id : ℕ) (me : Me Unit V) (w : ℕ) → me.0 ≡ only me.0 ∷ [] → packs w → Allows Rule slots id me 0 (λ _. w) (sets value_of (step slots 0 w 0 none) me)
@@ -159,7 +159,7 @@ module _ (T : Type 0) (packs : ℕ → Type 0) (value_of : ℕ → T) (start : S
     keeps,
     tt,
     makes_event s r id me.0 (call.Set a) reply.Done (only me.0).subscriber (set s.words 0 w) w is at refl tt (ap (λ (z : List ℕ). set z 0 w) r.words) packed refl,
-    tells_event s r id me.0 me.1 (call.Set a) reply.Done (only me.0).subscriber is at refl tt,
+    names_event s r id me.0 me.1 (call.Set a) reply.Done (only me.0).subscriber is at refl tt,
   )
 
   pub exchanging : ((v w : ℕ) → packs v → packs w → value_of v ≡ value_of w → v ≡ w) → (slots id : ℕ) (me : Me Unit V) (old new : ℕ) → me.0 ≡ only me.0 ∷ [] → packs old → packs new
@@ -173,14 +173,14 @@ module _ (T : Type 0) (packs : ℕ → Type 0) (value_of : ℕ → T) (start : S
         keeps,
         tt,
         makes_event s r id me.0 c (reply.Answered true) got (set s.words 0 new) new is at replies tt (ap (λ (z : List ℕ). set z 0 new) r.words) packed_new refl,
-        tells_event s r id me.0 me.1 c (reply.Answered true) got is at replies tt,
+        names_event s r id me.0 me.1 c (reply.Answered true) got is at replies tt,
       ))
       (λ miss. let replies : Replies f c (reply.Answered false) = inr ((λ e. miss (same ∙ once r.word old r.packed packed_old (r.value ∙ e))), refl) in subst G (sym (ne_eqb found old miss)) (
         after_call (only me.0) r.history c (reply.Answered false) got ∷ [],
         keeps,
         tt,
         makes_event s r id me.0 c (reply.Answered false) got (set s.words 0 found) r.word is at replies tt (set-get_or s.words 0 0 ∙ r.words) r.packed r.value,
-        tells_event s r id me.0 me.1 c (reply.Answered false) got is at replies tt,
+        names_event s r id me.0 me.1 c (reply.Answered false) got is at replies tt,
       )) in
       (flat.0, flat.1, flat.2, flat.3, flat.4)
 
@@ -201,5 +201,5 @@ module _ (T : Type 0) (packs : ℕ → Type 0) (value_of : ℕ → T) (start : S
         keeps,
         tt,
         makes_event s r id me.0 call.SubscriptionCount y got (set s.words 1 found) r.word is at replies tt (set-get_or s.words 1 0 ∙ r.words) r.packed r.value,
-        tells_event s r id me.0 me.1 call.SubscriptionCount y got is at replies tt,
+        names_event s r id me.0 me.1 call.SubscriptionCount y got is at replies tt,
       )

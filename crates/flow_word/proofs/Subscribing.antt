@@ -36,7 +36,7 @@ use Rattle.flow_word.specs.declared.view.Start.{Start}
 use Rattle.flow_word.specs.View.{StateKnowledge, begun, last_got, only}
 use Rattle.flow_word.specs.Rule.{counts, WordHolds}
 use Rattle.flow_word.specs.Steps.{received, value_in, IsPack, HasGot, Makes, reads_by, receives, leaves, finds_room, enters}
-use Rattle.flow_word.proofs.Keeps.{event_by, after_call, started, fits_at, makes_event, tells_event, found_is, still, counted}
+use Rattle.flow_word.proofs.Keeps.{event_by, after_call, started, fits_at, makes_event, names_event, found_is, still, counted}
 
 -- what a subscription knows holds of a history that fits its token
 pub has_grown : {T : Type 0} (packs : ℕ → Type 0) (value_of : ℕ → T) (first : StateFlowState T) (k : StateKnowledge T) (number : ℕ) (last : Option ℕ) (h : StateHistory T) → IsStateHistory first h → Fits h k
@@ -103,7 +103,7 @@ module _ (T : Type 0) (packs : ℕ → Type 0) (value_of : ℕ → T) (start : S
         makes_event T packs value_of start s r id v c (reply.Received y) sub (set s.words 0 found) r.word is at replies given
             (set-get_or s.words 0 0 ∙ (r.words ∙ ap (λ (z : ℕ). r.word ∷ z ∷ []) (sym same))) r.packed (r.value ∙ sym value),
         packed,
-        tells_event T packs value_of start s r id v me.1 c (reply.Received y) sub is at replies given,
+        names_event T packs value_of start s r id v me.1 c (reply.Received y) sub is at replies given,
         refl,
         as_started s r id v _ x.number (Some found) is at (got_then s r v x found (reply.Received y) is_history given got packed),
       )
@@ -176,7 +176,7 @@ module _ (T : Type 0) (packs : ℕ → Type 0) (value_of : ℕ → T) (start : S
         makes_event T packs value_of start s r id v c y (only v).subscriber (set s.words 0 found) r.word is at replies tt (set-get_or s.words 0 0 ∙ r.words) r.packed r.value,
         λ x' has'. let both : Some x ≡ Some x' = sym has ∙ has' in let e : x ≡ x' = cc in (
           subst packs (sym same) r.packed,
-          tells_event T packs value_of start s r id v me.1 c y (only v).subscriber is at replies tt,
+          names_event T packs value_of start s r id v me.1 c y (only v).subscriber is at replies tt,
           has',
           subst (λ (z : LastGot). HasGot packs value_of (begun value_of (only v).start) (after_call T packs value_of start (only v) r.history c y (only v).subscriber).knows z.number z.last) e
               (as_started s r id v _ x.number x.last is at (got_still s r v x y is_history (has_now s r id v x is at old))),
@@ -202,7 +202,7 @@ module _ (T : Type 0) (packs : ℕ → Type 0) (value_of : ℕ → T) (start : S
             (ap (λ (z : List ℕ). set z 1 ((get_or z 1 0 + (2 ^ 64 - 1)) % 2 ^ 64)) r.words ∙ ap (λ (m : ℕ). r.word ∷ m ∷ []) word1) r.packed r.value,
         λ x' has'. let same : Some x ≡ Some x' = sym has ∙ has' in let e : x ≡ x' = cc in
             subst (λ (z : LastGot). Makes value_of me (call.Unsubscribe z.number) y (after_call T packs value_of start (only me.0) r.history c y (Some x) ∷ [], me.1)) e
-            (tells_event T packs value_of start s r id me.0 me.1 c y (Some x) is at replies now_has.given),
+            (names_event T packs value_of start s r id me.0 me.1 c y (Some x) is at replies now_has.given),
       )
 
   issued_is : (f : StateFlowState T) → IsCounted start.limit f → start.limit < 4294967296 → counts f / 4294967296 ≡ f.issued
@@ -223,7 +223,7 @@ module _ (T : Type 0) (packs : ℕ → Type 0) (value_of : ℕ → T) (start : S
         keeps,
         tt,
         makes_event T packs value_of start s r id me.0 c y got (set s.words 1 found) r.word is at replies tt (set-get_or s.words 1 0 ∙ r.words) r.packed r.value,
-        ((λ _. tells_event T packs value_of start s r id me.0 me.1 c y got is at replies tt), λ less. absurd (omega arith)),
+        ((λ _. names_event T packs value_of start s r id me.0 me.1 c y got is at replies tt), λ less. absurd (omega arith)),
       ))
       (λ room. (me.0, keeps, tt, still T packs value_of start s r 1 id me.0 at, ((λ full. absurd (room full)), λ _. (refl, omega arith))))
 
@@ -256,6 +256,6 @@ module _ (T : Type 0) (packs : ℕ → Type 0) (value_of : ℕ → T) (start : S
       let rule : Rule (stepped s 1 new id me.1 w keeps) = makes_event T packs value_of start s r id me.0 c y sub (set s.words 1 new) r.word is at replies tt
       (ap (λ (z : List ℕ). set z 1 new) r.words ∙ ap (λ (z : ℕ). r.word ∷ z ∷ []) word1) r.packed r.value in
       subst G (sym (ap (λ b. either b new found) (eq-eqb found old hit)))
-      (w, keeps, tt, rule, ((λ _. (tells_event T packs value_of start s r id me.0 me.1 c y sub is at replies tt, refl, as_started s r id me.0 _ m None is at has)), λ miss. absurd (miss hit))))
+      (w, keeps, tt, rule, ((λ _. (names_event T packs value_of start s r id me.0 me.1 c y sub is at replies tt, refl, as_started s r id me.0 _ m None is at has)), λ miss. absurd (miss hit))))
       (λ miss. subst G (sym (ap (λ b. either b new found) (ne_eqb found old miss))) (me.0, keeps, tt, still T packs value_of start s r 1 id me.0 at, ((λ hit. absurd (miss hit)), λ _. refl))) in
       (flat.0, flat.1, flat.2, flat.3, flat.4)

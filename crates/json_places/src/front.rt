@@ -11,7 +11,7 @@ pub struct Stop {
     /// The offset, which is the text's end if the text only breaks off.
     pub at: usize,
     /// Whether a message should show the value at the offset before `what`.
-    pub tells_value: bool,
+    pub shows_value: bool,
     /// What is wrong there, in words that follow the value if it is shown.
     pub what: &'static str,
     /// What was expected there, in words.
@@ -156,7 +156,7 @@ fn fault_at(bytes: &[u8], offset: usize) -> Stop {
     if deepest.nesting > MOST_NESTED {
         return Stop {
             at,
-            tells_value: false,
+            shows_value: false,
             what: "the text nests too deep",
             expected: "at most 127 open brackets",
         };
@@ -166,7 +166,7 @@ fn fault_at(bytes: &[u8], offset: usize) -> Stop {
         Err(error) => error.valid_up_to(),
     };
     let (at, front) = front_before(bytes, offset.min(correct));
-    let (tells_value, what, expected) = if at >= bytes.len() {
+    let (shows_value, what, expected) = if at >= bytes.len() {
         (false, "the text ends here", front.expected())
     } else if at == correct {
         (false, "these bytes are no UTF-8", "UTF-8")
@@ -176,7 +176,7 @@ fn fault_at(bytes: &[u8], offset: usize) -> Stop {
     };
     Stop {
         at,
-        tells_value,
+        shows_value,
         what,
         expected,
     }

@@ -88,7 +88,7 @@ fn plain_len(bytes: &[u8]) -> usize {
 }
 
 /// How many bytes of a value messages show.
-const MOST_TOLD: usize = 48;
+const MOST_SHOWN: usize = 48;
 
 impl<'a> Text<'a> {
     /// Returns the bytes from an offset on.
@@ -196,15 +196,15 @@ impl<'a> Text<'a> {
     /// Returns the value that begins at an offset as messages show it, and what follows it. A value of more than 48
     /// bytes is cut, perhaps within a character, and followed by "..". Messages only name an object, a list and the end
     /// of the text.
-    pub fn told(self, at: usize) -> (&'a [u8], &'static str) {
+    pub fn shown(self, at: usize) -> (&'a [u8], &'static str) {
         match self.rest(at).first() {
             None => ("the end of the text".as_bytes(), ""),
             Some(b'{') => ("an object".as_bytes(), ""),
             Some(b'[') => ("a list".as_bytes(), ""),
             Some(_) => {
                 let raw = self.raw(at);
-                match raw.get(..MOST_TOLD) {
-                    Some(told) if raw.len() > MOST_TOLD => (told, ".."),
+                match raw.get(..MOST_SHOWN) {
+                    Some(cut) if raw.len() > MOST_SHOWN => (cut, ".."),
                     _ => (raw, ""),
                 }
             }

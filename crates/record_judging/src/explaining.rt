@@ -57,9 +57,9 @@ impl<'a> Report<'a> {
 
     /// Adds the key or the value that begins here.
     fn add_value(&mut self, at: usize) -> Result<(), AllocError> {
-        let (told, after) = self.text.told(at);
-        let told = String::from_utf8_lossy(self.text.alloc, told)?;
-        self.add(&[told.as_str(), after])
+        let (shown, after) = self.text.shown(at);
+        let shown = String::from_utf8_lossy(self.text.alloc, shown)?;
+        self.add(&[shown.as_str(), after])
     }
 
     fn add_nearest(
@@ -179,7 +179,7 @@ impl<'a> Report<'a> {
             return self.words.push_str("the record is no JSON");
         };
         self.add_place(stop.at, Part::Head)?;
-        if stop.tells_value {
+        if stop.shows_value {
             self.add_value(stop.at)?;
         }
         self.add(&[stop.what, "\n  expected: ", stop.expected])

@@ -99,7 +99,7 @@ fn tell_part(script: Script<'_>, part: u64, fault: ScriptFault, report: &mut Rep
 fn tell_stop(text: Text<'_>, report: &mut Report) -> Looked {
     match not_json(text)? {
         Some(stop) => {
-            if stop.tells_value {
+            if stop.shows_value {
                 report.begin_value(text, stop.at);
             } else {
                 report.begin(text, stop.at);

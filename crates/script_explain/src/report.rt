@@ -114,9 +114,9 @@ impl Report {
     /// Begins with the place and the text of the key or the value at an offset.
     pub fn begin_value(&mut self, text: Text<'_>, at: usize) {
         self.begin(text, at);
-        let (told, after) = text.told(at);
-        match String::from_utf8_lossy(text.alloc, told) {
-            Ok(told) => self.add(&[told.as_str(), after]),
+        let (shown, after) = text.shown(at);
+        match String::from_utf8_lossy(text.alloc, shown) {
+            Ok(shown) => self.add(&[shown.as_str(), after]),
             Err(_) => self.is_out_of_memory = true,
         }
     }

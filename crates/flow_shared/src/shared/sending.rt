@@ -1,6 +1,6 @@
 //! Emissions whose threads sleep while they wait.
 ghost use Rattle.std.specs.Prelude.{◌≡◌, IfErr};
-ghost use Rattle.flow_sleepers.specs.Waiters.{IsToldToWait};
+ghost use Rattle.flow_sleepers.specs.Waiters.{IsReadyToWait};
 ghost use Rattle.flow_shared.specs.EmitFutures.{Ends};
 ghost use Rattle.flow_shared.specs.Sending.{Sends};
 ghost use Rattle.flow_shared.specs.SharedReplies.{Emits, Polls, EmitRefusedIfDue, EmitIsWait, IsEmitFault, IsStillWaiting};
@@ -64,7 +64,7 @@ impl<T: FlowValue, A: Allocator + Copy> Flow<SharedCore<T, A>, A> {
         waiter: &mut ThreadWaiter<A>,
     ) -> Seat<T, A>
         requires flow { emission.token.table_id ≡ self.now.table_id }
-        requires told { IsToldToWait waiter.old }
+        requires told { IsReadyToWait waiter.old }
         ensures ends { Ends self.now emission.number emission.token result }
         ensures flow { result.table_id ≡ self.now.table_id }
     {

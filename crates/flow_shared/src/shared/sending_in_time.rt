@@ -1,6 +1,6 @@
 //! Emissions whose threads sleep while they wait, but no longer than a time limit.
 ghost use Rattle.std.specs.Prelude.{◌≡◌, IfErr};
-ghost use Rattle.flow_sleepers.specs.Waiters.{IsToldToWait};
+ghost use Rattle.flow_sleepers.specs.Waiters.{IsReadyToWait};
 ghost use Rattle.flow_shared.specs.Sending.{EndsBy, EndsInTime, SendsInTime};
 ghost use Rattle.flow_shared.specs.SharedReplies.{IsEmitFault};
 
@@ -39,7 +39,7 @@ impl<T: FlowValue, A: Allocator + Copy> Flow<SharedCore<T, A>, A> {
         limit: &Limit,
     ) -> (Seat<T, A>, SendEnd)
         requires flow { emission.token.table_id ≡ self.now.table_id }
-        requires told { IsToldToWait waiter.old }
+        requires told { IsReadyToWait waiter.old }
         ensures ends { EndsInTime self.now emission.number emission.token result.1 result.0 }
         ensures flow { result.0.table_id ≡ self.now.table_id }
     {

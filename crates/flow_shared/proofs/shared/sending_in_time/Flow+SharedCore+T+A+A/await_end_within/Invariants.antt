@@ -1,9 +1,9 @@
 use Rattle.std.proofs.Common.{◌≡◌}
-use Rattle.flow_sleepers.specs.Waiters.{IsToldToWait}
+use Rattle.flow_sleepers.specs.Waiters.{IsReadyToWait}
 use Rattle.flow_shared.specs.Sending.{FindsWaiting}
 use Rattle.flow_shared.proofs.shared.sending_in_time.Flow+SharedCore+T+A+A.await_end_within.Given as goal
 
 abbrev pub invariant-loop : goal.invariant-loop
 invariant-loop g l = (goal.iterator-loop g).can_next l.iterator' × (goal.iterator-loop g).is_finite l.iterator'
-    × (l.emission.token.table_id ≡ l.fn.self.table_id) × IsToldToWait l.waiter
+    × (l.emission.token.table_id ≡ l.fn.self.table_id) × IsReadyToWait l.waiter
     × (l.emission.number ≡ l.fn.emission.number) × FindsWaiting l.fn.self l.fn.emission.number l.fn.emission.token l.emission.token
