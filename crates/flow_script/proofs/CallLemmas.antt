@@ -1,5 +1,5 @@
 -- A call of a core, as the documented flow's call with its answer.
-use Rattle.std.proofs.Common.{◌≡◌, ℕ, ℤ, List, Option, Some, sym, ap, subst, ◌∙◌}
+use Rattle.std.proofs.Common.{◌≡◌, ℤ, Option, Some, sym, ap, subst, ◌∙◌}
 use Rattle.flow_law.specs.declared.fault.FlowFault.{FlowFault}
 use Rattle.flow_law.specs.History.{Kind}
 use Rattle.flow_law.specs.Standing.{Documents}
