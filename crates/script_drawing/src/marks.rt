@@ -114,9 +114,7 @@ pub fn marks_of(tag: &str, answer: &Answer, goes_on: bool) -> Marks {
         | Answer::Got(_)
         | Answer::Reset
         | Answer::Turned(_) => TOLD,
-        Answer::Refused(_) | Answer::TurnRefused(_) | Answer::NoFlow => {
-            refused_marks(tag)
-        }
+        Answer::Refused(_) | Answer::TurnRefused(_) | Answer::NoFlow => { refused_marks(tag) }
         Answer::Collected(_, _) | Answer::NotBuilt(_) => {
             Marks(None, Named::Untouched, Content::Nothing)
         }

@@ -124,7 +124,9 @@ fn fault_width(fault: ChainFault) -> usize {
     let (name, number) = chain_fault_words(fault);
     let width = FAILED.len().saturating_add(name.len());
     match number {
-        Some(number) => width.saturating_add(number_width(number as u64)).saturating_add(1),
+        Some(number) => width
+            .saturating_add(number_width(number as u64))
+            .saturating_add(1),
         None => width,
     }
 }

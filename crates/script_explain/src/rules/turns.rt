@@ -57,7 +57,8 @@ fn refused_turn_rule(fault: &ShareFault) -> &'static str {
     match fault {
         ShareFault::Backwards(_) => "a moment before that of the last turn is refused",
         ShareFault::Ended => "the chain failed in an earlier turn, which ended the sharing",
-        ShareFault::Chain(_) => "a fault of the chain ends the sharing, and only this turn reports it",
+        ShareFault::Chain(_) =>
+            "a fault of the chain ends the sharing, and only this turn reports it",
         ShareFault::Flow(_) => "the flow refused the item, which is kept and put in the next turn",
     }
 }
