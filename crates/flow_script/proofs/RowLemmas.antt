@@ -58,21 +58,21 @@ pub follows-at : (play : Play) (i : ℕ) (kept : List (Option Kept)) (k new : Op
     → i < length kept → k ≡ get_or kept i k → FollowsPlace play k new answer → FollowsRow (turn_at i play) kept (set kept i new) answer
 follows-at play i kept k new answer here is follows row shows =
     let done = follows (flow_at i row) (shown-at kept row i k shows here is) in
-    (shown-set kept row i new (place_turn play (flow_at i row)).after shows done.0, done.1)
+    (shown-set kept row i new (place_turn play (flow_at i row)).state shows done.0, done.1)
 
 pub follows-past : (play : Play) (i : ℕ) (kept : List (Option Kept)) (answer : Given)
     → length kept ≤ i → answer_of answer ≡ no_flow → FollowsRow (turn_at i play) kept kept answer
 follows-past play i kept answer past is row shows =
-    let over = λ (p : Option PlayedFlow). ShowsRow kept (set row i (place_turn play p).after) × (answer_of answer ≡ (place_turn play p).answer) in
+    let over = λ (p : Option PlayedFlow). ShowsRow kept (set row i (place_turn play p).state) × (answer_of answer ≡ (place_turn play p).result) in
     subst over (sym (none-past kept row i shows past)) (subst (λ r. ShowsRow kept r) (sym (set-past kept row i None shows past)) shows, is)
 
 -- if the answers so far and those of the rest are all answers, so are they after one more step
 pub next_answers : (row : List (Option PlayedFlow)) (step : Step) (before after : List Step) (old new : List Told) (told : Told) (all : List Answer) → before ≡ step ∷ after → new ≡ old ++ told ∷ []
-    → answer_of told.answer ≡ (turn (action_of step) row).answer → map said_of old ++ answers_from row (actions_of before) ≡ all
-    → map said_of new ++ answers_from (turn (action_of step) row).after (actions_of after) ≡ all
+    → answer_of told.answer ≡ (turn (action_of step) row).result → map said_of old ++ answers_from row (actions_of before) ≡ all
+    → map said_of new ++ answers_from (turn (action_of step) row).state (actions_of after) ≡ all
 next_answers row step before after old new told all is pushed answered so_far =
     let t = turn (action_of step) row in
-    let rest = answers_from t.after (actions_of after) in
+    let rest = answers_from t.state (actions_of after) in
     ap (λ l. map said_of l ++ rest) pushed ∙ ap (λ l. l ++ rest) (map-append said_of old (told ∷ [])) ∙ append_assoc (map said_of old) (answer_of told.answer ∷ []) rest
     ∙ ap (λ a. map said_of old ++ (a ∷ rest)) answered ∙ ap (λ l. map said_of old ++ answers_from row (actions_of l)) (sym is) ∙ so_far
 

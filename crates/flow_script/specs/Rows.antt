@@ -2,14 +2,15 @@
 use Rattle.std.specs.Prelude.{◌≡◌, Bool, true, false, List, [], map, Option, Some, None, Vec}
 use Rattle.std.specs.List.{AllZip}
 use Rattle.std.specs.declared.alloc.Global.{Global}
+use Rattle.flow_law.specs.Steps.{After}
 use Rattle.script_format.specs.Actions.{Action}
 use Rattle.script_format.specs.Heads.{NamedHead}
 use Rattle.flow_script.specs.declared.row.PlayedFlow.{PlayedFlow as Kept}
 use Rattle.flow_script.specs.declared.answer.Answer.{Answer as Given}
 use Rattle.flow_script.specs.declared.answer.Told.{Told}
-use Rattle.flow_script.specs.Answers.{answer_of}
+use Rattle.flow_script.specs.Answers.{Answer, answer_of}
 use Rattle.flow_script.specs.Players.{Shows}
-use Rattle.flow_script.specs.ScriptMeaning.{Answers, NotMade, Play, PlayedFlow, StepResult, after_refusals, answers_from, answers_of, only_steps, place_turn, player_of, with_flow}
+use Rattle.flow_script.specs.ScriptMeaning.{Answers, NotMade, Play, PlayedFlow, after_refusals, answers_from, answers_of, only_steps, place_turn, player_of, with_flow}
 use Rattle.flow_script.specs.Said.{said_of}
 use Rattle.flow_script.specs.Shown.{numbers_of}
 
@@ -31,13 +32,13 @@ ShowsRow kept row = AllZip ShowsPlace kept row
 abbrev pub FollowsPlace : Play → Option Kept → Option Kept → Given → Type 0
 FollowsPlace play old new answer =
     (place : Option PlayedFlow) → ShowsPlace old place →
-    ShowsPlace new (place_turn play place).after × (answer_of answer ≡ (place_turn play place).answer)
+    ShowsPlace new (place_turn play place).state × (answer_of answer ≡ (place_turn play place).result)
 
 -- a step is played on a row of flows, with this answer
-abbrev pub FollowsRow : (List (Option PlayedFlow) → StepResult (List (Option PlayedFlow))) → List (Option Kept) → List (Option Kept) → Given → Type 0
+abbrev pub FollowsRow : (List (Option PlayedFlow) → After Answer (List (Option PlayedFlow))) → List (Option Kept) → List (Option Kept) → Given → Type 0
 FollowsRow step old new answer =
     (row : List (Option PlayedFlow)) → ShowsRow old row →
-    ShowsRow new (step row).after × (answer_of answer ≡ (step row).answer)
+    ShowsRow new (step row).state × (answer_of answer ≡ (step row).result)
 
 -- steps are played one after the other, with these answers
 abbrev pub FollowsSteps : List Action → List (Option Kept) → List Told → Type 0

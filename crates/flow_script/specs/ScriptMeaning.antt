@@ -18,6 +18,7 @@ use Rattle.flow_law.specs.declared.states.SharedFlowState.{SharedFlowState}
 use Rattle.flow_law.specs.declared.states.StateFlowState.{StateFlowState}
 use Rattle.flow_law.specs.declared.states.StateAndInitial.{StateAndInitial}
 use Rattle.flow_law.specs.SharedHistory.{shared_flow}
+use Rattle.flow_law.specs.Steps.{After}
 use Rattle.flow_law.specs.SharingFlows.{shared_reply, state_reply}
 use Rattle.flow_law.specs.StateFlow.{first_state_flow, state_flow}
 use Rattle.script_format.specs.declared.script.FlowStep.{FlowStep}
@@ -74,38 +75,33 @@ first_played p = record { player = p; numbers = no_numbers }
 abbrev pub Play : Type 0
 Play = Player → Numbers → Turn Player
 
--- a step's answer, and what it leaves
-pub record StepResult (A : Type 0) : Type 0 where
-  pub answer : Answer
-  pub after : A
-
--- a step on what is at a place: nothing if the flow was refused when it was made
-abbrev pub place_turn : Play → Option PlayedFlow → StepResult (Option PlayedFlow)
-place_turn play None = record { answer = no_flow; after = None }
+-- a step's answer, and what it leaves, on what is at a place: nothing if the flow was refused when it was made
+abbrev pub place_turn : Play → Option PlayedFlow → After Answer (Option PlayedFlow)
+place_turn play None = record { result = no_flow; state = None }
 place_turn play (Some flow) =
     let t = play flow.player flow.numbers in
-    record { answer = t.answer; after = Some (record { player = t.after; numbers = t.numbers }) }
+    record { result = t.answer; state = Some (record { player = t.after; numbers = t.numbers }) }
 
 -- the flow at a place, if it was made
 abbrev pub flow_at : ℕ → List (Option PlayedFlow) → Option PlayedFlow
 flow_at place row = option_and_then (λ flow. flow) (slice_get row place)
 
 -- a step on the flow at a place; it leaves all other places as they were
-abbrev pub turn_at : ℕ → Play → List (Option PlayedFlow) → StepResult (List (Option PlayedFlow))
+abbrev pub turn_at : ℕ → Play → List (Option PlayedFlow) → After Answer (List (Option PlayedFlow))
 turn_at place play row =
     let t = place_turn play (flow_at place row) in
-    record { answer = t.answer; after = slice_set row place t.after }
+    record { result = t.result; state = slice_set row place t.state }
 
 -- a step of a script; a collection acts on no flow
-abbrev pub turn : Action → List (Option PlayedFlow) → StepResult (List (Option PlayedFlow))
+abbrev pub turn : Action → List (Option PlayedFlow) → After Answer (List (Option PlayedFlow))
 turn (on_flow place step) row = turn_at place (player_turn step) row
 turn (subscribe_with place first) row = turn_at place (player_subscribes_with first) row
-turn (collect build) row = record { answer = collection_answer build; after = row }
+turn (collect build) row = record { result = collection_answer build; state = row }
 
 -- the answers of the steps, in order
 abbrev pub answers_from : List (Option PlayedFlow) → List Action → List Answer
 answers_from row [] = []
-answers_from row (action ∷ rest) = (turn action row).answer ∷ answers_from (turn action row).after rest
+answers_from row (action ∷ rest) = (turn action row).result ∷ answers_from (turn action row).state rest
 
 -- ---- scripts
 

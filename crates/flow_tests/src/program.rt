@@ -1,6 +1,7 @@
 //! Whole runs of the program on readers and writers in memory, which give or take little, or fail. `.ci/cases` and
 //! `.ci/hostile` run the built program on the cases of `cases/`, on arguments, on texts that are no script, and on
 //! scripts at each limit and above it.
+use crate::compare::compare_named;
 use flow_program::run;
 use flow_script::Watched;
 use std::alloc::AllocGlobal;
@@ -25,13 +26,13 @@ pub fn expect<H: Host, R: Read + Drop>(rt: &H, name: &str, script: R, status: u8
     let mut input = Watched::new(script);
     let mut output = Watched::new(&mut printed);
     let answered = run(rt, &[], &mut input, &mut output);
-    compare(rt, name, printed.as_slice(), lines);
-    assert_eq!(rt; answered, status, "the status of {name}");
+    compare_bytes(rt, name, printed.as_slice(), lines);
+    compare_named(rt, name, answered, status);
 }
 
 /// Compares what was printed with what is wanted.
-pub fn compare<H: Host>(rt: &H, name: &str, printed: &[u8], wanted: &[u8]) {
+pub fn compare_bytes<'a, H: Host>(rt: &H, name: &str, printed: &'a [u8], wanted: &'a [u8]) {
     let printed = str::from_utf8(printed).unwrap_or("no UTF-8");
     let wanted = str::from_utf8(wanted).unwrap_or("no UTF-8");
-    assert_eq!(rt; printed, wanted, "{name}");
+    compare_named(rt, name, printed, wanted);
 }

@@ -5,7 +5,6 @@ use crate::looks::is_look;
 use crate::order::write_line;
 use crate::written::{Sheet, WrittenCall};
 use std::alloc::{AllocError, Global};
-use std::io::{self, Write};
 
 /// Returns when the first of a caller's calls began that is a needed look or ends at the moment.
 fn begin_in(calls: &[WrittenCall], moment: u64, roles: &Roles) -> u64 {
@@ -109,7 +108,7 @@ impl Conflict {
     }
 
     /// Writes the moment, and the calls that are needed, in the order of their callers.
-    pub fn write<W: Write>(&self, out: &mut W, sheet: &Sheet) -> io::Result<()> {
+    pub fn write(&self, out: &mut String, sheet: &Sheet) -> Result<(), AllocError> {
         let Conflict { moment, from, .. } = self;
         writeln!(
             out,
@@ -121,13 +120,13 @@ impl Conflict {
         Ok(())
     }
 
-    fn write_calls<W: Write>(
+    fn write_calls(
         &self,
-        out: &mut W,
+        out: &mut String,
         sheet: &Sheet,
         caller: usize,
         calls: &[WrittenCall],
-    ) -> io::Result<()> {
+    ) -> Result<(), AllocError> {
         for call in calls {
             if self.needs(*call) {
                 write_line(out, "  ", sheet, caller, *call)?;

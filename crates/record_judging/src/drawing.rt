@@ -4,7 +4,6 @@ use crate::order::write_line;
 use crate::svg::write_svg;
 use crate::written::{Sheet, WrittenCall};
 use std::alloc::{AllocError, Global};
-use std::io::{self, Write};
 
 /// What a picture is made of.
 #[derive(Clone, Copy, Debug)]
@@ -161,7 +160,7 @@ fn column_of(moments: &[u64], moment: u64) -> usize {
 }
 
 /// Writes the line of a call over this many columns: `|---|`, or `|--->` if it is not over.
-fn write_bar<W: Write>(out: &mut W, bar: &Bar, columns: usize) -> io::Result<()> {
+fn write_bar(out: &mut String, bar: &Bar, columns: usize) -> Result<(), AllocError> {
     for column in 0..columns {
         let is_edge = column == bar.from || column == bar.to;
         let is_inside = bar.from <= column && column < bar.to;
@@ -171,25 +170,25 @@ fn write_bar<W: Write>(out: &mut W, bar: &Bar, columns: usize) -> io::Result<()>
             (false, true) => "--",
             (false, false) => "  ",
         };
-        write!(out, "{cell}")?;
+        out.push_str(cell)?;
     }
     let end = if bar.to >= columns { ">" } else { " " };
-    write!(out, "{end}")
+    out.push_str(end)
 }
 
 /// Writes a call after its line over this many columns.
-fn write_row<W: Write>(out: &mut W, sheet: &Sheet, bar: &Bar, columns: usize) -> io::Result<()> {
+fn write_row(out: &mut String, sheet: &Sheet, bar: &Bar, columns: usize) -> Result<(), AllocError> {
     write_bar(out, bar, columns)?;
     let mark = if bar.is_marked { " ! " } else { "   " };
     write_line(out, mark, sheet, bar.caller, bar.call)
 }
 
-fn write_text<W: Write>(
-    out: &mut W,
+fn write_text(
+    out: &mut String,
     sheet: &Sheet,
     picture: &Picture,
     word: &str,
-) -> io::Result<()> {
+) -> Result<(), AllocError> {
     writeln!(out, "{word}")?;
     for bar in picture.bars.as_slice() {
         write_row(out, sheet, bar, picture.moments.len())?;
@@ -198,14 +197,14 @@ fn write_text<W: Write>(
 }
 
 /// Writes a picture of calls; `word` is their verdict.
-pub fn write_picture<W: Write>(
+pub fn write_picture(
     alloc: Global,
-    out: &mut W,
+    out: &mut String,
     sheet: &Sheet,
     picture: &Picture,
     word: &str,
     form: Form,
-) -> io::Result<()> {
+) -> Result<(), AllocError> {
     match form {
         Form::Text => write_text(out, sheet, picture, word),
         Form::Svg => write_svg(alloc, out, sheet, picture, word),

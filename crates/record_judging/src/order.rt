@@ -3,7 +3,6 @@ use crate::judging::parts_of;
 use crate::words::CallWord;
 use crate::written::{Sheet, WrittenAnswer, WrittenCall};
 use std::alloc::{AllocError, Global};
-use std::io::{self, Write};
 
 /// The position of a caller: one of its calls, and a part of that call.
 #[derive(Clone, Copy)]
@@ -48,7 +47,7 @@ pub fn word_of(call: CallWord) -> &'static str {
     }
 }
 
-fn write_answer<W: Write>(out: &mut W, lists: &[u64], call: WrittenCall) -> io::Result<()> {
+fn write_answer(out: &mut String, lists: &[u64], call: WrittenCall) -> Result<(), AllocError> {
     let words = match call.answer {
         None => " (pending)",
         Some(WrittenAnswer::Done) => ": done",
@@ -62,11 +61,11 @@ fn write_answer<W: Write>(out: &mut W, lists: &[u64], call: WrittenCall) -> io::
         Some(WrittenAnswer::Values(range)) => return write!(out, ": {:?}", range.of(lists)),
         Some(WrittenAnswer::Exchange(old, new)) => return write!(out, ": {old} to {new}"),
     };
-    write!(out, "{words}")
+    out.push_str(words)
 }
 
 /// Writes a call with its values and its answer.
-pub fn write_call<W: Write>(out: &mut W, sheet: &Sheet, call: WrittenCall) -> io::Result<()> {
+pub fn write_call(out: &mut String, sheet: &Sheet, call: WrittenCall) -> Result<(), AllocError> {
     let lists = sheet.lists.as_slice();
     let word = word_of(call.call);
     let written = match call.call {
@@ -75,33 +74,33 @@ pub fn write_call<W: Write>(out: &mut W, sheet: &Sheet, call: WrittenCall) -> io
         CallWord::Subscribe if call.first.count > 0 => {
             write!(out, "{word} {:?}", call.first.of(lists))
         }
-        _ => write!(out, "{word}"),
+        _ => out.push_str(word),
     };
     written?;
     write_answer(out, lists, call)
 }
 
 /// Writes these words, the number of a caller's call, the caller, and the call.
-fn write_numbered<W: Write>(
-    out: &mut W,
+fn write_numbered(
+    out: &mut String,
     front: &str,
     sheet: &Sheet,
     caller: usize,
     call: WrittenCall,
-) -> io::Result<()> {
+) -> Result<(), AllocError> {
     let name = sheet.name(caller);
     write!(out, "{front}{}  {name} ", call.number)?;
     write_call(out, sheet, call)
 }
 
 /// Writes a line of these words, the number of a caller's call, the caller, the call, and its moments.
-pub fn write_line<W: Write>(
-    out: &mut W,
+pub fn write_line(
+    out: &mut String,
     front: &str,
     sheet: &Sheet,
     caller: usize,
     call: WrittenCall,
-) -> io::Result<()> {
+) -> Result<(), AllocError> {
     write_numbered(out, front, sheet, caller, call)?;
     match call.end {
         Some(end) => writeln!(out, "  [{}, {end}]", call.begin),
@@ -123,12 +122,12 @@ fn part_words(call: WrittenCall, part: usize) -> &'static str {
 }
 
 /// Writes a turn of this caller, and moves its cursor on.
-fn write_turn<W: Write>(
-    out: &mut W,
+fn write_turn(
+    out: &mut String,
     sheet: &Sheet,
     caller: usize,
     cursor: &mut Cursor,
-) -> io::Result<()> {
+) -> Result<(), AllocError> {
     let Some(call) = cursor.call_in(sheet, caller) else {
         return Ok(());
     };
@@ -139,12 +138,12 @@ fn write_turn<W: Write>(
 }
 
 /// Writes a line for each turn of an order: the number of the call, its caller, and the call.
-pub fn write_order<W: Write>(
+pub fn write_order(
     alloc: Global,
-    out: &mut W,
+    out: &mut String,
     sheet: &Sheet,
     order: &[usize],
-) -> io::Result<()> {
+) -> Result<(), AllocError> {
     let mut cursors = vec![in alloc; Cursor { call: 0, part: 0 }; sheet.names.len()]?;
     for caller in order {
         if let Some(cursor) = cursors.get_mut(*caller) {

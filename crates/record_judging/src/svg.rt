@@ -2,8 +2,7 @@
 use crate::drawing::{Bar, Picture};
 use crate::order::write_call;
 use crate::written::{Sheet, WrittenCall};
-use std::alloc::Global;
-use std::io::{self, Write};
+use std::alloc::{AllocError, Global};
 
 /// The width of a letter.
 const LETTER: usize = 8;
@@ -49,15 +48,15 @@ fn escape_of(letter: char) -> Option<&'static str> {
     }
 }
 
-fn write_letter<W: Write>(out: &mut W, letter: char) -> io::Result<()> {
+fn write_letter(out: &mut String, letter: char) -> Result<(), AllocError> {
     match escape_of(letter) {
-        Some(escape) => write!(out, "{escape}"),
-        None => write!(out, "{letter}"),
+        Some(escape) => out.push_str(escape),
+        None => out.push(letter),
     }
 }
 
 /// Writes text so that it is no markup.
-fn write_escaped<W: Write>(out: &mut W, text: &str) -> io::Result<()> {
+fn write_escaped(out: &mut String, text: &str) -> Result<(), AllocError> {
     for letter in text.chars() {
         write_letter(out, letter)?;
     }
@@ -65,14 +64,14 @@ fn write_escaped<W: Write>(out: &mut W, text: &str) -> io::Result<()> {
 }
 
 /// Writes the words in the bar of a call.
-fn write_words<W: Write>(out: &mut W, sheet: &Sheet, call: WrittenCall) -> io::Result<()> {
+fn write_words(out: &mut String, sheet: &Sheet, call: WrittenCall) -> Result<(), AllocError> {
     write!(out, "{} ", call.number)?;
     write_call(out, sheet, call)
 }
 
 /// Returns how wide the bar of a call has to be.
-fn width_of(alloc: Global, sheet: &Sheet, call: WrittenCall) -> io::Result<usize> {
-    let mut words = Vec::new(alloc);
+fn width_of(alloc: Global, sheet: &Sheet, call: WrittenCall) -> Result<usize, AllocError> {
+    let mut words = String::new(alloc);
     write_words(&mut words, sheet, call)?;
     Ok(words.len().saturating_mul(LETTER).saturating_add(MARGIN))
 }
@@ -90,7 +89,7 @@ struct Columns {
 }
 
 /// Returns how wide each bar has to be.
-fn widths_of(alloc: Global, sheet: &Sheet, picture: &Picture) -> io::Result<Vec<usize>> {
+fn widths_of(alloc: Global, sheet: &Sheet, picture: &Picture) -> Result<Vec<usize>, AllocError> {
     let mut widths = Vec::new(alloc);
     for bar in picture.bars.as_slice() {
         let width = width_of(alloc, sheet, bar.call)?;
@@ -109,7 +108,7 @@ fn left_of(sheet: &Sheet, picture: &Picture) -> usize {
 }
 
 impl Columns {
-    fn new(alloc: Global, sheet: &Sheet, picture: &Picture) -> io::Result<Columns> {
+    fn new(alloc: Global, sheet: &Sheet, picture: &Picture) -> Result<Columns, AllocError> {
         let mut columns = Columns {
             widths: widths_of(alloc, sheet, picture)?,
             edges: Vec::new(alloc),
@@ -151,12 +150,12 @@ fn name_width(sheet: &Sheet, caller: usize) -> usize {
 }
 
 /// Writes a line and a number for each moment.
-fn write_moments<W: Write>(
-    out: &mut W,
+fn write_moments(
+    out: &mut String,
     picture: &Picture,
     columns: &Columns,
     bottom: usize,
-) -> io::Result<()> {
+) -> Result<(), AllocError> {
     for (column, moment) in picture.moments.iter().enumerate() {
         let x = columns.x_of(column);
         writeln!(
@@ -168,21 +167,21 @@ fn write_moments<W: Write>(
     Ok(())
 }
 
-fn write_name<W: Write>(out: &mut W, sheet: &Sheet, bar: &Bar) -> io::Result<()> {
+fn write_name(out: &mut String, sheet: &Sheet, bar: &Bar) -> Result<(), AllocError> {
     let y = y_of(bar.lane).saturating_add(LANE / 2 + 5);
     write!(out, "<text x=\"{MARGIN}\" y=\"{y}\">")?;
     write_escaped(out, sheet.name(bar.caller))?;
-    writeln!(out, "</text>")
+    out.push_str("</text>\n")
 }
 
 /// Writes a box of this width, with the corner of its lane here, and begins the text in it.
-fn write_box<W: Write>(
-    out: &mut W,
+fn write_box(
+    out: &mut String,
     class: &str,
     x: usize,
     y: usize,
     width: usize,
-) -> io::Result<()> {
+) -> Result<(), AllocError> {
     let top = y.saturating_add(5);
     let height = LANE - 10;
     write!(
@@ -194,22 +193,27 @@ fn write_box<W: Write>(
     write!(out, "<text x=\"{left}\" y=\"{bottom}\">")
 }
 
-fn write_bar<W: Write>(out: &mut W, sheet: &Sheet, columns: &Columns, bar: &Bar) -> io::Result<()> {
+fn write_bar(
+    out: &mut String,
+    sheet: &Sheet,
+    columns: &Columns,
+    bar: &Bar,
+) -> Result<(), AllocError> {
     let x = columns.x_of(bar.from);
     let width = columns.x_of(bar.to).saturating_sub(x).max(4);
     let class = if bar.is_marked { "w" } else { "c" };
     write_box(out, class, x, y_of(bar.lane), width)?;
     write_words(out, sheet, bar.call)?;
-    writeln!(out, "</text>")
+    out.push_str("</text>\n")
 }
 
 /// Writes the lane of each caller: its name before its first call, and its calls.
-fn write_lanes<W: Write>(
-    out: &mut W,
+fn write_lanes(
+    out: &mut String,
     sheet: &Sheet,
     picture: &Picture,
     columns: &Columns,
-) -> io::Result<()> {
+) -> Result<(), AllocError> {
     let mut named: usize = 0;
     for bar in picture.bars.as_slice() {
         if bar.lane >= named {
@@ -222,7 +226,7 @@ fn write_lanes<W: Write>(
 }
 
 /// Writes what is around and behind the calls.
-fn write_head<W: Write>(out: &mut W, width: usize, height: usize, word: &str) -> io::Result<()> {
+fn write_head(out: &mut String, width: usize, height: usize, word: &str) -> Result<(), AllocError> {
     writeln!(
         out,
         "<svg xmlns=\"http://www.w3.org/2000/svg\" viewBox=\"0 0 {width} {height}\" width=\"{width}\" height=\"{height}\" role=\"img\">"
@@ -234,18 +238,18 @@ fn write_head<W: Write>(out: &mut W, width: usize, height: usize, word: &str) ->
 }
 
 /// Writes a picture of calls; `word` is their verdict.
-pub fn write_svg<W: Write>(
+pub fn write_svg(
     alloc: Global,
-    out: &mut W,
+    out: &mut String,
     sheet: &Sheet,
     picture: &Picture,
     word: &str,
-) -> io::Result<()> {
+) -> Result<(), AllocError> {
     let columns = Columns::new(alloc, sheet, picture)?;
     let width = columns.right().saturating_add(MARGIN);
     let bottom = y_of(picture.lanes());
     write_head(out, width, bottom.saturating_add(MARGIN), word)?;
     write_moments(out, picture, &columns, bottom)?;
     write_lanes(out, sheet, picture, &columns)?;
-    writeln!(out, "</svg>")
+    out.push_str("</svg>\n")
 }

@@ -1,5 +1,5 @@
 //! The verdict on a record, in words and as a status.
-ghost use Rattle.std.specs.Prelude.{◌≡◌, ◌++◌, IfOk, List, ℕ};
+ghost use Rattle.std.specs.Prelude.{◌≡◌, ◌++◌, IfOk, List, string_bytes, ℕ};
 ghost use Rattle.std.specs.Io.KnownBytes.{Appends};
 ghost use Rattle.record_judging.specs.Verdicts.{TellsVerdict};
 
@@ -30,19 +30,19 @@ const GAVE_UP: u8 = 3;
 /// The words on a record, and the status of a program that writes them.
 #[derive(Drop)]
 struct Told {
-    words: Vec<u8>,
+    words: String,
     status: u8,
 }
 
 impl Told {
     /// Joins two parts of the words.
-    fn new(alloc: Global, front: &str, rest: &[u8], status: u8) -> Result<Told, AllocError>
+    fn new(alloc: Global, front: &str, rest: &str, status: u8) -> Result<Told, AllocError>
         ensures { IfOk result (λ told.
-            (told.words.items ≡ front.now ++ rest.now) × (told.status ≡ status)) }
+            (string_bytes told.words ≡ front.now ++ rest.now) × (told.status ≡ status)) }
     {
-        let mut words = Vec::new(alloc);
-        words.extend_from_slice(front.as_bytes())?;
-        words.extend_from_slice(rest)?;
+        let mut words = String::new(alloc);
+        words.push_str(front)?;
+        words.push_str(rest)?;
         Ok(Told { words, status })
     }
 }
@@ -54,10 +54,10 @@ fn tell_refusal(
     unread: Unread,
     with_order: bool,
 ) -> Result<Told, AllocError>
-    ensures { IfOk result (λ told. TellsVerdict with_order told.status told.words.items) }
+    ensures { IfOk result (λ told. TellsVerdict with_order told.status (string_bytes told.words)) }
 {
     let words = explain(alloc, bytes, unread)?;
-    Told::new(alloc, "refused: ", words.as_bytes(), REFUSED)
+    Told::new(alloc, "refused: ", words.as_str(), REFUSED)
 }
 
 /// Returns the refusal of a record whose call of this number ends or begins too early.
@@ -79,15 +79,20 @@ fn faulty(fault: Fault, number: usize) -> Unread {
 }
 
 /// Returns the words on a legal record, with an order of its calls if `with_order`.
-fn tell_legal(alloc: Global, sheet: &Sheet, order: &[usize], with_order: bool) -> io::Result<Told>
-    ensures { IfOk result (λ told. TellsVerdict with_order told.status told.words.items) }
+fn tell_legal(
+    alloc: Global,
+    sheet: &Sheet,
+    order: &[usize],
+    with_order: bool,
+) -> Result<Told, AllocError>
+    ensures { IfOk result (λ told. TellsVerdict with_order told.status (string_bytes told.words)) }
 {
     if !with_order {
-        return Ok(Told::new(alloc, "legal\n", &[], LEGAL)?);
+        return Told::new(alloc, "legal\n", "", LEGAL);
     }
-    let mut lines = Vec::new(alloc);
+    let mut lines = String::new(alloc);
     write_order(alloc, &mut lines, sheet, order)?;
-    Ok(Told::new(alloc, "legal\n", lines.as_slice(), LEGAL)?)
+    Told::new(alloc, "legal\n", lines.as_str(), LEGAL)
 }
 
 fn tell_verdict(
@@ -95,19 +100,19 @@ fn tell_verdict(
     sheet: &Sheet,
     verdict: &Verdict,
     with_order: bool,
-) -> io::Result<Told>
-    ensures { IfOk result (λ told. TellsVerdict with_order told.status told.words.items) }
+) -> Result<Told, AllocError>
+    ensures { IfOk result (λ told. TellsVerdict with_order told.status (string_bytes told.words)) }
 {
     match verdict {
         Verdict::Legal(order) => tell_legal(alloc, sheet, order.as_slice(), with_order),
         Verdict::Illegal => {
-            let mut lines = Vec::new(alloc);
+            let mut lines = String::new(alloc);
             if let Some(conflict) = Conflict::find(alloc, sheet)? {
                 conflict.write(&mut lines, sheet)?;
             }
-            Ok(Told::new(alloc, "illegal\n", lines.as_slice(), ILLEGAL)?)
+            Told::new(alloc, "illegal\n", lines.as_str(), ILLEGAL)
         }
-        Verdict::GaveUp => Ok(Told::new(alloc, "gave up\n", &[], GAVE_UP)?),
+        Verdict::GaveUp => Told::new(alloc, "gave up\n", "", GAVE_UP),
     }
 }
 
@@ -121,12 +126,12 @@ fn judge_bytes(alloc: Global, bytes: &[u8]) -> Result<(Sheet, Verdict), Unread> 
 }
 
 /// Judges the record of these bytes, and returns the words on it.
-fn tell_record(alloc: Global, bytes: &[u8], with_order: bool) -> io::Result<Told>
-    ensures { IfOk result (λ told. TellsVerdict with_order told.status told.words.items) }
+fn tell_record(alloc: Global, bytes: &[u8], with_order: bool) -> Result<Told, AllocError>
+    ensures { IfOk result (λ told. TellsVerdict with_order told.status (string_bytes told.words)) }
 {
     match judge_bytes(alloc, bytes) {
         Ok((sheet, verdict)) => tell_verdict(alloc, &sheet, &verdict, with_order),
-        Err(unread) => Ok(tell_refusal(alloc, bytes, unread, with_order)?),
+        Err(unread) => tell_refusal(alloc, bytes, unread, with_order),
     }
 }
 
@@ -145,7 +150,7 @@ pub fn judge_record<W: Write>(
         × Appends (W.contents out.old) (W.contents out.new) words) }
 {
     let told = tell_record(alloc, bytes, with_order)?;
-    out.write_all(told.words.as_slice())?;
+    out.write_all(told.words.as_bytes())?;
     Ok(told.status)
 }
 
@@ -155,16 +160,24 @@ fn draw_verdict(
     sheet: &Sheet,
     verdict: &Verdict,
     form: Form,
-) -> io::Result<(Vec<u8>, u8)> {
+) -> Result<Told, AllocError> {
     let (word, status, conflict) = match verdict {
         Verdict::Legal(_) => ("legal", LEGAL, None),
         Verdict::Illegal => ("illegal", ILLEGAL, Conflict::find(alloc, sheet)?),
         Verdict::GaveUp => ("gave up", GAVE_UP, None),
     };
     let picture = Picture::new(alloc, sheet, conflict)?;
-    let mut drawn = Vec::new(alloc);
-    write_picture(alloc, &mut drawn, sheet, &picture, word, form)?;
-    Ok((drawn, status))
+    let mut words = String::new(alloc);
+    write_picture(alloc, &mut words, sheet, &picture, word, form)?;
+    Ok(Told { words, status })
+}
+
+/// Judges the record of these bytes, and draws its calls, or returns the words on why it is refused.
+fn draw_bytes(alloc: Global, bytes: &[u8], form: Form) -> Result<Told, AllocError> {
+    match judge_bytes(alloc, bytes) {
+        Ok((sheet, verdict)) => draw_verdict(alloc, &sheet, &verdict, form),
+        Err(unread) => tell_refusal(alloc, bytes, unread, false),
+    }
 }
 
 /// Judges the record of these bytes as `judge_record` does, and draws its calls over time. For an illegal record it
@@ -178,13 +191,7 @@ pub fn draw_record<W: Write>(
     bytes: &[u8],
     form: Form,
 ) -> io::Result<u8> {
-    let (words, status) = match judge_bytes(alloc, bytes) {
-        Ok((sheet, verdict)) => draw_verdict(alloc, &sheet, &verdict, form)?,
-        Err(unread) => {
-            let told = tell_refusal(alloc, bytes, unread, false)?;
-            (told.words, REFUSED)
-        }
-    };
-    out.write_all(words.as_slice())?;
-    Ok(status)
+    let told = draw_bytes(alloc, bytes, form)?;
+    out.write_all(told.words.as_bytes())?;
+    Ok(told.status)
 }

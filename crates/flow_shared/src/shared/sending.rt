@@ -64,7 +64,7 @@ impl<T: FlowValue, A: Allocator + Copy> Flow<SharedCore<T, A>, A> {
         waiter: &mut ThreadWaiter<A>,
     ) -> Seat<T, A>
         requires flow { emission.token.table_id ≡ self.now.table_id }
-        requires told { IsReadyToWait waiter.old }
+        requires ready { IsReadyToWait waiter.old }
         ensures ends { Ends self.now emission.number emission.token result }
         ensures flow { result.table_id ≡ self.now.table_id }
     {

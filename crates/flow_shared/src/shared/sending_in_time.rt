@@ -39,7 +39,7 @@ impl<T: FlowValue, A: Allocator + Copy> Flow<SharedCore<T, A>, A> {
         limit: &Limit,
     ) -> (Seat<T, A>, SendEnd)
         requires flow { emission.token.table_id ≡ self.now.table_id }
-        requires told { IsReadyToWait waiter.old }
+        requires ready { IsReadyToWait waiter.old }
         ensures ends { EndsInTime self.now emission.number emission.token result.1 result.0 }
         ensures flow { result.0.table_id ≡ self.now.table_id }
     {

@@ -1,4 +1,5 @@
 //! Short ways to write records of state flows, and their outcomes.
+use crate::compare::compare;
 use flow_check::{
     FaultKind, Record, StateAnswer, StateEntry, StateOperation, Timed, Verdict, check_state,
     state_goes_wrong,
@@ -35,15 +36,8 @@ impl Outcome {
 }
 
 /// Compares the outcome of a record with the one that a row of a test wants.
-pub fn expect(
-    rt: &impl Abort,
-    row: usize,
-    found: Result<Outcome, AllocError>,
-    wanted: Outcome,
-) -> Result<(), AllocError> {
-    let found = found?;
-    assert_eq!(rt; found, wanted, "row {row}");
-    Ok(())
+pub fn expect(rt: &impl Abort, row: usize, found: Result<Outcome, AllocError>, wanted: Outcome) {
+    compare(rt, row, found, Ok(wanted));
 }
 
 /// Returns a call that began and ended at these moments.

@@ -1,9 +1,9 @@
 //! Records of state flows. The comments say why a record is legal or illegal.
 use crate::checker::records::Outcome::{BeginsEarly, EndsEarly, GaveUp, Illegal, Legal};
 use crate::checker::records::{Outcome, call, expect, judge, order_of, pending};
+use crate::compare::compare;
 use flow_check::StateAnswer::{Done, Value};
 use flow_check::StateOperation::{Set, Value as Read};
-use std::alloc::AllocError;
 
 const TURNS: u64 = 10_000;
 
@@ -21,7 +21,7 @@ const READS: &[(u64, u64, u64, Outcome)] = &[
 
 /// `value` returns the value that was set last.
 #[test]
-fn judges_reads(rt: HostRuntime) -> Result<(), AllocError> {
+fn judges_reads(rt: HostRuntime) {
     for (place, (end, begin, value, wanted)) in READS.iter().enumerate() {
         let set = call(Set(1), Done, 0, *end);
         let read = call(Read, Value(*value), *begin, 3);
@@ -30,20 +30,18 @@ fn judges_reads(rt: HostRuntime) -> Result<(), AllocError> {
             place,
             judge(rt.alloc(), TURNS, &[&[set], &[read]]),
             *wanted,
-        )?;
+        );
     }
-    Ok(())
 }
 
 /// A `set` that had not ended may or may not have happened yet.
 #[test]
-fn judges_pending_calls(rt: HostRuntime) -> Result<(), AllocError> {
+fn judges_pending_calls(rt: HostRuntime) {
     for value in 0..2 {
         let read = call(Read, Value(value), 2, 3);
         let found = judge(rt.alloc(), TURNS, &[&[pending(Set(1), 0)], &[read]]);
-        expect(&rt, 0, found, Legal)?;
+        expect(&rt, 0, found, Legal);
     }
-    Ok(())
 }
 
 /// The moments at which a caller's first `set` ended, and its second one began and ended, and the outcome.
@@ -55,7 +53,7 @@ const OF_ONE_CALLER: &[(u64, u64, u64, Outcome)] = &[
 
 /// A record is refused if the calls of one caller overlap, or if a call ends before it begins.
 #[test]
-fn refuses_records(rt: HostRuntime) -> Result<(), AllocError> {
+fn refuses_records(rt: HostRuntime) {
     for (place, (first_end, begin, end, wanted)) in OF_ONE_CALLER.iter().enumerate() {
         let first = call(Set(1), Done, 0, *first_end);
         let second = call(Set(2), Done, *begin, *end);
@@ -64,26 +62,22 @@ fn refuses_records(rt: HostRuntime) -> Result<(), AllocError> {
             place,
             judge(rt.alloc(), TURNS, &[&[first, second]]),
             *wanted,
-        )?;
+        );
     }
-    Ok(())
 }
 
 /// A search that may take no turn gives up.
 #[test]
-fn gives_up(rt: HostRuntime) -> Result<(), AllocError> {
+fn gives_up(rt: HostRuntime) {
     let found = judge(rt.alloc(), 0, &[&[call(Set(1), Done, 0, 1)]]);
-    expect(&rt, 0, found, GaveUp)
+    expect(&rt, 0, found, GaveUp);
 }
 
 /// The first read precedes the `set` that it overlaps, and the second read follows it.
 #[test]
-fn gives_the_order(rt: HostRuntime) -> Result<(), AllocError> {
+fn gives_the_order(rt: HostRuntime) {
     let reads = [call(Read, Value(0), 1, 2), call(Read, Value(1), 4, 5)];
-    let order = order_of(rt.alloc(), &[&[call(Set(1), Done, 0, 3)], &reads])?;
-    let Some(order) = order else {
-        panic!(rt; "there is no order");
-    };
-    assert_eq!(rt; order.as_slice(), [1, 0, 1].as_slice());
-    Ok(())
+    let order = order_of(rt.alloc(), &[&[call(Set(1), Done, 0, 3)], &reads]);
+    let order = order.expect(&rt, "memory").expect(&rt, "an order");
+    compare(&rt, 0, order.as_slice(), [1, 0, 1].as_slice());
 }

@@ -1,5 +1,6 @@
 //! Explanations of scripts: of the faults and answers that no script leads to, and of one of each kind that a script
 //! does lead to.
+use crate::compare::{compare, compare_named};
 use crate::program::Host;
 use flow_law::ChainFault;
 use flow_script::{Answer, ScriptFault, Seen, Told, chain_fault_words};
@@ -45,7 +46,7 @@ static REFUSALS: &[(&str, ScriptFault, &str)] = &[
 fn a_refusal_is_told_with_its_place(rt: HostRuntime) {
     for (text, fault, words) in REFUSALS {
         let told = explain_refusal(rt.alloc(), text.as_bytes(), *fault).expect(&rt, "memory");
-        assert_eq!(rt; told.as_str(), *words, "of {text}");
+        compare_named(&rt, text, told.as_str(), *words);
     }
 }
 
@@ -96,7 +97,7 @@ fn expect_rule<H: Host>(rt: &H, script: &str, step: &str, test: bool, rule: &str
     let [found] = rules.as_slice() else {
         panic!(rt; "a rule");
     };
-    assert_eq!(rt; found.as_str(), rule, "the rule of {test}");
+    compare_named(rt, "the rule", found.as_str(), rule);
 }
 
 #[test]
@@ -109,5 +110,5 @@ fn an_answer_has_its_rule(rt: HostRuntime) {
 #[test]
 fn a_fault_of_a_source_has_its_number(rt: HostRuntime) {
     let words = chain_fault_words(ChainFault::Source(7));
-    assert_eq!(rt; words, ("4 Source", Some(7)));
+    compare(&rt, 0, words, ("4 Source", Some(7)));
 }

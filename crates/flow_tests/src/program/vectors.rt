@@ -1,6 +1,7 @@
 //! Plays a script, and one that is refused, and compares what they print, byte for byte.
+use crate::compare::compare_named;
 use crate::program::streams::{LINES, SCRIPT};
-use crate::program::{Host, compare, played};
+use crate::program::{Host, compare_bytes, played};
 use flow_script::{ScriptFault, Watched, play};
 
 /// A script that uses the name of an emission for a subscriber.
@@ -13,8 +14,8 @@ fn plays<H: Host>(rt: &H, script: &str, lines: &str, wanted: Result<(), ScriptFa
     let mut input = Watched::new(script.as_bytes());
     let mut output = Watched::new(&mut printed);
     let answered = play(rt.alloc(), &mut input, &mut output);
-    compare(rt, script, printed.as_slice(), lines.as_bytes());
-    assert_eq!(rt; answered, wanted, "of {script}");
+    compare_bytes(rt, script, printed.as_slice(), lines.as_bytes());
+    compare_named(rt, script, answered, wanted);
 }
 
 #[test]
@@ -26,8 +27,6 @@ fn a_script_prints_its_lines_or_is_refused(rt: HostRuntime) {
 #[test]
 fn a_program_plays_a_script_of_its_own(rt: HostRuntime) {
     let lines = played::lines(rt.alloc()).expect(&rt, "lines");
-    assert_eq!(rt;
-        lines.as_str(),
-        "true\nsubscribed\ntrue\nvalue 10\nvalue 20\nempty\n"
-    );
+    let wanted = "true\nsubscribed\ntrue\nvalue 10\nvalue 20\nempty\n";
+    compare_named(&rt, "the lines", lines.as_str(), wanted);
 }

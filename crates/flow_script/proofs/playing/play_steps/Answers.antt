@@ -19,7 +19,7 @@ loop-step-preserved c = λ first shows.
     let before = c.loop-step.invariant first shows in
     let step = c.in-Some.step in
     let done = c.in_ok-seen_step.ensures.plays before.0 before.1 in
-    ((turn (action_of step) before.0).after, done.0, next_answers before.0 step _ _ _ _ _ _ c.in-Some.ensures.steps.0 c.in_ok-push.ensures.items done.1 before.2)
+    ((turn (action_of step) before.0).state, done.0, next_answers before.0 step _ _ _ _ _ _ c.in-Some.ensures.steps.0 c.in_ok-push.ensures.items done.1 before.2)
 
 pub returns-clause-plays : goal.returns-clause-plays
 returns-clause-plays c = λ first shows.

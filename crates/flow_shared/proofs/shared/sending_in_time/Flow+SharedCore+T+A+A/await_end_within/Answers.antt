@@ -7,7 +7,7 @@ use Rattle.flow_shared.proofs.Waits.{lasts_to}
 use Rattle.flow_shared.proofs.shared.sending_in_time.Flow+SharedCore+T+A+A.await_end_within.Goals as goal
 
 pub loop-init : goal.loop-init
-loop-init g c = (tt, tt, c.requires.flow, c.requires.told, refl, not_polled)
+loop-init g c = (tt, tt, c.requires.flow, c.requires.ready, refl, not_polled)
 
 pub returns-then-not-wait_within-clause-ends : goal.returns-then-not-wait_within-clause-ends
 returns-then-not-wait_within-clause-ends g c =
