@@ -1,7 +1,7 @@
 //! Operators whose items become lists or chains.
 
 use crate::chains::gives::gives;
-use flow_cold::{Chain, ChainFault, End, Entry, OfRange, Scripted};
+use flow_cold::{Chain, ChainFault, End, OfRange};
 use std::alloc::Global;
 
 /// Returns the sum, or the fault `Overflow` if it is out of range.
@@ -10,7 +10,7 @@ pub fn sum(x: i64, y: i64) -> Result<i64, ChainFault> {
 }
 
 /// Returns a list of the item twice.
-pub fn listed(alloc: Global, x: i64) -> Result<Vec<i64>, ChainFault> {
+fn listed(alloc: Global, x: i64) -> Result<Vec<i64>, ChainFault> {
     let mut items = Vec::new(alloc);
     if items.push(x).is_err() {
         return Err(ChainFault::OutOfMemory);
@@ -19,18 +19,6 @@ pub fn listed(alloc: Global, x: i64) -> Result<Vec<i64>, ChainFault> {
         return Err(ChainFault::OutOfMemory);
     }
     Ok(items)
-}
-
-/// Returns a chain of the item twice.
-pub fn opened(alloc: Global, x: i64) -> Result<Scripted<i64>, ChainFault> {
-    let mut entries = Vec::new(alloc);
-    if entries.push(Entry::Item(x)).is_err() {
-        return Err(ChainFault::OutOfMemory);
-    }
-    if entries.push(Entry::Item(x)).is_err() {
-        return Err(ChainFault::OutOfMemory);
-    }
-    Ok(Scripted::new(entries))
 }
 
 #[test]

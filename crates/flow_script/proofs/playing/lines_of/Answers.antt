@@ -1,4 +1,4 @@
-use Rattle.std.proofs.Common.{Ok, Err, ap, ◌∙◌}
+use Rattle.std.proofs.Common.{ap}
 use Rattle.script_chain_format.specs.Results.{result_map}
 use Rattle.script_chain_format.proofs.ResultLemmas.{gives_err}
 use Rattle.flow_script.specs.ScriptMeaning.{answered, meaning, text_of}

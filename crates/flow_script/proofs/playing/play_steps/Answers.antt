@@ -1,4 +1,4 @@
-use Rattle.std.proofs.Common.{◌++◌, map, subst, sym, ap, ◌∙◌, append-nil}
+use Rattle.std.proofs.Common.{◌++◌, map, sym, ap, ◌∙◌, append-nil}
 use Rattle.script_format.specs.Actions.{action_of, actions_of}
 use Rattle.flow_script.specs.Said.{said_of}
 use Rattle.flow_script.specs.ScriptMeaning.{answers_from, turn}
