@@ -135,25 +135,6 @@ fn tell_record(alloc: Global, bytes: &[u8], with_order: bool) -> Result<Told, Al
     }
 }
 
-/// Judges the record of these bytes, writes the verdict, and returns its status. For a legal record it also writes an
-/// order of the calls, if `with_order`.
-///
-/// # Errors
-/// Fails if memory is refused, and then writes nothing, or if a write fails, and then a first part may be written.
-pub fn judge_record<W: Write>(
-    alloc: Global,
-    out: &mut W,
-    bytes: &[u8],
-    with_order: bool,
-) -> io::Result<u8>
-    ensures tells { IfOk result (λ status. (words : List ℕ) × TellsVerdict with_order status words
-        × Appends (W.contents out.old) (W.contents out.new) words) }
-{
-    let told = tell_record(alloc, bytes, with_order)?;
-    out.write_all(told.words.as_bytes())?;
-    Ok(told.status)
-}
-
 /// Draws the calls of a record with this verdict.
 fn draw_verdict(
     alloc: Global,
@@ -178,6 +159,25 @@ fn draw_bytes(alloc: Global, bytes: &[u8], form: Form) -> Result<Told, AllocErro
         Ok((sheet, verdict)) => draw_verdict(alloc, &sheet, &verdict, form),
         Err(unread) => tell_refusal(alloc, bytes, unread, false),
     }
+}
+
+/// Judges the record of these bytes, writes the verdict, and returns its status. For a legal record it also writes an
+/// order of the calls, if `with_order`.
+///
+/// # Errors
+/// Fails if memory is refused, and then writes nothing, or if a write fails, and then a first part may be written.
+pub fn judge_record<W: Write>(
+    alloc: Global,
+    out: &mut W,
+    bytes: &[u8],
+    with_order: bool,
+) -> io::Result<u8>
+    ensures tells { IfOk result (λ status. (words : List ℕ) × TellsVerdict with_order status words
+        × Appends (W.contents out.old) (W.contents out.new) words) }
+{
+    let told = tell_record(alloc, bytes, with_order)?;
+    out.write_all(told.words.as_bytes())?;
+    Ok(told.status)
 }
 
 /// Judges the record of these bytes as `judge_record` does, and draws its calls over time. For an illegal record it
