@@ -1,4 +1,4 @@
-//! What the cores of all kinds of flow share: their kind of flow, and the calls of subscribers.
+//! What the cores of all kinds of flow share: what they stand for, and the calls of subscribers.
 ghost use Rattle.std.specs.Prelude.{◌≡◌, ◌+◌, ◌≤◌, List, ℕ, Ok, IsOk};
 ghost use Rattle.std.specs.Vec.{vec_len, vec_capacity};
 ghost use Rattle.flow_law.specs.declared.outcome.Drained.TheVariants.{Most};
@@ -15,7 +15,10 @@ use crate::sub_id::SubId;
 use flow_law::{FlowFault, FlowValue, Guarded, Next, Said};
 use std::alloc::Allocator;
 
-/// A flow for one thread, of any kind.
+/// A flow for one thread, of any kind: what it stands for.
+///
+/// It has no calls, since each function that is generic over a trait with calls proves at each place where it is called
+/// that all of them are there. So a function asks for `SubscriberCalls` only if it makes such a call.
 pub trait FlowCore: Guarded<Said = Said<Self::Call, Self::Reply>> {
     type Item: FlowValue;
     /// The state of the documented flow.
@@ -34,13 +37,30 @@ pub trait FlowCore: Guarded<Said = Said<Self::Call, Self::Reply>> {
     /// The states for which a core stands.
     ghost stands_as: { Self → Self.State → Type 0 };
 
+    /// When a caller that sleeps still finds nothing, or its emission still waits.
+    ghost sleeping: { Sleeping kind };
+
+    /// The kind satisfies the facts of `Lawful`.
+    ghost lawful: { Lawful kind };
+
+    /// Behind a gate, a core stands for the histories of its kind.
+    ghost stands_so: { (start core : Self) (h : List (HistoryEvent (Said Self.Call Self.Reply)))
+        → Self.stands start core h → StandsForHistory kind stands_as (first start) core h };
+
+    ghost stands_then: { (start core : Self) (h : List (HistoryEvent (Said Self.Call Self.Reply)))
+        → StandsForHistory kind stands_as (first start) core h → Self.stands start core h };
+}
+
+/// The calls of subscribers, which are those of any kind of flow, and what tells whom to wake.
+pub trait SubscriberCalls: FlowCore {
     /// Adds a subscriber, and returns its number.
     ///
     /// # Errors
     /// `OutOfMemory`, or `Exhausted` if the flow has issued all its numbers.
     fn subscribe(&mut self) -> Result<SubId, FlowFault>
-        ensures { (name : List ℕ) → Documents kind stands_as self.old (kind.subscribe name)
-            (replied kind (λ id. kind.subscribed (number_of id)) result) self.new };
+        ensures { (name : List ℕ) →
+            Documents Self.kind Self.stands_as self.old (Self.kind.subscribe name)
+            (replied Self.kind (λ id. Self.kind.subscribed (number_of id)) result) self.new };
 
     /// Returns the next value of a subscriber, `Empty` if there is none for it, or `Gone` if no subscriber has this
     /// number.
@@ -48,8 +68,9 @@ pub trait FlowCore: Guarded<Said = Said<Self::Call, Self::Reply>> {
     /// # Errors
     /// `OutOfMemory` if the value cannot be copied. The subscriber has not received it.
     fn next(&mut self, id: SubId) -> Result<Next<Self::Item>, FlowFault>
-        ensures documented { Documents kind stands_as self.old (kind.take_next (number_of id))
-            (replied kind kind.received result) self.new }
+        ensures documented { Documents Self.kind Self.stands_as
+            self.old (Self.kind.take_next (number_of id))
+            (replied Self.kind Self.kind.received result) self.new }
         ensures given { Self.Item.IsAlwaysCopied → IsOk result };
 
     /// Appends values that the subscriber can receive, at most `most`, to the list. Returns how many, which may be 0;
@@ -62,39 +83,28 @@ pub trait FlowCore: Guarded<Said = Said<Self::Call, Self::Reply>> {
     ) -> usize
         ensures most { result ≤ most }
         ensures taken { DrainsBy
-            (λ old answer new. Documents kind stands_as old (kind.take_next (number_of id))
-            (replied kind kind.received answer) new)
+            (λ old answer new. Documents Self.kind Self.stands_as
+            old (Self.kind.take_next (number_of id)) (replied Self.kind Self.kind.received answer) new)
             result self.old values.old.items (Ok Most) values.new.items self.new }
         ensures room { (vec_len values.new ≡ vec_len values.old + result) ×
             (vec_capacity values.old ≤ vec_capacity values.new) };
 
     /// Removes a subscriber, and returns whether it was present.
     fn unsubscribe(&mut self, id: SubId) -> bool
-        ensures { Documents kind stands_as self.old (kind.unsubscribe (number_of id))
-            (kind.tested result) self.new };
+        ensures { Documents Self.kind Self.stands_as
+            self.old (Self.kind.unsubscribe (number_of id)) (Self.kind.tested result) self.new };
 
     /// Returns the number of subscribers.
     fn subscription_count(&self) -> u64
-        ensures { Documents kind stands_as self.now kind.count (kind.counted result) self.now };
-
-    /// When a caller that sleeps still finds nothing, or its emission still waits.
-    ghost sleeping: { Sleeping kind };
+        ensures { Documents Self.kind Self.stands_as
+            self.now Self.kind.count (Self.kind.counted result) self.now };
 
     /// Counts the values that subscribers could see so far.
     fn mark(&self) -> u64
-        ensures { (s : Self.State) → stands_as self.now s → result ≡ sleeping.mark s };
+        ensures { (s : Self.State) → Self.stands_as self.now s → result ≡ Self.sleeping.mark s };
 
     /// Returns the number of the first emission that waits.
     fn first_waiting(&self) -> Option<u64>
-        ensures { (s : Self.State) → stands_as self.now s → result ≡ sleeping.first_waiting s };
-
-    /// The kind satisfies the facts of `Lawful`.
-    ghost lawful: { Lawful kind };
-
-    /// Behind a gate, a core stands for the histories of its kind.
-    ghost stands_so: { (start core : Self) (h : List (HistoryEvent (Said Self.Call Self.Reply)))
-        → Self.stands start core h → StandsForHistory kind stands_as (first start) core h };
-
-    ghost stands_then: { (start core : Self) (h : List (HistoryEvent (Said Self.Call Self.Reply)))
-        → StandsForHistory kind stands_as (first start) core h → Self.stands start core h };
+        ensures { (s : Self.State) → Self.stands_as self.now s
+            → result ≡ Self.sleeping.first_waiting s };
 }

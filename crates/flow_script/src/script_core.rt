@@ -7,12 +7,12 @@ ghost use Rattle.flow_script.specs.Shown.{Follows};
 
 use crate::answer::Answer;
 use crate::numbers::Numbers;
-use flow_core::FlowCore;
+use flow_core::{FlowCore, SubscriberCalls};
 use flow_law::FlowFault;
 use script_format::{FlowStep, ScriptFault};
 
 /// A flow for one thread that scripts play on.
-pub trait ScriptCore: FlowCore<Item = i64> {
+pub trait ScriptCore: FlowCore<Item = i64> + SubscriberCalls {
     /// Which calls the steps make, the replies to them, and the answers for those replies.
     ghost played: { Played Self.State Self.Call Self.Reply };
 

@@ -7,7 +7,7 @@ ghost use Rattle.flow_shared.specs.Attended.{AttendedAs, attended_stands, Rests,
 mod calls;
 
 use crate::core_call::CoreCall;
-use flow_core::FlowCore;
+use flow_core::{FlowCore, SubscriberCalls};
 use flow_law::{Guarded, Said};
 use flow_sleepers::{Sleepers, Woken};
 use std::alloc::{Allocator, Global};
@@ -149,6 +149,43 @@ impl<S: FlowCore, A: Allocator + Copy> Attended<S, A> {
         }
     }
 
+    /// Removes all watchers; they are woken later.
+    fn wake_watchers(&mut self)
+        ensures core { self.new.core ≡ self.old.core }
+        ensures readers { self.new.readers ≡ self.old.readers }
+        ensures emitters { self.new.emitters ≡ self.old.emitters }
+        ensures watchers { self.new.watchers ≡ [] }
+    {
+        self.to_wake.watchers = self.watchers.take_all();
+        self.to_wake.any = true;
+    }
+
+    /// Returns whether no caller sleeps.
+    fn is_alone(&self) -> bool
+        ensures { OnTrue result
+            ((self.now.readers ≡ []) × (self.now.emitters ≡ []) × (self.now.watchers ≡ [])) }
+    {
+        self.readers.is_empty() && self.emitters.is_empty() && self.watchers.is_empty()
+    }
+
+    /// Returns whether there are sleepers to wake.
+    pub(crate) fn wakes_any(&self) -> bool {
+        self.to_wake.any
+    }
+
+    /// Takes out the sleepers to wake.
+    pub(crate) fn take_woken(&mut self) -> ToWake<A>
+        ensures core { self.new.core ≡ self.old.core }
+        ensures readers { self.new.readers ≡ self.old.readers }
+        ensures emitters { self.new.emitters ≡ self.old.emitters }
+        ensures watchers { self.new.watchers ≡ self.old.watchers }
+        ensures watched { self.new.watched ≡ self.old.watched }
+    {
+        self.to_wake.take()
+    }
+}
+
+impl<S: SubscriberCalls, A: Allocator + Copy> Attended<S, A> {
     /// Removes all readers if they may have something now: if the value was set, or if the core's mark has changed.
     fn wake_readers_if_due(&mut self, is_set: bool, mark: u64)
         ensures core { self.new.core ≡ self.old.core }
@@ -184,17 +221,6 @@ impl<S: FlowCore, A: Allocator + Copy> Attended<S, A> {
         }
     }
 
-    /// Removes all watchers; they are woken later.
-    fn wake_watchers(&mut self)
-        ensures core { self.new.core ≡ self.old.core }
-        ensures readers { self.new.readers ≡ self.old.readers }
-        ensures emitters { self.new.emitters ≡ self.old.emitters }
-        ensures watchers { self.new.watchers ≡ [] }
-    {
-        self.to_wake.watchers = self.watchers.take_all();
-        self.to_wake.any = true;
-    }
-
     /// Removes all watchers if the number of subscribers differs from the one that they have seen.
     fn wake_watchers_if_due(&mut self)
         ensures core { self.new.core ≡ self.old.core }
@@ -210,14 +236,6 @@ impl<S: FlowCore, A: Allocator + Copy> Attended<S, A> {
             return;
         }
         self.wake_watchers();
-    }
-
-    /// Returns whether no caller sleeps.
-    fn is_alone(&self) -> bool
-        ensures { OnTrue result
-            ((self.now.readers ≡ []) × (self.now.emitters ≡ []) × (self.now.watchers ≡ [])) }
-    {
-        self.readers.is_empty() && self.emitters.is_empty() && self.watchers.is_empty()
     }
 
     /// Makes a call of the core, and removes the sleepers that have something after it.
@@ -250,21 +268,5 @@ impl<S: FlowCore, A: Allocator + Copy> Attended<S, A> {
         self.wake_emitters_if_due(first);
         self.wake_watchers_if_due();
         answer
-    }
-
-    /// Returns whether there are sleepers to wake.
-    pub(crate) fn wakes_any(&self) -> bool {
-        self.to_wake.any
-    }
-
-    /// Takes out the sleepers to wake.
-    pub(crate) fn take_woken(&mut self) -> ToWake<A>
-        ensures core { self.new.core ≡ self.old.core }
-        ensures readers { self.new.readers ≡ self.old.readers }
-        ensures emitters { self.new.emitters ≡ self.old.emitters }
-        ensures watchers { self.new.watchers ≡ self.old.watchers }
-        ensures watched { self.new.watched ≡ self.old.watched }
-    {
-        self.to_wake.take()
     }
 }

@@ -17,7 +17,7 @@ use crate::core_call::leave_and_wake;
 use crate::flow::Flow;
 use crate::subscriber::TakeNext;
 use crate::token::{FlowSeat, FlowSubscription};
-use flow_core::{FlowCore, SubId};
+use flow_core::{FlowCore, SubId, SubscriberCalls};
 use flow_gate::{Held, NamesEvents, Seat};
 use flow_law::{Drained, FlowFault, Next, Said};
 use std::alloc::Allocator;
@@ -26,7 +26,7 @@ use std::sync::Wait;
 
 /// Takes the values that a subscriber can receive, at most `most`, into a list that has room for them: first those that
 /// the core holds, all at once, and then the others by `next`.
-fn take_values<S: FlowCore, A: Allocator + Copy, B: Allocator>(
+fn take_values<S: SubscriberCalls, A: Allocator + Copy, B: Allocator>(
     state: &mut Attended<S, A>,
     id: SubId,
     most: usize,
@@ -63,7 +63,7 @@ impl<'a, S: FlowCore, B: Allocator> NamesEvents<Said<S::Call, S::Reply>> for Tak
 }
 
 /// Takes values of the core inside a gate, and leaves with the events that name the calls.
-fn take_inside<S: FlowCore, A: Allocator + Copy, B: Allocator>(
+fn take_inside<S: SubscriberCalls, A: Allocator + Copy, B: Allocator>(
     held: Held<'_, Attended<S, A>, A>,
     id: SubId,
     most: usize,
@@ -95,7 +95,7 @@ fn take_inside<S: FlowCore, A: Allocator + Copy, B: Allocator>(
     (seat, ended)
 }
 
-impl<S: FlowCore + Drop, A: Allocator + Copy> Flow<S, A> {
+impl<S: SubscriberCalls + Drop, A: Allocator + Copy> Flow<S, A> {
     /// Takes values in one entry, so that no other caller comes in between.
     fn take<R: Wait, B: Allocator>(
         &self,

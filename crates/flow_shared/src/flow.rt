@@ -9,7 +9,7 @@ ghost use Rattle.flow_shared.specs.Calls.{Calls, CallsAtOnce, ClosesAs, Meets};
 use crate::attended::Attended;
 use crate::core_call::{CoreCall, SleepingCall, call_core, call_core_or_sleep};
 use crate::token::{FlowSeat, FlowSubscription};
-use flow_core::FlowCore;
+use flow_core::{FlowCore, SubscriberCalls};
 use flow_gate::Gate;
 use flow_law::FlowFault;
 use flow_sleepers::Waiter;
@@ -68,43 +68,6 @@ impl<S: FlowCore + Drop, A: Allocator + Copy> Flow<S, A> {
         }
     }
 
-    #[inline]
-    pub(crate) fn call_by<R: Wait, C: CoreCall<S>>(
-        &self,
-        rt: &R,
-        seat: GateSeat<S, A>,
-        call: C,
-    ) -> (GateSeat<S, A>, C::Answer)
-        requires flow { seat.table_id ≡ self.now.table_id }
-        requires may { MayCall S.kind (C.call call (subscription_name seat.knows))
-            seat.knows.name seat.knows.seen }
-        ensures called { Calls S.kind self.now seat (C.call call (subscription_name seat.knows))
-            (C.reply result.1) result.0 }
-        ensures also { C.also call result.1 }
-    {
-        let held = self.gate.enter(rt, seat);
-        call_core(held, call)
-    }
-
-    pub(crate) fn call_by_now<C: CoreCall<S>>(
-        &self,
-        seat: GateSeat<S, A>,
-        call: C,
-    ) -> Tried<S, A, C::Answer, C>
-        requires flow { seat.table_id ≡ self.now.table_id }
-        requires may { MayCall S.kind (C.call call (subscription_name seat.knows))
-            seat.knows.name seat.knows.seen }
-        ensures called { IfOk result (λ done. CallsAtOnce S.kind self.now seat
-            (C.call call (subscription_name seat.knows)) (C.reply done.1) done.0 ×
-            C.also call done.1) }
-        ensures busy { IfErr result (λ back. IsBusy seat back.0 × (back.1 ≡ call)) }
-    {
-        match self.gate.try_enter(seat) {
-            Ok(held) => Ok(call_core(held, call)),
-            Err(back) => Err((back, call)),
-        }
-    }
-
     /// Makes a call as `call_by_now` does. The caller sleeps if the reply is a wait, and asks again if another caller
     /// is inside.
     pub(crate) fn call_by_or_sleep<C: SleepingCall<S, A>, W: Waiter<A>>(
@@ -153,27 +116,6 @@ impl<S: FlowCore + Drop, A: Allocator + Copy> Flow<S, A> {
         call_core_or_sleep(held, call, waiter)
     }
 
-    /// Makes a call through a seat.
-    #[inline]
-    pub(crate) fn call<R: Wait, C: CoreCall<S>>(
-        &self,
-        rt: &R,
-        seat: &mut FlowSeat<S, A>,
-        call: C,
-    ) -> C::Answer
-        requires flow { seat.old.table_id ≡ self.now.table_id }
-        requires may { MayCall S.kind (C.call call (subscription_name seat.old.knows))
-            seat.old.knows.name seat.old.knows.seen }
-        ensures called { Calls S.kind self.now seat.old
-            (C.call call (subscription_name seat.old.knows)) (C.reply result) seat.new }
-        ensures also { C.also call result }
-    {
-        let own = seat.seat.take().unwrap();
-        let (own, answer) = self.call_by(rt, own, call);
-        seat.seat = Some(own);
-        answer
-    }
-
     /// Makes a call as `call` does. If the reply is a wait, the caller sleeps.
     pub(crate) fn call_asleep<R: Wait, C: SleepingCall<S, A>, W: Waiter<A>>(
         &self,
@@ -194,33 +136,6 @@ impl<S: FlowCore + Drop, A: Allocator + Copy> Flow<S, A> {
         let (own, answer) = self.call_by_asleep(rt, own, call, waiter);
         seat.seat = Some(own);
         answer
-    }
-
-    /// Makes a call through a seat without waiting. If another caller is inside, returns the call.
-    pub(crate) fn call_now<C: CoreCall<S>>(
-        &self,
-        seat: &mut FlowSeat<S, A>,
-        call: C,
-    ) -> Result<C::Answer, C>
-        requires flow { seat.old.table_id ≡ self.now.table_id }
-        requires may { MayCall S.kind (C.call call (subscription_name seat.old.knows))
-            seat.old.knows.name seat.old.knows.seen }
-        ensures called { IfOk result (λ answer. CallsAtOnce S.kind self.now seat.old
-            (C.call call (subscription_name seat.old.knows)) (C.reply answer) seat.new ×
-            C.also call answer) }
-        ensures busy { IfErr result (λ back. IsBusy seat.old seat.new × (back ≡ call)) }
-    {
-        let own = seat.seat.take().unwrap();
-        match self.call_by_now(own, call) {
-            Ok((own, answer)) => {
-                seat.seat = Some(own);
-                Ok(answer)
-            }
-            Err((own, call)) => {
-                seat.seat = Some(own);
-                Err(call)
-            }
-        }
     }
 
     /// Makes a call as `call_now` does. The caller sleeps if the reply is a wait, and asks again if another caller is
@@ -295,6 +210,93 @@ impl<S: FlowCore + Drop, A: Allocator + Copy> Flow<S, A> {
         match gate.close_with(own) {
             Some(state) => Some(state.into_core()),
             None => None,
+        }
+    }
+}
+
+impl<S: SubscriberCalls + Drop, A: Allocator + Copy> Flow<S, A> {
+    #[inline]
+    pub(crate) fn call_by<R: Wait, C: CoreCall<S>>(
+        &self,
+        rt: &R,
+        seat: GateSeat<S, A>,
+        call: C,
+    ) -> (GateSeat<S, A>, C::Answer)
+        requires flow { seat.table_id ≡ self.now.table_id }
+        requires may { MayCall S.kind (C.call call (subscription_name seat.knows))
+            seat.knows.name seat.knows.seen }
+        ensures called { Calls S.kind self.now seat (C.call call (subscription_name seat.knows))
+            (C.reply result.1) result.0 }
+        ensures also { C.also call result.1 }
+    {
+        let held = self.gate.enter(rt, seat);
+        call_core(held, call)
+    }
+
+    pub(crate) fn call_by_now<C: CoreCall<S>>(
+        &self,
+        seat: GateSeat<S, A>,
+        call: C,
+    ) -> Tried<S, A, C::Answer, C>
+        requires flow { seat.table_id ≡ self.now.table_id }
+        requires may { MayCall S.kind (C.call call (subscription_name seat.knows))
+            seat.knows.name seat.knows.seen }
+        ensures called { IfOk result (λ done. CallsAtOnce S.kind self.now seat
+            (C.call call (subscription_name seat.knows)) (C.reply done.1) done.0 ×
+            C.also call done.1) }
+        ensures busy { IfErr result (λ back. IsBusy seat back.0 × (back.1 ≡ call)) }
+    {
+        match self.gate.try_enter(seat) {
+            Ok(held) => Ok(call_core(held, call)),
+            Err(back) => Err((back, call)),
+        }
+    }
+
+    /// Makes a call through a seat.
+    #[inline]
+    pub(crate) fn call<R: Wait, C: CoreCall<S>>(
+        &self,
+        rt: &R,
+        seat: &mut FlowSeat<S, A>,
+        call: C,
+    ) -> C::Answer
+        requires flow { seat.old.table_id ≡ self.now.table_id }
+        requires may { MayCall S.kind (C.call call (subscription_name seat.old.knows))
+            seat.old.knows.name seat.old.knows.seen }
+        ensures called { Calls S.kind self.now seat.old
+            (C.call call (subscription_name seat.old.knows)) (C.reply result) seat.new }
+        ensures also { C.also call result }
+    {
+        let own = seat.seat.take().unwrap();
+        let (own, answer) = self.call_by(rt, own, call);
+        seat.seat = Some(own);
+        answer
+    }
+
+    /// Makes a call through a seat without waiting. If another caller is inside, returns the call.
+    pub(crate) fn call_now<C: CoreCall<S>>(
+        &self,
+        seat: &mut FlowSeat<S, A>,
+        call: C,
+    ) -> Result<C::Answer, C>
+        requires flow { seat.old.table_id ≡ self.now.table_id }
+        requires may { MayCall S.kind (C.call call (subscription_name seat.old.knows))
+            seat.old.knows.name seat.old.knows.seen }
+        ensures called { IfOk result (λ answer. CallsAtOnce S.kind self.now seat.old
+            (C.call call (subscription_name seat.old.knows)) (C.reply answer) seat.new ×
+            C.also call answer) }
+        ensures busy { IfErr result (λ back. IsBusy seat.old seat.new × (back ≡ call)) }
+    {
+        let own = seat.seat.take().unwrap();
+        match self.call_by_now(own, call) {
+            Ok((own, answer)) => {
+                seat.seat = Some(own);
+                Ok(answer)
+            }
+            Err((own, call)) => {
+                seat.seat = Some(own);
+                Err(call)
+            }
         }
     }
 }

@@ -12,7 +12,7 @@ use crate::core_call::{CoreCall, SleepingCall};
 use crate::flow::Flow;
 use crate::token::{FlowSeat, FlowSubscription};
 use crate::watcher::Count;
-use flow_core::{FlowCore, SubId};
+use flow_core::{FlowCore, SubId, SubscriberCalls};
 use flow_law::{FlowFault, Next};
 use flow_sleepers::Waiter;
 use std::alloc::Allocator;
@@ -21,7 +21,7 @@ use std::sync::Wait;
 #[derive(Drop)]
 struct Subscribe;
 
-impl<S: FlowCore> CoreCall<S> for Subscribe {
+impl<S: SubscriberCalls> CoreCall<S> for Subscribe {
     type Answer = Result<SubId, FlowFault>;
 
     ghost call = { λ c name. S.kind.subscribe name };
@@ -52,7 +52,7 @@ pub(crate) struct TakeNext {
     pub(crate) id: SubId,
 }
 
-impl<S: FlowCore> CoreCall<S> for TakeNext {
+impl<S: SubscriberCalls> CoreCall<S> for TakeNext {
     type Answer = Result<Next<S::Item>, FlowFault>;
 
     ghost call = { λ c name. S.kind.take_next (number_of c.id) };
@@ -78,7 +78,7 @@ impl<S: FlowCore> CoreCall<S> for TakeNext {
     }
 }
 
-impl<S: FlowCore, A: Allocator + Copy> SleepingCall<S, A> for TakeNext {
+impl<S: SubscriberCalls, A: Allocator + Copy> SleepingCall<S, A> for TakeNext {
     ghost is_wait = { λ answer. IsWait answer };
 
     fn run_or_sleep<W: Waiter<A>>(
@@ -95,7 +95,7 @@ pub(crate) struct Unsubscribe {
     pub(crate) id: SubId,
 }
 
-impl<S: FlowCore> CoreCall<S> for Unsubscribe {
+impl<S: SubscriberCalls> CoreCall<S> for Unsubscribe {
     type Answer = bool;
 
     ghost call = { λ c name. S.kind.unsubscribe (number_of c.id) };
@@ -122,6 +122,40 @@ impl<S: FlowCore> CoreCall<S> for Unsubscribe {
 }
 
 impl<S: FlowCore + Drop, A: Allocator + Copy> Flow<S, A> {
+    /// Lets two seats meet: both have then seen the same history, which has all calls so far. It makes no call of
+    /// the flow and does not wait.
+    ///
+    /// Call it if a caller relies on what the other one did, for instance after a thread has ended and returned its
+    /// seat.
+    pub fn meet(&self, one: &mut FlowSeat<S, A>, other: &mut FlowSeat<S, A>)
+        requires { (one.old.table_id ≡ self.now.table_id) ×
+            (other.old.table_id ≡ self.now.table_id) }
+        ensures { Meets S.kind self.now one.old other.old one.new other.new }
+    {
+        let first = one.seat.take().unwrap();
+        let second = other.seat.take().unwrap();
+        let (first, second) = self.gate.meet(first, second);
+        one.seat = Some(first);
+        other.seat = Some(second);
+    }
+
+    /// Lets a subscription and a seat meet, as `meet` does.
+    pub fn meet_subscription(
+        &self,
+        subscription: &mut FlowSubscription<S, A>,
+        seat: &mut FlowSeat<S, A>,
+    )
+        requires { (subscription.old.token.table_id ≡ self.now.table_id)
+            × (seat.old.table_id ≡ self.now.table_id) }
+        ensures met { Meets S.kind self.now
+            subscription.old.token seat.old subscription.new.token seat.new }
+        ensures number { subscription.new.number ≡ subscription.old.number }
+    {
+        self.meet(&mut subscription.seat, seat);
+    }
+}
+
+impl<S: SubscriberCalls + Drop, A: Allocator + Copy> Flow<S, A> {
     /// Adds a subscriber. In a shared flow it receives the replay cache first, or the value that is being offered; in a
     /// state flow it receives the current value first.
     ///
@@ -246,37 +280,5 @@ impl<S: FlowCore + Drop, A: Allocator + Copy> Flow<S, A> {
             Ok(count) => Ok(count),
             Err(_count) => Err(FlowFault::Busy),
         }
-    }
-
-    /// Lets two seats meet: both have then seen the same history, which has all calls so far. It makes no call of
-    /// the flow and does not wait.
-    ///
-    /// Call it if a caller relies on what the other one did, for instance after a thread has ended and returned its
-    /// seat.
-    pub fn meet(&self, one: &mut FlowSeat<S, A>, other: &mut FlowSeat<S, A>)
-        requires { (one.old.table_id ≡ self.now.table_id) ×
-            (other.old.table_id ≡ self.now.table_id) }
-        ensures { Meets S.kind self.now one.old other.old one.new other.new }
-    {
-        let first = one.seat.take().unwrap();
-        let second = other.seat.take().unwrap();
-        let (first, second) = self.gate.meet(first, second);
-        one.seat = Some(first);
-        other.seat = Some(second);
-    }
-
-    /// Lets a subscription and a seat meet, as `meet` does.
-    pub fn meet_subscription(
-        &self,
-        subscription: &mut FlowSubscription<S, A>,
-        seat: &mut FlowSeat<S, A>,
-    )
-        requires { (subscription.old.token.table_id ≡ self.now.table_id)
-            × (seat.old.table_id ≡ self.now.table_id) }
-        ensures met { Meets S.kind self.now
-            subscription.old.token seat.old subscription.new.token seat.new }
-        ensures number { subscription.new.number ≡ subscription.old.number }
-    {
-        self.meet(&mut subscription.seat, seat);
     }
 }

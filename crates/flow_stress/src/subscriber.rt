@@ -1,17 +1,17 @@
 //! A caller of a flow behind a gate, and its subscription.
 use crate::recording::{Answer, Call};
-use flow_core::FlowCore;
+use flow_core::{FlowCore, SubscriberCalls};
 use flow_shared::{FlowCaller, FlowReader};
 use std::sync::Wait;
 
 /// A caller of a shared flow, or of a state flow behind a gate, and its subscription.
 #[derive(Drop)]
-pub struct Subscriber<'a, S: FlowCore + Drop> {
+pub struct Subscriber<'a, S: SubscriberCalls + Drop> {
     pub caller: FlowCaller<'a, S>,
     pub reader: Option<FlowReader<'a, S>>,
 }
 
-impl<'a, S: FlowCore + Drop> Subscriber<'a, S> {
+impl<'a, S: SubscriberCalls + Drop> Subscriber<'a, S> {
     /// Returns a caller without a subscription.
     pub fn new(caller: FlowCaller<'a, S>) -> Subscriber<'a, S> {
         Subscriber {
@@ -54,7 +54,7 @@ impl<'a, S: FlowCore + Drop> Subscriber<'a, S> {
     }
 }
 
-impl<S: FlowCore<Item = u64> + Drop> Subscriber<'_, S> {
+impl<S: FlowCore<Item = u64> + SubscriberCalls + Drop> Subscriber<'_, S> {
     /// Subscribes, reads, unsubscribes or counts. Returns None for another call.
     pub fn make_of_subscriber<R: Wait>(&mut self, rt: &R, call: Call) -> Option<Answer> {
         match call {

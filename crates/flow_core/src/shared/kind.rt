@@ -5,7 +5,7 @@ ghost use Rattle.flow_law.specs.Standing.{StandsFor, StandsForHistory};
 ghost use Rattle.flow_law.proofs.SharedLawful.{shared_lawful};
 ghost use Rattle.flow_law.proofs.SharedSleeping.{shared_sleeping};
 
-use crate::kind::FlowCore;
+use crate::kind::{FlowCore, SubscriberCalls};
 use crate::shared::SharedCore;
 use crate::sub_id::SubId;
 use flow_law::{
@@ -35,6 +35,16 @@ impl<T: FlowValue, A: Allocator + Copy> FlowCore for SharedCore<T, A> {
 
     ghost stands_as = { StandsFor };
 
+    ghost sleeping = { shared_sleeping };
+
+    ghost lawful = { shared_lawful };
+
+    ghost stands_so = { λ start core h stood. stood };
+
+    ghost stands_then = { λ start core h stood. stood };
+}
+
+impl<T: FlowValue, A: Allocator + Copy> SubscriberCalls for SharedCore<T, A> {
     fn subscribe(&mut self) -> Result<SubId, FlowFault> {
         SharedCore::subscribe(self)
     }
@@ -55,8 +65,6 @@ impl<T: FlowValue, A: Allocator + Copy> FlowCore for SharedCore<T, A> {
         SharedCore::subscription_count(self)
     }
 
-    ghost sleeping = { shared_sleeping };
-
     fn mark(&self) -> u64 {
         SharedCore::emission_count(self)
     }
@@ -64,10 +72,4 @@ impl<T: FlowValue, A: Allocator + Copy> FlowCore for SharedCore<T, A> {
     fn first_waiting(&self) -> Option<u64> {
         SharedCore::first_waiting(self)
     }
-
-    ghost lawful = { shared_lawful };
-
-    ghost stands_so = { λ start core h stood. stood };
-
-    ghost stands_then = { λ start core h stood. stood };
 }

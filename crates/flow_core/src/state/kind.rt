@@ -5,7 +5,7 @@ ghost use Rattle.flow_law.specs.Standing.{StandsForHistory};
 ghost use Rattle.flow_law.proofs.StateLawful.{state_lawful};
 ghost use Rattle.flow_law.proofs.StateSleeping.{state_sleeping};
 
-use crate::kind::FlowCore;
+use crate::kind::{FlowCore, SubscriberCalls};
 use crate::state::StateCore;
 use crate::sub_id::SubId;
 use flow_law::{FlowFault, FlowValue, Guarded, Next, Said, StateCall, StateFlowState, StateReply};
@@ -32,14 +32,16 @@ impl<T: FlowValue, A: Allocator + Copy> FlowCore for StateCore<T, A> {
 
     ghost stands_as = { λ core s. core ≡ s };
 
-    fn subscribe(&mut self) -> Result<SubId, FlowFault> {
-        StateCore::subscribe(self)
-    }
+    ghost sleeping = { state_sleeping };
 
-    fn next(&mut self, id: SubId) -> Result<Next<T>, FlowFault> {
-        StateCore::next(self, id)
-    }
+    ghost lawful = { state_lawful };
 
+    ghost stands_so = { λ start core h stood. stood };
+
+    ghost stands_then = { λ start core h stood. stood };
+}
+
+impl<T: FlowValue, A: Allocator + Copy> SubscriberCalls for StateCore<T, A> {
     /// Takes nothing: a subscriber can receive one value at most, so `next` is as fast.
     fn take_held<B: Allocator>(
         &mut self,
@@ -49,16 +51,6 @@ impl<T: FlowValue, A: Allocator + Copy> FlowCore for StateCore<T, A> {
     ) -> usize {
         0
     }
-
-    fn unsubscribe(&mut self, id: SubId) -> bool {
-        StateCore::unsubscribe(self, id)
-    }
-
-    fn subscription_count(&self) -> u64 {
-        StateCore::subscription_count(self)
-    }
-
-    ghost sleeping = { state_sleeping };
 
     /// Returns 0: values of a state flow are not counted.
     fn mark(&self) -> u64 {
@@ -70,9 +62,19 @@ impl<T: FlowValue, A: Allocator + Copy> FlowCore for StateCore<T, A> {
         None
     }
 
-    ghost lawful = { state_lawful };
+    fn subscribe(&mut self) -> Result<SubId, FlowFault> {
+        StateCore::subscribe(self)
+    }
 
-    ghost stands_so = { λ start core h stood. stood };
+    fn next(&mut self, id: SubId) -> Result<Next<T>, FlowFault> {
+        StateCore::next(self, id)
+    }
 
-    ghost stands_then = { λ start core h stood. stood };
+    fn unsubscribe(&mut self, id: SubId) -> bool {
+        StateCore::unsubscribe(self, id)
+    }
+
+    fn subscription_count(&self) -> u64 {
+        StateCore::subscription_count(self)
+    }
 }

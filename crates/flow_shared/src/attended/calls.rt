@@ -12,13 +12,13 @@ ghost use Rattle.flow_shared.specs.Attended.{AttendedAs, IsWait};
 use crate::attended::Attended;
 use crate::subscriber::TakeNext;
 use crate::watcher::Count;
-use flow_core::{FlowCore, SubId};
+use flow_core::{SubId, SubscriberCalls};
 use flow_law::{FlowFault, Next};
 use flow_sleepers::Waiter;
 use futures::task::Poll;
 use std::alloc::Allocator;
 
-impl<S: FlowCore, A: Allocator + Copy> Attended<S, A> {
+impl<S: SubscriberCalls, A: Allocator + Copy> Attended<S, A> {
     /// Calls `next` of the core. If there is nothing to receive, the caller sleeps.
     pub(crate) fn next_or_sleep<W: Waiter<A>>(
         &mut self,

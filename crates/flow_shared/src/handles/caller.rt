@@ -10,7 +10,7 @@ use super::errors::number_error;
 use super::reader::FlowReader;
 use crate::flow::Flow;
 use crate::token::FlowSeat;
-use flow_core::FlowCore;
+use flow_core::{FlowCore, SubscriberCalls};
 use flow_law::{Busy, NumberError};
 use std::alloc::{Allocator, Global};
 use std::marker::Model;
@@ -57,6 +57,30 @@ impl<'a, S: FlowCore + Drop, A: Allocator + Copy> FlowCaller<'a, S, A> {
         FlowCaller::new(self.flow, made)
     }
 
+    /// Joins what two callers of one flow have seen: afterwards both have seen the same history, with all calls so far.
+    ///
+    /// Call it when one caller relies on what another did, for example after a thread has ended and returned its
+    /// handle.
+    pub fn meet(&mut self, other: &mut FlowCaller<'_, S, A>)
+        requires { other.old.flow.table_id ≡ self.old.flow.table_id }
+        ensures flow { (self.new.flow ≡ self.old.flow) × (other.new.flow ≡ other.old.flow) }
+        ensures met { Meets S.kind self.old.flow
+            self.old.token other.old.token self.new.token other.new.token }
+    {
+        self.flow.meet(&mut self.seat, &mut other.seat);
+    }
+
+    /// Returns the seat, for the flow's own calls.
+    pub fn into_seat(self) -> FlowSeat<S, A>
+        ensures token { result ≡ self.entry.token }
+        ensures flow { result.table_id ≡ self.entry.flow.table_id }
+    {
+        let FlowCaller { flow: _, seat } = self;
+        seat
+    }
+}
+
+impl<'a, S: SubscriberCalls + Drop, A: Allocator + Copy> FlowCaller<'a, S, A> {
     /// Subscribes. A reader of a shared flow gets the replay cache first, or the value that is being offered; a reader
     /// of a state flow gets the current value.
     ///
@@ -94,19 +118,6 @@ impl<'a, S: FlowCore + Drop, A: Allocator + Copy> FlowCaller<'a, S, A> {
         }
     }
 
-    /// Joins what two callers of one flow have seen: afterwards both have seen the same history, with all calls so far.
-    ///
-    /// Call it when one caller relies on what another did, for example after a thread has ended and returned its
-    /// handle.
-    pub fn meet(&mut self, other: &mut FlowCaller<'_, S, A>)
-        requires { other.old.flow.table_id ≡ self.old.flow.table_id }
-        ensures flow { (self.new.flow ≡ self.old.flow) × (other.new.flow ≡ other.old.flow) }
-        ensures met { Meets S.kind self.old.flow
-            self.old.token other.old.token self.new.token other.new.token }
-    {
-        self.flow.meet(&mut self.seat, &mut other.seat);
-    }
-
     /// Joins what a caller and a reader of one flow have seen, as `meet` does.
     pub fn meet_reader(&mut self, reader: &mut FlowReader<'_, S, A>)
         requires { reader.old.flow.table_id ≡ self.old.flow.table_id }
@@ -117,14 +128,5 @@ impl<'a, S: FlowCore + Drop, A: Allocator + Copy> FlowCaller<'a, S, A> {
     {
         self.flow
             .meet_subscription(&mut reader.subscription, &mut self.seat);
-    }
-
-    /// Returns the seat, for the flow's own calls.
-    pub fn into_seat(self) -> FlowSeat<S, A>
-        ensures token { result ≡ self.entry.token }
-        ensures flow { result.table_id ≡ self.entry.flow.table_id }
-    {
-        let FlowCaller { flow: _, seat } = self;
-        seat
     }
 }

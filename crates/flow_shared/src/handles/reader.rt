@@ -15,7 +15,7 @@ use super::errors::{drain_end, try_next_error};
 use crate::dropping::TRIES;
 use crate::flow::Flow;
 use crate::token::FlowSubscription;
-use flow_core::{FlowCore, SharedCore, StateCore};
+use flow_core::{FlowCore, SharedCore, StateCore, SubscriberCalls};
 use flow_law::{Next, OutOfMemory, TryNextError};
 use std::alloc::{Allocator, Global};
 use std::marker::Model;
@@ -26,7 +26,7 @@ use std::sync::Wait;
 /// # Dropping
 /// Dropping the reader ends its subscription, as `unsubscribe` does, without waiting. If other callers hold the flow at
 /// each of many tries, the subscription stays in the flow.
-pub struct FlowReader<'a, S: FlowCore, A: Allocator + Copy = Global> {
+pub struct FlowReader<'a, S: SubscriberCalls, A: Allocator + Copy = Global> {
     pub(crate) flow: &'a Flow<S, A>,
     pub(crate) subscription: FlowSubscription<S, A>,
 }
@@ -46,14 +46,14 @@ pub enum DrainEnd {
     Empty,
 }
 
-impl<S: FlowCore + Drop, A: Allocator + Copy> Drop for FlowReader<'_, S, A> {
+impl<S: SubscriberCalls + Drop, A: Allocator + Copy> Drop for FlowReader<'_, S, A> {
     fn drop(self) {
         let Self { flow, subscription } = self;
         let _ended = flow.unsubscribe_within(subscription, TRIES);
     }
 }
 
-impl<'a, S: FlowCore, A: Allocator + Copy> Model for FlowReader<'a, S, A> {
+impl<'a, S: SubscriberCalls, A: Allocator + Copy> Model for FlowReader<'a, S, A> {
     ghost use Rattle.std.specs.Prelude.{◌≡◌};
     ghost use Rattle.atomic_table.specs.Seated.{TableId};
     ghost use Rattle.flow_law.specs.declared.history.Said.{Said};
@@ -66,7 +66,7 @@ impl<'a, S: FlowCore, A: Allocator + Copy> Model for FlowReader<'a, S, A> {
     ghost invariant = { λ r. r.subscription.token.table_id ≡ r.flow.now.table_id };
 }
 
-impl<S: FlowCore + Drop, A: Allocator + Copy> Flow<S, A> {
+impl<S: SubscriberCalls + Drop, A: Allocator + Copy> Flow<S, A> {
     /// Binds a subscription to its flow.
     pub fn reader(&self, subscription: FlowSubscription<S, A>) -> FlowReader<'_, S, A>
         requires { subscription.token.table_id ≡ self.now.table_id }
@@ -76,7 +76,7 @@ impl<S: FlowCore + Drop, A: Allocator + Copy> Flow<S, A> {
     }
 }
 
-impl<'a, S: FlowCore + Drop, A: Allocator + Copy> FlowReader<'a, S, A> {
+impl<'a, S: SubscriberCalls + Drop, A: Allocator + Copy> FlowReader<'a, S, A> {
     pub(crate) fn new(
         flow: &'a Flow<S, A>,
         subscription: FlowSubscription<S, A>,

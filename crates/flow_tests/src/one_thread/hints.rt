@@ -1,6 +1,6 @@
 //! A subscription has the place of its subscriber, at which a core looks first. Its `Debug` shows that place.
 use crate::compare::compare;
-use flow_core::{FlowCore, SharedCore, StateCore, SubId};
+use flow_core::{SharedCore, StateCore, SubId, SubscriberCalls};
 use flow_law::Config;
 use std::alloc::Global;
 use std::process::Abort;
@@ -12,7 +12,7 @@ fn is_printed(rt: &impl Abort, alloc: Global, place: usize, id: SubId, wanted: &
 }
 
 /// Adds three subscribers, removes the second, and adds a fourth. Checks that the fourth has the place of the second.
-fn subscribe_four<S: FlowCore>(rt: &impl Abort, alloc: Global, core: &mut S) {
+fn subscribe_four<S: SubscriberCalls>(rt: &impl Abort, alloc: Global, core: &mut S) {
     let first = core.subscribe().expect(rt, "a subscription");
     let second = core.subscribe().expect(rt, "a subscription");
     let third = core.subscribe().expect(rt, "a subscription");

@@ -5,7 +5,7 @@ use crate::compare::compare;
 use crate::playing::tokens::{Reader, Waiting, at, token};
 use crate::steps::Step;
 use crate::values::Numbered;
-use flow_core::FlowCore;
+use flow_core::{FlowCore, SubscriberCalls};
 use flow_law::FlowFault;
 use flow_shared::{Flow, FlowSeat};
 use std::alloc::{Allocator, Global};
@@ -24,7 +24,7 @@ pub struct FlowPlayer<'a, T: Numbered, S: FlowCore<Item = T> + Drop, A: Allocato
 }
 
 /// A core whose flows for several threads take further steps beside those of subscribers.
-pub trait Played<T: Numbered, A: Allocator + Copy>: FlowCore<Item = T> + Drop {
+pub trait Played<T: Numbered, A: Allocator + Copy>: FlowCore<Item = T> + SubscriberCalls + Drop {
     /// Takes a step, and compares what it returns. Returns `Err` if memory is refused.
     fn take<R: Wait + Abort>(
         player: &mut FlowPlayer<'_, T, Self, A>,
@@ -34,12 +34,12 @@ pub trait Played<T: Numbered, A: Allocator + Copy>: FlowCore<Item = T> + Drop {
     ) -> Result<(), FlowFault>;
 }
 
-impl<'a, T: Numbered<Memory = A>, S: FlowCore<Item = T> + Drop, A: Allocator + Copy> FlowPlayer<
+impl<
     'a,
-    T,
-    S,
-    A,
-> {
+    T: Numbered<Memory = A>,
+    S: FlowCore<Item = T> + SubscriberCalls + Drop,
+    A: Allocator + Copy,
+> FlowPlayer<'a, T, S, A> {
     /// Returns a caller with this seat of the flow, without subscriptions.
     pub fn new(
         alloc: Global,

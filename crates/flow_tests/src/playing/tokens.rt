@@ -3,7 +3,7 @@ ghost use Rattle.std.specs.Prelude.{◌≡◌};
 
 use crate::compare::compare;
 use crate::values::{Numbered, are, by_number};
-use flow_core::{FlowCore, SharedCore};
+use flow_core::{FlowCore, SharedCore, SubscriberCalls};
 use flow_law::{Drained, FlowFault, Next, Refused};
 use flow_shared::{Emission, Emitted, Flow, FlowSubscription, Polled, Seat, SharedFlow};
 use std::alloc::{Allocator, Global};
@@ -18,7 +18,11 @@ pub struct Reader<'a, S: FlowCore + Drop, A: Allocator + Copy = Global> {
     ghost of_flow: { subscription.token.table_id ≡ flow.now.table_id },
 }
 
-impl<'a, T: Numbered, S: FlowCore<Item = T> + Drop, A: Allocator + Copy> Reader<'a, S, A> {
+impl<'a, T: Numbered, S: FlowCore<Item = T> + SubscriberCalls + Drop, A: Allocator + Copy> Reader<
+    'a,
+    S,
+    A,
+> {
     /// Receives a value, and compares it. Returns `Err` if memory is refused.
     pub fn next<R: Wait + Abort>(
         &mut self,

@@ -4,10 +4,10 @@ use Rattle.flow_shared.proofs.NextTries.{finds_itself}
 use Rattle.flow_shared.proofs.flow.Flow.next.Goals as goal
 
 pub invariant_of-subscription : goal.invariant_of-subscription
-invariant_of-subscription g c = subscription_after_next g.S.FlowCore.kind g.met.S.FlowCore.lawful c.args.self.now.first c.subscription.inside.seat.knows c.call.new.seat.knows (number_of c.subscription.inside.id) _ c.call.ensures.called.1 c.subscription.invariant
+invariant_of-subscription g c = subscription_after_next g.S.FlowCore.kind g.S.FlowCore.lawful c.args.self.now.first c.subscription.inside.seat.knows c.call.new.seat.knows (number_of c.subscription.inside.id) _ c.call.ensures.called.1 c.subscription.invariant
 
 pub returns-clause-live : goal.returns-clause-live
-returns-clause-live g c = finds_itself g.S.FlowCore.kind g.met.S.FlowCore.lawful c.args.self.now.first c.subscription.inside.seat.knows c.call.new.seat.knows (number_of c.subscription.inside.id) _ c.call.ensures.called.1 c.subscription.invariant
+returns-clause-live g c = finds_itself g.S.FlowCore.kind g.S.FlowCore.lawful c.args.self.now.first c.subscription.inside.seat.knows c.call.new.seat.knows (number_of c.subscription.inside.id) _ c.call.ensures.called.1 c.subscription.invariant
 
 pub returns-clause-refused : goal.returns-clause-refused
-returns-clause-refused g c = next_fault g.S.FlowCore.kind g.met.S.FlowCore.lawful c.args.self.now.first c.subscription.inside.seat.knows c.call.new.seat.knows (number_of c.subscription.inside.id) _ c.call.ensures.called.1
+returns-clause-refused g c = next_fault g.S.FlowCore.kind g.S.FlowCore.lawful c.args.self.now.first c.subscription.inside.seat.knows c.call.new.seat.knows (number_of c.subscription.inside.id) _ c.call.ensures.called.1

@@ -13,7 +13,7 @@ pub take_inside-own-requires-clause-subscribed : goal.take_inside-own-requires-c
 take_inside-own-requires-clause-subscribed g c =
     let n = number_of c.args.id in
     let is = ap seat_in (sym c.unwrap-own.ensures ∙ c.take.ensures.value) ∙ c.seat.view_is in
-    subscribed_inside g.S.FlowCore.kind (λ w. g.S.FlowCore.first w.core) (AttendedAs g.S.FlowCore.sleeping g.S.FlowCore.stands_as) g.met.S.FlowCore.lawful n
+    subscribed_inside g.S.FlowCore.kind (λ w. g.S.FlowCore.first w.core) (AttendedAs g.S.FlowCore.sleeping g.S.FlowCore.stands_as) g.S.FlowCore.lawful n
     c.args.self.now _ c.unwrap-own.result c.enter-held.result c.self.view_is c.enter-held.ensures.found (subst (λ t. IsSubscription g.S.FlowCore.kind t.knows n) (sym is) c.requires.subscribed)
 
 pub returns-clause-drained : goal.returns-clause-drained
@@ -22,7 +22,7 @@ returns-clause-drained g c =
     let is = ap seat_in (sym c.unwrap-own.ensures ∙ c.take.ensures.value) ∙ c.seat.view_is in
     let subscribed = subst (λ t. IsSubscription g.S.FlowCore.kind t.knows n) (sym is) c.requires.subscribed in
     subst (λ t. DrainsBy (NextsOf g.S.FlowCore.kind c.args.self.now) c.args.most (numbered t n) c.args.values.now.items c.take_inside-own.result.1 c.take_inside-own.new.values.items (numbered c.take_inside-own.result.0 n)) is
-    (drains_by g.S.FlowCore.kind (λ w. g.S.FlowCore.first w.core) (AttendedAs g.S.FlowCore.sleeping g.S.FlowCore.stands_as) g.met.S.FlowCore.lawful n
+    (drains_by g.S.FlowCore.kind (λ w. g.S.FlowCore.first w.core) (AttendedAs g.S.FlowCore.sleeping g.S.FlowCore.stands_as) g.S.FlowCore.lawful n
     c.args.self.now _ c.unwrap-own.result c.enter-held.result c.self.view_is c.enter-held.ensures.found subscribed c.enter-held.ensures.lost c.args.most (omega (arith, c.requires.some))
     c.args.values.now.items c.take_inside-own.new.values.items c.take_inside-own.result.1 c.take_inside-own.result.0 c.take_inside-own.ensures.takes)
 
@@ -31,6 +31,6 @@ returns-clause-subscribed g c =
     let n = number_of c.args.id in
     let is = ap seat_in (sym c.unwrap-own.ensures ∙ c.take.ensures.value) ∙ c.seat.view_is in
     let subscribed = subst (λ t. IsSubscription g.S.FlowCore.kind t.knows n) (sym is) c.requires.subscribed in
-    subscribed_after g.S.FlowCore.kind (λ w. g.S.FlowCore.first w.core) (AttendedAs g.S.FlowCore.sleeping g.S.FlowCore.stands_as) g.met.S.FlowCore.lawful n
+    subscribed_after g.S.FlowCore.kind (λ w. g.S.FlowCore.first w.core) (AttendedAs g.S.FlowCore.sleeping g.S.FlowCore.stands_as) g.S.FlowCore.lawful n
     c.args.self.now _ c.unwrap-own.result c.enter-held.result c.self.view_is c.enter-held.ensures.found subscribed c.enter-held.ensures.lost c.args.most (omega (arith, c.requires.some))
     c.args.values.now.items c.take_inside-own.new.values.items c.take_inside-own.result.1 c.take_inside-own.result.0 c.take_inside-own.ensures.takes

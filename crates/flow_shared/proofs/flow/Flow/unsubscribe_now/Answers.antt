@@ -15,7 +15,7 @@ returns-in-Ok g c =
     let n = number_of c.subscription.inside.id in
     let own = c.subscription.inside.seat in
     let after = c.call_now.new.seat in
-    let yes_it_was = was_there kind g.met.S.FlowCore.lawful c.args.self.now.first own.knows after.knows n c.in-Ok._was_there c.in-Ok.ensures.called.0.0.1 c.subscription.invariant in
+    let yes_it_was = was_there kind g.S.FlowCore.lawful c.args.self.now.first own.knows after.knows n c.in-Ok._was_there c.in-Ok.ensures.called.0.0.1 c.subscription.invariant in
     subst (λ z. CallsAtOnce kind c.args.self.now z.token (kind.unsubscribe z.number) (kind.tested true) after) c.subscription.view_is
     (subst (λ a. CallsAtOnce kind c.args.self.now own (kind.unsubscribe n) (kind.tested a) after) yes_it_was c.in-Ok.ensures.called.0)
 

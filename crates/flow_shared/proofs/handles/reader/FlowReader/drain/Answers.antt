@@ -9,7 +9,7 @@ use Rattle.flow_shared.proofs.handles.reader.FlowReader.drain.Goals as goal
 
 pub drain_end-requires-clause-memory : goal.drain_end-requires-clause-memory
 drain_end-requires-clause-memory g c =
-    drain_fault g.S.FlowCore.kind g.met.S.FlowCore.lawful c.self.inside.flow.now c.args.most c.self.inside.subscription c.drain-ended.new.subscription c.args.values.now.items c.drain-ended.new.values.items c.drain-ended.result c.drain-ended.ensures.drained
+    drain_fault g.S.FlowCore.kind g.S.FlowCore.lawful c.self.inside.flow.now c.args.most c.self.inside.subscription c.drain-ended.new.subscription c.args.values.now.items c.drain-ended.new.values.items c.drain-ended.result c.drain-ended.ensures.drained
 
 pub returns-clause-drained : goal.returns-clause-drained
 returns-clause-drained g c =

@@ -10,7 +10,7 @@ returns-clause-polls g c =
     let kind = g.S.FlowCore.kind in
     let new = c.next_or_sleep-answer.new.subscription in
     let polled = subst (λ p. PollsNext kind c.self.inside.flow.now c.self.inside.subscription p new) (sym c.polled.ensures)
-    (polls_next kind g.met.S.FlowCore.lawful c.self.inside.flow.now c.self.inside.subscription new c.next_or_sleep-answer.result c.next_or_sleep-answer.ensures.called) in
+    (polls_next kind g.S.FlowCore.lawful c.self.inside.flow.now c.self.inside.subscription new c.next_or_sleep-answer.result c.next_or_sleep-answer.ensures.called) in
     subst (λ r. PollsNext kind r.flow r.subscription c.polled.result new) c.self.view_is polled
 
 pub returns-clause-armed : goal.returns-clause-armed

@@ -4,7 +4,7 @@ use Rattle.flow_law.specs.Standing.{Documents}
 use Rattle.std.specs.Prelude.{◌≡◌}
 use Rattle.flow_core.specs.SubId.{number_of}
 use Rattle.flow_core.proofs.TakingLemmas.{drains_none}
-use Rattle.flow_core.proofs.state.kind.StateCoreFlowCore.take_held.Goals as goal
+use Rattle.flow_core.proofs.state.kind.StateCoreSubscriberCalls.take_held.Goals as goal
 
 pub returns-clause-taken : goal.returns-clause-taken
 returns-clause-taken g c =

@@ -4,7 +4,7 @@ use Rattle.flow_law.specs.declared.call.SharedCall.TheVariants as call
 use Rattle.flow_core.specs.SubId.{number_of}
 use Rattle.flow_core.specs.SharedCore.{Nexts, next_reply}
 use Rattle.flow_core.proofs.TakingLemmas.{drains_lifted}
-use Rattle.flow_core.proofs.shared.kind.SharedCoreFlowCore.take_held.Goals as goal
+use Rattle.flow_core.proofs.shared.kind.SharedCoreSubscriberCalls.take_held.Goals as goal
 
 pub returns-clause-taken : goal.returns-clause-taken
 returns-clause-taken g c =
