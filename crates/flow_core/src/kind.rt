@@ -17,8 +17,8 @@ use std::alloc::Allocator;
 
 /// A flow for one thread, of any kind: what it stands for.
 ///
-/// It has no calls, since each function that is generic over a trait with calls proves at each place where it is called
-/// that all of them are there. So a function asks for `SubscriberCalls` only if it makes such a call.
+/// Its calls are in `ReaderCalls` and `SubscriberCalls`. Wherever a function with a bound is called, a proof shows that
+/// the type has each method of that bound, so a function asks for the smallest trait that has what it calls.
 pub trait FlowCore: Guarded<Said = Said<Self::Call, Self::Reply>> {
     type Item: FlowValue;
     /// The state of the documented flow.
@@ -51,17 +51,18 @@ pub trait FlowCore: Guarded<Said = Said<Self::Call, Self::Reply>> {
         → StandsForHistory kind stands_as (first start) core h → Self.stands start core h };
 }
 
-/// The calls of subscribers, which are those of any kind of flow, and what tells whom to wake.
-pub trait SubscriberCalls: FlowCore {
-    /// Adds a subscriber, and returns its number.
-    ///
-    /// # Errors
-    /// `OutOfMemory`, or `Exhausted` if the flow has issued all its numbers.
-    fn subscribe(&mut self) -> Result<SubId, FlowFault>
-        ensures { (name : List ℕ) →
-            Documents Self.kind Self.stands_as self.old (Self.kind.subscribe name)
-            (replied Self.kind (λ id. Self.kind.subscribed (number_of id)) result) self.new };
+/// What tells which sleepers have something after a call.
+#[derive(Clone, Copy)]
+pub struct Signs {
+    /// How many values subscribers could see so far.
+    pub mark: u64,
+    /// The number of the first emission that waits.
+    pub first_waiting: Option<u64>,
+    pub subscribers: u64,
+}
 
+/// Receiving, leaving, and what tells whom to wake: all that a reader calls.
+pub trait ReaderCalls: FlowCore {
     /// Returns the next value of a subscriber, `Empty` if there is none for it, or `Gone` if no subscriber has this
     /// number.
     ///
@@ -72,6 +73,32 @@ pub trait SubscriberCalls: FlowCore {
             self.old (Self.kind.take_next (number_of id))
             (replied Self.kind Self.kind.received result) self.new }
         ensures given { Self.Item.IsAlwaysCopied → IsOk result };
+
+    /// Removes a subscriber, and returns whether it was present.
+    fn unsubscribe(&mut self, id: SubId) -> bool
+        ensures { Documents Self.kind Self.stands_as
+            self.old (Self.kind.unsubscribe (number_of id)) (Self.kind.tested result) self.new };
+
+    /// Returns what tells which sleepers have something now.
+    fn signs(&self) -> Signs
+        ensures mark { (s : Self.State) → Self.stands_as self.now s
+            → result.mark ≡ Self.sleeping.mark s }
+        ensures first { (s : Self.State) → Self.stands_as self.now s
+            → result.first_waiting ≡ Self.sleeping.first_waiting s }
+        ensures subscribers { Documents Self.kind Self.stands_as
+            self.now Self.kind.count (Self.kind.counted result.subscribers) self.now };
+}
+
+/// Adding subscribers, counting them, and taking many of their values at once.
+pub trait SubscriberCalls: ReaderCalls {
+    /// Adds a subscriber, and returns its number.
+    ///
+    /// # Errors
+    /// `OutOfMemory`, or `Exhausted` if the flow has issued all its numbers.
+    fn subscribe(&mut self) -> Result<SubId, FlowFault>
+        ensures { (name : List ℕ) →
+            Documents Self.kind Self.stands_as self.old (Self.kind.subscribe name)
+            (replied Self.kind (λ id. Self.kind.subscribed (number_of id)) result) self.new };
 
     /// Appends values that the subscriber can receive, at most `most`, to the list. Returns how many, which may be 0;
     /// `next` returns the others.
@@ -89,22 +116,8 @@ pub trait SubscriberCalls: FlowCore {
         ensures room { (vec_len values.new ≡ vec_len values.old + result) ×
             (vec_capacity values.old ≤ vec_capacity values.new) };
 
-    /// Removes a subscriber, and returns whether it was present.
-    fn unsubscribe(&mut self, id: SubId) -> bool
-        ensures { Documents Self.kind Self.stands_as
-            self.old (Self.kind.unsubscribe (number_of id)) (Self.kind.tested result) self.new };
-
     /// Returns the number of subscribers.
     fn subscription_count(&self) -> u64
         ensures { Documents Self.kind Self.stands_as
             self.now Self.kind.count (Self.kind.counted result) self.now };
-
-    /// Counts the values that subscribers could see so far.
-    fn mark(&self) -> u64
-        ensures { (s : Self.State) → Self.stands_as self.now s → result ≡ Self.sleeping.mark s };
-
-    /// Returns the number of the first emission that waits.
-    fn first_waiting(&self) -> Option<u64>
-        ensures { (s : Self.State) → Self.stands_as self.now s
-            → result ≡ Self.sleeping.first_waiting s };
 }

@@ -35,7 +35,7 @@ mod shared;
 mod state;
 mod sub_id;
 
-pub use kind::{FlowCore, SubscriberCalls};
+pub use kind::{FlowCore, ReaderCalls, Signs, SubscriberCalls};
 pub use shared::SharedCore;
 pub use state::StateCore;
 pub use sub_id::SubId;

@@ -7,7 +7,7 @@ ghost use Rattle.flow_shared.specs.Attended.{AttendedAs, attended_stands, Rests,
 mod calls;
 
 use crate::core_call::CoreCall;
-use flow_core::{FlowCore, SubscriberCalls};
+use flow_core::{FlowCore, ReaderCalls};
 use flow_law::{Guarded, Said};
 use flow_sleepers::{Sleepers, Woken};
 use std::alloc::{Allocator, Global};
@@ -185,7 +185,7 @@ impl<S: FlowCore, A: Allocator + Copy> Attended<S, A> {
     }
 }
 
-impl<S: SubscriberCalls, A: Allocator + Copy> Attended<S, A> {
+impl<S: ReaderCalls, A: Allocator + Copy> Attended<S, A> {
     /// Removes all readers if they may have something now: if the value was set, or if the core's mark has changed.
     fn wake_readers_if_due(&mut self, is_set: bool, mark: u64)
         ensures core { self.new.core ≡ self.old.core }
@@ -193,7 +193,7 @@ impl<S: SubscriberCalls, A: Allocator + Copy> Attended<S, A> {
             self.old.core is_set mark self.old.readers self.new.readers }
         ensures emitters { self.new.emitters ≡ self.old.emitters }
     {
-        if is_set || self.core.mark() != mark {
+        if is_set || self.core.signs().mark != mark {
             self.wake_readers();
         }
     }
@@ -208,7 +208,7 @@ impl<S: SubscriberCalls, A: Allocator + Copy> Attended<S, A> {
         if self.emitters.is_empty() {
             return;
         }
-        let now = self.core.first_waiting();
+        let now = self.core.signs().first_waiting;
         if is_same(now, first) {
             return;
         }
@@ -232,7 +232,7 @@ impl<S: SubscriberCalls, A: Allocator + Copy> Attended<S, A> {
         if self.watchers.is_empty() {
             return;
         }
-        if self.core.subscription_count() == self.watched {
+        if self.core.signs().subscribers == self.watched {
             return;
         }
         self.wake_watchers();
@@ -261,11 +261,10 @@ impl<S: SubscriberCalls, A: Allocator + Copy> Attended<S, A> {
         ensures also { C.also call result }
     {
         self.wake_ended(call.ends(), call.cancels());
-        let mark = self.core.mark();
-        let first = self.core.first_waiting();
+        let before = self.core.signs();
         let answer = call.run(&mut self.core);
-        self.wake_readers_if_due(C::is_set(&answer), mark);
-        self.wake_emitters_if_due(first);
+        self.wake_readers_if_due(C::is_set(&answer), before.mark);
+        self.wake_emitters_if_due(before.first_waiting);
         self.wake_watchers_if_due();
         answer
     }

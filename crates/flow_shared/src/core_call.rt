@@ -10,7 +10,7 @@ ghost use Rattle.flow_shared.specs.Attended.{AttendedAs, attended_stands};
 ghost use Rattle.flow_shared.specs.Calls.{SaysIn};
 
 use crate::attended::Attended;
-use flow_core::{FlowCore, SubscriberCalls};
+use flow_core::{FlowCore, ReaderCalls};
 use flow_gate::{Held, NamesEvents, Seat};
 use flow_law::Said;
 use flow_sleepers::Waiter;
@@ -102,7 +102,7 @@ impl<S: FlowCore, A: Allocator + Copy> Attended<S, A> {
 
 /// Calls the core, and leaves with the call and its answer as one event.
 #[inline]
-pub(crate) fn call_core<S: SubscriberCalls, A: Allocator + Copy, C: CoreCall<S>>(
+pub(crate) fn call_core<S: ReaderCalls, A: Allocator + Copy, C: CoreCall<S>>(
     held: Held<'_, Attended<S, A>, A>,
     call: C,
 ) -> (Seat<Attended<S, A>, A>, C::Answer)

@@ -11,7 +11,7 @@ use crate::flow::Flow;
 use crate::shared::Seat;
 use crate::subscriber::Unsubscribe;
 use crate::token::{FlowSeat, FlowSubscription};
-use flow_core::{SharedCore, SubscriberCalls};
+use flow_core::{ReaderCalls, SharedCore};
 use flow_law::FlowValue;
 use std::alloc::Allocator;
 use std::thread;
@@ -19,7 +19,7 @@ use std::thread;
 /// How often a drop tries. A caller is inside for less than a microsecond, unless its thread is interrupted there.
 pub(crate) const TRIES: u32 = 100_000;
 
-impl<S: SubscriberCalls + Drop, A: Allocator + Copy> Flow<S, A> {
+impl<S: ReaderCalls + Drop, A: Allocator + Copy> Flow<S, A> {
     /// Ends the subscription if no other caller is inside; otherwise returns it.
     pub fn unsubscribe_now(
         &self,

@@ -9,7 +9,7 @@ ghost use Rattle.flow_shared.specs.Calls.{Calls, CallsAtOnce, ClosesAs, Meets};
 use crate::attended::Attended;
 use crate::core_call::{CoreCall, SleepingCall, call_core, call_core_or_sleep};
 use crate::token::{FlowSeat, FlowSubscription};
-use flow_core::{FlowCore, SubscriberCalls};
+use flow_core::{FlowCore, ReaderCalls};
 use flow_gate::Gate;
 use flow_law::FlowFault;
 use flow_sleepers::Waiter;
@@ -214,7 +214,7 @@ impl<S: FlowCore + Drop, A: Allocator + Copy> Flow<S, A> {
     }
 }
 
-impl<S: SubscriberCalls + Drop, A: Allocator + Copy> Flow<S, A> {
+impl<S: ReaderCalls + Drop, A: Allocator + Copy> Flow<S, A> {
     #[inline]
     pub(crate) fn call_by<R: Wait, C: CoreCall<S>>(
         &self,

@@ -12,7 +12,7 @@ use crate::core_call::{CoreCall, SleepingCall};
 use crate::flow::Flow;
 use crate::token::{FlowSeat, FlowSubscription};
 use crate::watcher::Count;
-use flow_core::{FlowCore, SubId, SubscriberCalls};
+use flow_core::{FlowCore, ReaderCalls, SubId, SubscriberCalls};
 use flow_law::{FlowFault, Next};
 use flow_sleepers::Waiter;
 use std::alloc::Allocator;
@@ -52,7 +52,7 @@ pub(crate) struct TakeNext {
     pub(crate) id: SubId,
 }
 
-impl<S: SubscriberCalls> CoreCall<S> for TakeNext {
+impl<S: ReaderCalls> CoreCall<S> for TakeNext {
     type Answer = Result<Next<S::Item>, FlowFault>;
 
     ghost call = { λ c name. S.kind.take_next (number_of c.id) };
@@ -78,7 +78,7 @@ impl<S: SubscriberCalls> CoreCall<S> for TakeNext {
     }
 }
 
-impl<S: SubscriberCalls, A: Allocator + Copy> SleepingCall<S, A> for TakeNext {
+impl<S: ReaderCalls, A: Allocator + Copy> SleepingCall<S, A> for TakeNext {
     ghost is_wait = { λ answer. IsWait answer };
 
     fn run_or_sleep<W: Waiter<A>>(
@@ -95,7 +95,7 @@ pub(crate) struct Unsubscribe {
     pub(crate) id: SubId,
 }
 
-impl<S: SubscriberCalls> CoreCall<S> for Unsubscribe {
+impl<S: ReaderCalls> CoreCall<S> for Unsubscribe {
     type Answer = bool;
 
     ghost call = { λ c name. S.kind.unsubscribe (number_of c.id) };
@@ -177,7 +177,9 @@ impl<S: SubscriberCalls + Drop, A: Allocator + Copy> Flow<S, A> {
         let made = self.seat(seat);
         Ok(FlowSubscription { seat: made, id })
     }
+}
 
+impl<S: ReaderCalls + Drop, A: Allocator + Copy> Flow<S, A> {
     /// Returns what the subscriber receives next, or `Empty` if it has received all values. The only error is
     /// `OutOfMemory`; a later call returns the value.
     ///

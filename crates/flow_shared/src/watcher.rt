@@ -10,7 +10,7 @@ use crate::flow::Flow;
 use crate::handles::FlowCaller;
 use crate::sleepless::Sleepless;
 use crate::token::FlowSeat;
-use flow_core::{FlowCore, SharedCore, SubscriberCalls};
+use flow_core::{FlowCore, ReaderCalls, SharedCore};
 use flow_law::{FlowFault, FlowValue};
 use flow_sleepers::{ThreadWaiter, Waiter};
 use std::alloc::{Allocator, Global};
@@ -44,7 +44,7 @@ impl Count {
     }
 }
 
-impl<S: SubscriberCalls> CoreCall<S> for Count {
+impl<S: ReaderCalls> CoreCall<S> for Count {
     type Answer = u64;
 
     ghost call = { λ c name. S.kind.count };
@@ -54,7 +54,7 @@ impl<S: SubscriberCalls> CoreCall<S> for Count {
     ghost also = { λ c count. ⊤ };
 
     fn run(self, core: &mut S) -> u64 {
-        core.subscription_count()
+        core.signs().subscribers
     }
 
     fn ends(&self) -> Option<u64> {
@@ -70,7 +70,7 @@ impl<S: SubscriberCalls> CoreCall<S> for Count {
     }
 }
 
-impl<S: SubscriberCalls, A: Allocator + Copy> SleepingCall<S, A> for Count {
+impl<S: ReaderCalls, A: Allocator + Copy> SleepingCall<S, A> for Count {
     ghost is_wait = { λ count. ⊤ };
 
     fn run_or_sleep<W: Waiter<A>>(self, state: &mut Attended<S, A>, waiter: &mut W) -> u64 {
@@ -144,7 +144,7 @@ impl<S: FlowCore + Drop, A: Allocator + Copy> Flow<S, A> {
     }
 }
 
-impl<S: SubscriberCalls + Drop, A: Allocator + Copy> Flow<S, A> {
+impl<S: ReaderCalls + Drop, A: Allocator + Copy> Flow<S, A> {
     /// Counts the subscribers as `count_now` does. In a watch, the watcher is then woken when the number changes.
     pub fn count_watched(
         &self,
@@ -171,7 +171,7 @@ impl<S: SubscriberCalls + Drop, A: Allocator + Copy> Flow<S, A> {
     }
 }
 
-impl<'a, S: SubscriberCalls + Drop, A: Allocator + Copy> FlowCaller<'a, S, A> {
+impl<'a, S: ReaderCalls + Drop, A: Allocator + Copy> FlowCaller<'a, S, A> {
     /// Counts the subscribers as `subscription_count` does, and wakes all watchers.
     pub fn wake_watchers<R: Wait>(&mut self, rt: &R) -> u64
         ensures flow { self.new.flow ≡ self.old.flow }

@@ -2,7 +2,7 @@
 ghost use Rattle.std.specs.Prelude.{◌≡◌};
 ghost use Rattle.flow_shared.specs.Calls.{Counts};
 
-use flow_core::SubscriberCalls;
+use flow_core::ReaderCalls;
 use flow_shared::FlowCaller;
 use flow_turns::StopSignal;
 use std::alloc::Allocator;
@@ -29,7 +29,7 @@ impl FlowStop {
 
     /// Asks the runs to stop, and wakes those that sleep at the flow of this caller. Returns the number of subscribers:
     /// in the history, this is one `subscription_count`.
-    pub fn ask<R: Wait, S: SubscriberCalls + Drop, A: Allocator + Copy>(
+    pub fn ask<R: Wait, S: ReaderCalls + Drop, A: Allocator + Copy>(
         &self,
         rt: &R,
         caller: &mut FlowCaller<'_, S, A>,

@@ -1,17 +1,17 @@
 //! A caller of a flow behind a gate, and its subscription.
 use crate::recording::{Answer, Call};
-use flow_core::{FlowCore, SubscriberCalls};
+use flow_core::{FlowCore, ReaderCalls, SubscriberCalls};
 use flow_shared::{FlowCaller, FlowReader};
 use std::sync::Wait;
 
 /// A caller of a shared flow, or of a state flow behind a gate, and its subscription.
 #[derive(Drop)]
-pub struct Subscriber<'a, S: SubscriberCalls + Drop> {
+pub struct Subscriber<'a, S: ReaderCalls + Drop> {
     pub caller: FlowCaller<'a, S>,
     pub reader: Option<FlowReader<'a, S>>,
 }
 
-impl<'a, S: SubscriberCalls + Drop> Subscriber<'a, S> {
+impl<'a, S: ReaderCalls + Drop> Subscriber<'a, S> {
     /// Returns a caller without a subscription.
     pub fn new(caller: FlowCaller<'a, S>) -> Subscriber<'a, S> {
         Subscriber {
@@ -23,19 +23,6 @@ impl<'a, S: SubscriberCalls + Drop> Subscriber<'a, S> {
     /// Returns another caller of the same flow, without a subscription.
     pub fn another_caller(&mut self) -> Subscriber<'a, S> {
         Subscriber::new(self.caller.another())
-    }
-
-    /// Returns another caller of the same flow, with a subscription. Returns None if memory is refused.
-    pub fn another_reader<R: Wait>(&mut self, rt: &R) -> Option<Subscriber<'a, S>> {
-        let mut made = self.another_caller();
-        made.subscribe(rt)?;
-        Some(made)
-    }
-
-    /// Subscribes. Returns None if memory is refused.
-    pub fn subscribe<R: Wait>(&mut self, rt: &R) -> Option<()> {
-        self.reader = Some(self.caller.subscribe(rt).ok()?);
-        Some(())
     }
 
     /// Takes the next value, if there is one. Returns None if memory is refused, or if there is no subscription.
@@ -51,6 +38,21 @@ impl<'a, S: SubscriberCalls + Drop> Subscriber<'a, S> {
         if let Some(reader) = self.reader.take() {
             let _caller = reader.unsubscribe(rt);
         }
+    }
+}
+
+impl<'a, S: SubscriberCalls + Drop> Subscriber<'a, S> {
+    /// Returns another caller of the same flow, with a subscription. Returns None if memory is refused.
+    pub fn another_reader<R: Wait>(&mut self, rt: &R) -> Option<Subscriber<'a, S>> {
+        let mut made = self.another_caller();
+        made.subscribe(rt)?;
+        Some(made)
+    }
+
+    /// Subscribes. Returns None if memory is refused.
+    pub fn subscribe<R: Wait>(&mut self, rt: &R) -> Option<()> {
+        self.reader = Some(self.caller.subscribe(rt).ok()?);
+        Some(())
     }
 }
 

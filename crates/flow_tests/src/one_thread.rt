@@ -9,6 +9,7 @@ mod many;
 mod own_values;
 mod shared;
 mod shared_calls;
+mod signs;
 mod state;
 mod value_traits;
 mod values;

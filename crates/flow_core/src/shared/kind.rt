@@ -5,7 +5,7 @@ ghost use Rattle.flow_law.specs.Standing.{StandsFor, StandsForHistory};
 ghost use Rattle.flow_law.proofs.SharedLawful.{shared_lawful};
 ghost use Rattle.flow_law.proofs.SharedSleeping.{shared_sleeping};
 
-use crate::kind::{FlowCore, SubscriberCalls};
+use crate::kind::{FlowCore, ReaderCalls, Signs, SubscriberCalls};
 use crate::shared::SharedCore;
 use crate::sub_id::SubId;
 use flow_law::{
@@ -44,32 +44,34 @@ impl<T: FlowValue, A: Allocator + Copy> FlowCore for SharedCore<T, A> {
     ghost stands_then = { λ start core h stood. stood };
 }
 
-impl<T: FlowValue, A: Allocator + Copy> SubscriberCalls for SharedCore<T, A> {
-    fn subscribe(&mut self) -> Result<SubId, FlowFault> {
-        SharedCore::subscribe(self)
-    }
-
+impl<T: FlowValue, A: Allocator + Copy> ReaderCalls for SharedCore<T, A> {
     fn next(&mut self, id: SubId) -> Result<Next<T>, FlowFault> {
         SharedCore::next(self, id)
-    }
-
-    fn take_held<B: Allocator>(&mut self, id: SubId, most: usize, values: &mut Vec<T, B>) -> usize {
-        SharedCore::take_held(self, id, most, values)
     }
 
     fn unsubscribe(&mut self, id: SubId) -> bool {
         SharedCore::unsubscribe(self, id)
     }
 
+    fn signs(&self) -> Signs {
+        Signs {
+            mark: SharedCore::emission_count(self),
+            first_waiting: SharedCore::first_waiting(self),
+            subscribers: SharedCore::subscription_count(self),
+        }
+    }
+}
+
+impl<T: FlowValue, A: Allocator + Copy> SubscriberCalls for SharedCore<T, A> {
+    fn subscribe(&mut self) -> Result<SubId, FlowFault> {
+        SharedCore::subscribe(self)
+    }
+
+    fn take_held<B: Allocator>(&mut self, id: SubId, most: usize, values: &mut Vec<T, B>) -> usize {
+        SharedCore::take_held(self, id, most, values)
+    }
+
     fn subscription_count(&self) -> u64 {
         SharedCore::subscription_count(self)
-    }
-
-    fn mark(&self) -> u64 {
-        SharedCore::emission_count(self)
-    }
-
-    fn first_waiting(&self) -> Option<u64> {
-        SharedCore::first_waiting(self)
     }
 }

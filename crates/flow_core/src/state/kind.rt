@@ -5,7 +5,7 @@ ghost use Rattle.flow_law.specs.Standing.{StandsForHistory};
 ghost use Rattle.flow_law.proofs.StateLawful.{state_lawful};
 ghost use Rattle.flow_law.proofs.StateSleeping.{state_sleeping};
 
-use crate::kind::{FlowCore, SubscriberCalls};
+use crate::kind::{FlowCore, ReaderCalls, Signs, SubscriberCalls};
 use crate::state::StateCore;
 use crate::sub_id::SubId;
 use flow_law::{FlowFault, FlowValue, Guarded, Next, Said, StateCall, StateFlowState, StateReply};
@@ -41,7 +41,30 @@ impl<T: FlowValue, A: Allocator + Copy> FlowCore for StateCore<T, A> {
     ghost stands_then = { λ start core h stood. stood };
 }
 
+impl<T: FlowValue, A: Allocator + Copy> ReaderCalls for StateCore<T, A> {
+    fn next(&mut self, id: SubId) -> Result<Next<T>, FlowFault> {
+        StateCore::next(self, id)
+    }
+
+    fn unsubscribe(&mut self, id: SubId) -> bool {
+        StateCore::unsubscribe(self, id)
+    }
+
+    /// Values of a state flow are not counted, and no emission into it waits.
+    fn signs(&self) -> Signs {
+        Signs {
+            mark: 0,
+            first_waiting: None,
+            subscribers: StateCore::subscription_count(self),
+        }
+    }
+}
+
 impl<T: FlowValue, A: Allocator + Copy> SubscriberCalls for StateCore<T, A> {
+    fn subscribe(&mut self) -> Result<SubId, FlowFault> {
+        StateCore::subscribe(self)
+    }
+
     /// Takes nothing: a subscriber can receive one value at most, so `next` is as fast.
     fn take_held<B: Allocator>(
         &mut self,
@@ -50,28 +73,6 @@ impl<T: FlowValue, A: Allocator + Copy> SubscriberCalls for StateCore<T, A> {
         _values: &mut Vec<T, B>,
     ) -> usize {
         0
-    }
-
-    /// Returns 0: values of a state flow are not counted.
-    fn mark(&self) -> u64 {
-        0
-    }
-
-    /// Returns `None`: no emission into a state flow waits.
-    fn first_waiting(&self) -> Option<u64> {
-        None
-    }
-
-    fn subscribe(&mut self) -> Result<SubId, FlowFault> {
-        StateCore::subscribe(self)
-    }
-
-    fn next(&mut self, id: SubId) -> Result<Next<T>, FlowFault> {
-        StateCore::next(self, id)
-    }
-
-    fn unsubscribe(&mut self, id: SubId) -> bool {
-        StateCore::unsubscribe(self, id)
     }
 
     fn subscription_count(&self) -> u64 {

@@ -12,13 +12,13 @@ ghost use Rattle.flow_shared.specs.Attended.{AttendedAs, IsWait};
 use crate::attended::Attended;
 use crate::subscriber::TakeNext;
 use crate::watcher::Count;
-use flow_core::{SubId, SubscriberCalls};
+use flow_core::{ReaderCalls, SubId, SubscriberCalls};
 use flow_law::{FlowFault, Next};
 use flow_sleepers::Waiter;
 use futures::task::Poll;
 use std::alloc::Allocator;
 
-impl<S: SubscriberCalls, A: Allocator + Copy> Attended<S, A> {
+impl<S: ReaderCalls, A: Allocator + Copy> Attended<S, A> {
     /// Calls `next` of the core. If there is nothing to receive, the caller sleeps.
     pub(crate) fn next_or_sleep<W: Waiter<A>>(
         &mut self,
@@ -65,7 +65,7 @@ impl<S: SubscriberCalls, A: Allocator + Copy> Attended<S, A> {
         ensures kept { W.keeps waiter.old waiter.new }
     {
         let count = self.count();
-        self.watched = self.core.subscription_count();
+        self.watched = self.core.signs().subscribers;
         let _asleep: Poll<()> = self.watchers.sleep(waiter, number);
         count
     }
@@ -89,7 +89,9 @@ impl<S: SubscriberCalls, A: Allocator + Copy> Attended<S, A> {
         self.wake_watchers();
         count
     }
+}
 
+impl<S: SubscriberCalls, A: Allocator + Copy> Attended<S, A> {
     /// Appends values that a subscriber can receive, at most `most`, to the list, if no caller sleeps. Returns how
     /// many.
     pub(crate) fn take_held<B: Allocator>(

@@ -10,7 +10,7 @@ use super::errors::number_error;
 use super::reader::FlowReader;
 use crate::flow::Flow;
 use crate::token::FlowSeat;
-use flow_core::{FlowCore, SubscriberCalls};
+use flow_core::{FlowCore, ReaderCalls, SubscriberCalls};
 use flow_law::{Busy, NumberError};
 use std::alloc::{Allocator, Global};
 use std::marker::Model;
@@ -96,7 +96,9 @@ impl<'a, S: SubscriberCalls + Drop, A: Allocator + Copy> FlowCaller<'a, S, A> {
             Err(fault) => Err(number_error(fault)),
         }
     }
+}
 
+impl<'a, S: ReaderCalls + Drop, A: Allocator + Copy> FlowCaller<'a, S, A> {
     /// Counts the subscribers. A subscription whose token was dropped still counts; one whose handle was dropped has
     /// ended, unless the drop found the flow taken at each of its many tries.
     pub fn subscription_count<R: Wait>(&mut self, rt: &R) -> u64

@@ -7,7 +7,7 @@ ghost use Rattle.flow_law.specs.Tokens.{knowing};
 
 use super::caller::FlowCaller;
 use super::reader::FlowReader;
-use flow_core::{FlowCore, SubscriberCalls};
+use flow_core::{FlowCore, ReaderCalls};
 use flow_law::OutOfMemory;
 use std::alloc::{Allocator, Global};
 use std::sync::Wait;
@@ -61,7 +61,7 @@ impl<'a, S: FlowCore + Drop, A: Allocator + Copy> FlowCaller<'a, S, A> {
     }
 }
 
-impl<'a, S: SubscriberCalls + Drop, A: Allocator + Copy> FlowCaller<'a, S, A> {
+impl<'a, S: ReaderCalls + Drop, A: Allocator + Copy> FlowCaller<'a, S, A> {
     /// Meets each of the readers, one after the other, as `meet_all` does.
     pub fn meet_readers(&mut self, readers: &mut [FlowReader<'_, S, A>])
         requires { All (λ r. r.flow.table_id ≡ self.old.flow.table_id) readers.old }

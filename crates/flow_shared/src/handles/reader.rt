@@ -15,7 +15,7 @@ use super::errors::{drain_end, try_next_error};
 use crate::dropping::TRIES;
 use crate::flow::Flow;
 use crate::token::FlowSubscription;
-use flow_core::{FlowCore, SharedCore, StateCore, SubscriberCalls};
+use flow_core::{FlowCore, ReaderCalls, SharedCore, StateCore, SubscriberCalls};
 use flow_law::{Next, OutOfMemory, TryNextError};
 use std::alloc::{Allocator, Global};
 use std::marker::Model;
@@ -26,7 +26,7 @@ use std::sync::Wait;
 /// # Dropping
 /// Dropping the reader ends its subscription, as `unsubscribe` does, without waiting. If other callers hold the flow at
 /// each of many tries, the subscription stays in the flow.
-pub struct FlowReader<'a, S: SubscriberCalls, A: Allocator + Copy = Global> {
+pub struct FlowReader<'a, S: ReaderCalls, A: Allocator + Copy = Global> {
     pub(crate) flow: &'a Flow<S, A>,
     pub(crate) subscription: FlowSubscription<S, A>,
 }
@@ -46,14 +46,14 @@ pub enum DrainEnd {
     Empty,
 }
 
-impl<S: SubscriberCalls + Drop, A: Allocator + Copy> Drop for FlowReader<'_, S, A> {
+impl<S: ReaderCalls + Drop, A: Allocator + Copy> Drop for FlowReader<'_, S, A> {
     fn drop(self) {
         let Self { flow, subscription } = self;
         let _ended = flow.unsubscribe_within(subscription, TRIES);
     }
 }
 
-impl<'a, S: SubscriberCalls, A: Allocator + Copy> Model for FlowReader<'a, S, A> {
+impl<'a, S: ReaderCalls, A: Allocator + Copy> Model for FlowReader<'a, S, A> {
     ghost use Rattle.std.specs.Prelude.{◌≡◌};
     ghost use Rattle.atomic_table.specs.Seated.{TableId};
     ghost use Rattle.flow_law.specs.declared.history.Said.{Said};
@@ -66,7 +66,7 @@ impl<'a, S: SubscriberCalls, A: Allocator + Copy> Model for FlowReader<'a, S, A>
     ghost invariant = { λ r. r.subscription.token.table_id ≡ r.flow.now.table_id };
 }
 
-impl<S: SubscriberCalls + Drop, A: Allocator + Copy> Flow<S, A> {
+impl<S: ReaderCalls + Drop, A: Allocator + Copy> Flow<S, A> {
     /// Binds a subscription to its flow.
     pub fn reader(&self, subscription: FlowSubscription<S, A>) -> FlowReader<'_, S, A>
         requires { subscription.token.table_id ≡ self.now.table_id }
@@ -76,7 +76,7 @@ impl<S: SubscriberCalls + Drop, A: Allocator + Copy> Flow<S, A> {
     }
 }
 
-impl<'a, S: SubscriberCalls + Drop, A: Allocator + Copy> FlowReader<'a, S, A> {
+impl<'a, S: ReaderCalls + Drop, A: Allocator + Copy> FlowReader<'a, S, A> {
     pub(crate) fn new(
         flow: &'a Flow<S, A>,
         subscription: FlowSubscription<S, A>,
@@ -119,28 +119,6 @@ impl<'a, S: SubscriberCalls + Drop, A: Allocator + Copy> FlowReader<'a, S, A> {
             Ok(_) => Ok(None),
             Err(fault) => Err(try_next_error(fault)),
         }
-    }
-
-    /// Appends the values that the subscriber can receive now, at most `most`, to the list.
-    ///
-    /// # Errors
-    /// `OutOfMemory` if the list cannot grow or a value could not be copied. The next value is still in the flow, the
-    /// values before it are in the list, and a later call continues.
-    pub fn drain<R: Wait, B: Allocator>(
-        &mut self,
-        rt: &R,
-        most: usize,
-        values: &mut Vec<S::Item, B>,
-    ) -> Result<DrainEnd, OutOfMemory>
-        ensures flow { self.new.flow ≡ self.old.flow }
-        ensures drained { DrainsBy
-            (NextsOf S.kind self.old.flow) most self.old.subscription values.old.items
-            (drained_by (answer_by memory_fault result)) values.new.items self.new.subscription }
-        ensures number { self.new.subscription.number ≡ self.old.subscription.number }
-        ensures full { S.Item.IsAlwaysCopied → OnErr result (IsFull values.new) }
-    {
-        let ended = self.flow.drain(rt, &mut self.subscription, most, values);
-        drain_end(ended)
     }
 
     /// Makes a caller of the same flow through the seat of this subscription.
@@ -189,6 +167,30 @@ impl<'a, S: SubscriberCalls + Drop, A: Allocator + Copy> FlowReader<'a, S, A> {
             subscription,
         } = self;
         subscription
+    }
+}
+
+impl<'a, S: SubscriberCalls + Drop, A: Allocator + Copy> FlowReader<'a, S, A> {
+    /// Appends the values that the subscriber can receive now, at most `most`, to the list.
+    ///
+    /// # Errors
+    /// `OutOfMemory` if the list cannot grow or a value could not be copied. The next value is still in the flow, the
+    /// values before it are in the list, and a later call continues.
+    pub fn drain<R: Wait, B: Allocator>(
+        &mut self,
+        rt: &R,
+        most: usize,
+        values: &mut Vec<S::Item, B>,
+    ) -> Result<DrainEnd, OutOfMemory>
+        ensures flow { self.new.flow ≡ self.old.flow }
+        ensures drained { DrainsBy
+            (NextsOf S.kind self.old.flow) most self.old.subscription values.old.items
+            (drained_by (answer_by memory_fault result)) values.new.items self.new.subscription }
+        ensures number { self.new.subscription.number ≡ self.old.subscription.number }
+        ensures full { S.Item.IsAlwaysCopied → OnErr result (IsFull values.new) }
+    {
+        let ended = self.flow.drain(rt, &mut self.subscription, most, values);
+        drain_end(ended)
     }
 }
 

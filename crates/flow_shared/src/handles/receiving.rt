@@ -8,13 +8,13 @@ ghost use Rattle.flow_shared.specs.Calls.{NextsOf};
 ghost use Rattle.flow_shared.specs.Receiving.{Receives};
 
 use super::reader::FlowReader;
-use flow_core::{SharedCore, StateCore, SubscriberCalls};
+use flow_core::{ReaderCalls, SharedCore, StateCore};
 use flow_law::{FlowValue, Next, OutOfMemory};
 use flow_sleepers::{ThreadWaiter, Waiter};
 use std::alloc::Allocator;
 use std::sync::Wait;
 
-impl<'a, S: SubscriberCalls + Drop, A: Allocator + Copy> FlowReader<'a, S, A> {
+impl<'a, S: ReaderCalls + Drop, A: Allocator + Copy> FlowReader<'a, S, A> {
     /// Takes the next value. If there is none, the caller sleeps or asks again.
     pub(super) fn next_asleep<R: Wait, W: Waiter<A>>(
         &mut self,

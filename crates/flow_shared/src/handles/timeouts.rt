@@ -7,14 +7,14 @@ ghost use Rattle.flow_law.specs.StateFlow.{state_flow};
 ghost use Rattle.flow_shared.specs.Receiving.{NextsUntil};
 
 use super::reader::FlowReader;
-use flow_core::{SharedCore, StateCore, SubscriberCalls};
+use flow_core::{ReaderCalls, SharedCore, StateCore};
 use flow_law::{FlowValue, OutOfMemory};
 use flow_sleepers::{Limit, ThreadWaiter};
 use std::alloc::Allocator;
 use std::sync::Wait;
 use std::time::{Clock, Duration};
 
-impl<'a, S: SubscriberCalls + Drop, A: Allocator + Copy> FlowReader<'a, S, A> {
+impl<'a, S: ReaderCalls + Drop, A: Allocator + Copy> FlowReader<'a, S, A> {
     /// Waits for the next value, and takes it, or returns `None` when the time is up.
     pub(super) fn await_next_within<R: Wait + Clock>(
         &mut self,

@@ -5,7 +5,7 @@ ghost use Rattle.futures.specs.Task.{IsArmed, Keeps};
 ghost use Rattle.flow_shared.specs.Polling.{PollsNext, Yields, polled_by};
 
 use super::reader::FlowReader;
-use flow_core::SubscriberCalls;
+use flow_core::ReaderCalls;
 use flow_law::{FlowFault, Next, OutOfMemory};
 use futures::Stream;
 use futures::task::{Context, Poll};
@@ -23,7 +23,7 @@ fn polled<T>(answer: Result<Next<T>, FlowFault>) -> Poll<Result<T, OutOfMemory>>
     }
 }
 
-impl<'a, S: SubscriberCalls + Drop, A: Allocator + Copy> FlowReader<'a, S, A> {
+impl<'a, S: ReaderCalls + Drop, A: Allocator + Copy> FlowReader<'a, S, A> {
     /// Takes the next value if no other caller holds the flow. If there is none, the polled task sleeps.
     pub(super) fn poll_next_value(
         &mut self,
@@ -58,11 +58,11 @@ impl<'a, S: SubscriberCalls + Drop, A: Allocator + Copy> FlowReader<'a, S, A> {
 /// # Dropping
 /// Dropping the stream ends its subscription, as dropping its reader does. Call `into_reader` to keep it.
 #[derive(Drop)]
-pub struct FlowValues<'a, S: SubscriberCalls, A: Allocator + Copy = Global> {
+pub struct FlowValues<'a, S: ReaderCalls, A: Allocator + Copy = Global> {
     reader: FlowReader<'a, S, A>,
 }
 
-impl<'a, S: SubscriberCalls, A: Allocator + Copy> Model for FlowValues<'a, S, A> {
+impl<'a, S: ReaderCalls, A: Allocator + Copy> Model for FlowValues<'a, S, A> {
     ghost use Rattle.atomic_table.specs.Seated.{TableId};
     ghost use Rattle.flow_law.specs.declared.history.Said.{Said};
     ghost use Rattle.flow_law.specs.Handles.{ReaderOf};
@@ -72,7 +72,7 @@ impl<'a, S: SubscriberCalls, A: Allocator + Copy> Model for FlowValues<'a, S, A>
     ghost view = { λ s. s.reader };
 }
 
-impl<'a, S: SubscriberCalls + Drop, A: Allocator + Copy> FlowValues<'a, S, A> {
+impl<'a, S: ReaderCalls + Drop, A: Allocator + Copy> FlowValues<'a, S, A> {
     /// Ends the stream, and returns its reader.
     pub fn into_reader(self) -> FlowReader<'a, S, A>
         ensures { result ≡ self.entry }
@@ -93,7 +93,7 @@ impl<'a, S: SubscriberCalls + Drop, A: Allocator + Copy> FlowValues<'a, S, A> {
     }
 }
 
-impl<'a, S: SubscriberCalls + Drop, A: Allocator + Copy> Stream for FlowValues<'a, S, A> {
+impl<'a, S: ReaderCalls + Drop, A: Allocator + Copy> Stream for FlowValues<'a, S, A> {
     type Item = Result<S::Item, OutOfMemory>;
 
     ghost yields = { λ s xs next. Yields S.kind s.flow s.subscription xs next };

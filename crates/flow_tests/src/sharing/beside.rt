@@ -1,7 +1,7 @@
 //! Sharings that run on one thread while another thread calls their flow.
 use crate::compare::compare;
 use flow_cold::Scripted;
-use flow_core::SubscriberCalls;
+use flow_core::ReaderCalls;
 use flow_law::{NEVER, Started};
 use flow_shared::FlowCaller;
 use flow_sharing::{FlowStop, Sharing, StopSignal, WatchedHub};
@@ -61,7 +61,7 @@ pub fn receives_twice<R: Wait + Clock + Abort, C: Caller>(rt: &R, caller: &mut C
     is_right
 }
 
-impl<'a, S: SubscriberCalls + Drop> Follows<FlowCaller<'a, S>> for FlowStop
+impl<'a, S: ReaderCalls + Drop> Follows<FlowCaller<'a, S>> for FlowStop
 where
     FlowCaller<'a, S>: Caller,
 {

@@ -11,6 +11,6 @@ returns-clause-documented g c = λ s at.
         sound = said.1.sound;
         readers = said.1.readers;
         emitters = said.1.emitters;
-        watchers = inr (c.subscription_count-self.ensures (kind.after s kind.count (kind.counted c.count-count.result)) said.1.core).0;
+        watchers = inr (c.signs.ensures.subscribers (kind.after s kind.count (kind.counted c.count-count.result)) said.1.core).0;
       },
     )
