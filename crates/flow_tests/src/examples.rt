@@ -6,7 +6,6 @@ mod at_once;
 mod emissions;
 mod gate;
 mod lent;
-mod met;
 mod polled;
 mod races;
 mod subscribed;
