@@ -6,8 +6,8 @@
 //! and the results of threads that do more than `run_count`, `run_crowd` and `run_pair`, whose results are proved.
 //!
 //! A worked example is a list of calls, each with what it must return. Another module makes the calls. All tests are in
-//! this crate, since each crate of tests is linked, and proves anew how the values of flows are dropped. `word` is not
-//! under `cfg(test)`, since `./wrong_bodies` tries an edit of its `celsius.rt`, and proves only what is in the library.
+//! this crate, since each crate of tests is linked, and proves anew how the values of flows are dropped. `limited` and
+//! `word` are not under `cfg(test)`, since `./wrong_bodies` tries edits of them, and proves only what is in the library.
 #![tactic(auto)]
 
 #[cfg(test)]
@@ -30,6 +30,9 @@ mod handle_calls;
 mod handles;
 #[cfg(test)]
 mod lent;
+pub mod limited;
+#[cfg(test)]
+mod memory;
 #[cfg(test)]
 mod one_thread;
 #[cfg(test)]
@@ -42,6 +45,8 @@ mod reading;
 mod refusals;
 #[cfg(test)]
 mod sharing;
+#[cfg(test)]
+mod start;
 #[cfg(test)]
 mod steps;
 #[cfg(test)]

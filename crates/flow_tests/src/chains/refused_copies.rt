@@ -1,9 +1,9 @@
 //! Out of memory inside a chain: the chain ends with a fault, and the collection itself does not fail.
 
 use crate::compare::compare;
+use crate::limited::CopyLimited;
 use crate::one_thread::limited::{are, list_of};
 use flow_cold::{ChainFault, Cold, Distinct, End, OfList, collect_all};
-use flow_testing::CopyLimited;
 use std::alloc::Global;
 use std::cell::Cell;
 use std::process::Abort;

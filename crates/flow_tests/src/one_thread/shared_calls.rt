@@ -1,5 +1,6 @@
 //! Calls on a shared flow, each with what it must return.
 use crate::compare::{compare, no_such_call};
+use crate::limited::CopyLimited;
 use crate::one_thread::drains::DRAINS;
 use crate::one_thread::held::HELD;
 use crate::one_thread::lags::LAGS;
@@ -9,7 +10,6 @@ use crate::one_thread::own_values::OWN_VALUES;
 use crate::one_thread::shared::SHARED;
 use flow_core::{SharedCore, SubId};
 use flow_law::{Config, Drained, Emit, FlowFault, Next, Overflow, Refused};
-use flow_testing::CopyLimited;
 use std::alloc::Global;
 use std::cell::Cell;
 use std::process::Abort;

@@ -1,8 +1,8 @@
 //! A state flow without a subscriber, and drains of a state flow, which no script has.
 use crate::compare::compare;
+use crate::memory::Refusing;
 use flow_core::{StateCore, SubId};
 use flow_law::{Drained, FlowFault};
-use flow_testing::Refusing;
 use std::alloc::Allocator;
 use std::process::Abort;
 

@@ -2,12 +2,12 @@
 ghost use Rattle.std.specs.Prelude.{◌≡◌};
 
 use crate::compare::compare;
+use crate::memory::Refusing;
 use crate::playing::on_flows::{FlowPlayer, Played, take_again};
 use crate::steps::{Example, Kind, Step};
 use crate::values::Numbered;
 use flow_law::{Boxed, Config, FlowFault};
 use flow_shared::{Flow, FlowSeat, SharedFlow, StateFlow};
-use flow_testing::Refusing;
 use std::alloc::{Allocator, Global};
 use std::process::Abort;
 use std::sync::Wait;

@@ -3,11 +3,11 @@
 ghost use Rattle.std.specs.Prelude.{◌≡◌};
 
 use crate::compare::compare;
+use crate::memory::Refusing;
 use crate::refusals::flows::SMALL;
 use crate::values::Numbered;
 use flow_law::{Boxed, FlowFault};
 use flow_shared::{EmitFuture, Emitted, NextFuture, Seat, Sent, SharedFlow, Subscription};
-use flow_testing::Refusing;
 use futures::task::Poll;
 use futures::test::MockTask;
 use std::alloc::{Allocator, Global};

@@ -1,6 +1,7 @@
 //! A sharing that is refused memory. For a subscriber that reads nothing 64 values are buffered. The next value waits,
 //! and for that the flow takes memory.
 use crate::compare::compare;
+use crate::memory::Refusing;
 use crate::playing::MANY;
 use crate::sharing::Chain::SixtySix;
 use crate::sharing::Step::{Refused, Turn, Turns};
@@ -11,7 +12,6 @@ use flow_law::Event::{Put, Queued, Waiting};
 use flow_law::ShareFault::{self, Flow};
 use flow_law::{FlowFault, Next, Started};
 use flow_sharing::{CoreHub, Sharing, share_in};
-use flow_testing::Refusing;
 use std::alloc::{Allocator, Global};
 use std::process::Abort;
 

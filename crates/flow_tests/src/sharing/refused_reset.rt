@@ -1,10 +1,10 @@
 //! A sharing over a state flow, a reset and a chain that are refused with `OutOfMemory`.
 use crate::compare::compare;
+use crate::limited::CopyLimited;
 use crate::sharing::sharing_steps::{RESTS, STARTS};
 use flow_cold::OfList;
 use flow_law::{ChainFault, FlowFault, Report, ShareFault, Started};
 use flow_sharing::{Sharing, StateHub, state_in};
-use flow_testing::CopyLimited;
 use std::alloc::Global;
 use std::cell::Cell;
 use std::process::Abort;

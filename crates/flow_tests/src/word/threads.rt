@@ -1,9 +1,9 @@
 //! Several threads on one flow.
 use crate::compare::compare;
+use crate::start::Start;
 use crate::word::caller::{Caller, Task};
 use crate::word::signals::Signals;
 use flow_law::FlowFault;
-use flow_testing::Start;
 use flow_word::WordState;
 use std::alloc::Global;
 use std::process::Abort;

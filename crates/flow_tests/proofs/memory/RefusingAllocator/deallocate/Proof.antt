@@ -2,7 +2,7 @@
 use Rattle.std.proofs.Common.{◌≡◌, ℕ, ◌+◌, ◌^◌, ◌<◌, List, [], ◌∷◌, refl, w64, Bor}
 use Rattle.std.proofs.alloc.Calls.{Al, α, seen, token, gives_key, Gives, at_gives, Gives-goes, Gives-Gives}
 use seplogic.Ra.Ura.{Ura}
-use mir.Syntax.{Ty, Fn}
+use mir.Syntax.{Ty, Fn, Args, a_type, dnil, dcons}
 use mir.Val.{Val, vint, vptr, vunit}
 use mir.MapTy.{inst_fn}
 use base.Logic.{SProp, ent, id⊢, never_e}
@@ -18,14 +18,15 @@ use contract.BorrowLft.{◌⊑◌, ⊑_trans}
 use contract.Monad.{Fun, fact}
 use contract.Running.{tables, tables_of}
 use sound.WpLaws.{fm_of, WpFn-mono}
-use denote.Builtin.{usize, RawPtr}
+use denote.Builtin.{usize, RawPtr, RefOf}
 use denote.Exit.{yes}
 use denote.Opens.{unhide}
+use denote.Param.{bounded, param}
 use denote.Plain.{uint_vals, uint_Tells}
 use denote.RattleType.{owns}
 use denote.RawPtr.{Ptr, block_ptr, null_ptr, ptr_val, rawptr_vals, rawptr_Tells}
 use denote.Ref.{shr_vals}
-use denote.Signature.{plain, types_at}
+use denote.Signature.{plain, types_at, Slot}
 use denote.Steps.{heard, nothing}
 use denote.Triple.Call.{calls_at}
 use denote.Triple.Clauses.{Ended, Clauses}
@@ -33,12 +34,18 @@ use denote.Triple.Spec.{triple_of}
 use denote.Triple.Statement.{Triple}
 use denote.Triple.Table.{entered}
 use denote.Triple.Walked.{Stays, stay_dropped, walk_of, ends_at, walked, Goes-dropped, walk_Meets}
-use Rattle.flow_testing.proofs.Inside.{args_of, self_of}
-use Rattle.flow_testing.specs.contracts.memory.Refusing as memory
-use Rattle.flow_testing.specs.contracts.memory.RefusingAllocator.deallocate as said
-use Rattle.flow_testing.specs.contracts.memory.RefusingAllocator.deallocate.Key as key
-use Rattle.flow_testing.proofs.memory.RefusingAllocator.deallocate.Statement as stated
-use Rattle.flow_testing.proofs.memory.RefusingAllocator.deallocate.Code as code
+use Rattle.flow_tests.specs.contracts.memory.Refusing as memory
+use Rattle.flow_tests.specs.contracts.memory.RefusingAllocator.deallocate as said
+use Rattle.flow_tests.specs.contracts.memory.RefusingAllocator.deallocate.Key as key
+use Rattle.flow_tests.proofs.memory.RefusingAllocator.deallocate.Statement as stated
+use Rattle.flow_tests.proofs.memory.RefusingAllocator.deallocate.Code as code
+
+-- The inner allocator: the arguments of a function that passes a call on to it, and its `&self`.
+abbrev args_of : Al → Args
+args_of Z = bounded (a_type ∷ []) (Z.row, tt) (dcons Z.d (dcons Z.drops dnil))
+
+abbrev self_of : Al → Slot 2
+self_of Z = RefOf (0 ∷ []) tt (plain (λ _. memory.the_row (param 0 Z.row))) (λ _. tt)
 
 -- the function at the inner allocator, what it takes and what it gives
 module _ (Z : Al) where
