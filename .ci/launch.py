@@ -61,7 +61,7 @@ def build(name):
     kept = crate / "out" / f"{name}.unproved"
     kept.parent.mkdir(exist_ok=True)
     kept.unlink(missing_ok=True)
-    say(f"building {name} without a proof, which takes about a minute; `rt run` in crates/{name} proves it as well")
+    say(f"building {name} without a proof, which takes one to three minutes; `rt run` in crates/{name} proves it as well")
     with tempfile.TemporaryDirectory(prefix="flows-", dir=kept.parent) as room:
         # With many runs `rt try` keeps the program for a while.
         cases = pathlib.Path(room, "cases")

@@ -177,12 +177,24 @@ def new_flow(flow):
     return State(flow) if flow["kind"] == "state" else Shared(flow)
 
 
+# Instead of an answer: some value, which is not known.
+SOME_VALUE = "some value"
+
+
+def is_given(answer, given):
+    """Whether a flow's answer is one that a part may have."""
+    if answer == SOME_VALUE:
+        return isinstance(given, dict)
+    return given is not None and answer in (None, given)
+
+
 def parts_of(call):
-    """The parts of a call in order, each with its arguments and the answer that it must have; with None, any answer."""
+    """The parts of a call in order, each with its arguments and the answer that it must have; with None, any answer.
+
+    A `first` leaves after it has received a value, so only a value may be the answer of its middle part, also if it is pending."""
     word, answer, by = call["call"], call.get("answer"), call["by"]
     if word == "first":
-        done = None if answer is None else "done"
-        return [("subscribe", [by], done), ("next", [by], answer), ("unsubscribe", [by], done)]
+        return [("subscribe", [by], "done"), ("next", [by], answer or SOME_VALUE), ("unsubscribe", [by], "done")]
     if word == "update":
         return [("compare_and_set", [by, answer["old"], answer["value"]], True)]
     arguments = [by] + [call[key] for key in ("expect", "value", "first") if key in call]
@@ -211,8 +223,7 @@ def goes_on(flow, rows, begun):
             if parts:
                 (word, arguments, answer), *parts = parts
                 after = flow.copied()
-                given = getattr(after, word)(*arguments)
-                if given is None or (answer is not None and given != answer):
+                if not is_given(answer, getattr(after, word)(*arguments)):
                     continue
             rest = rows if parts else {**rows, by: row[1:]}
             if goes_on(after, rest, {**begun, by: parts or None}):

@@ -8,7 +8,9 @@ use Rattle.std.proofs.lemmas.Option.{slice_get_within, slice_get-map, same_Some}
 use Rattle.flow_law.proofs.Rows.{split}
 use Rattle.flow_check.specs.declared.timed.Timed.{Timed}
 use Rattle.flow_check.specs.declared.moments.Cut.{Cut}
-use Rattle.flow_check.specs.Records.{Calls, call_in, recorded, is_over_before, may_follow, IsWellTimed}
+use Rattle.flow_check.specs.declared.record.FaultKind.{FaultKind}
+use Rattle.flow_check.specs.declared.record.FaultKind.TheVariants.{EndsEarly, BeginsEarly}
+use Rattle.flow_check.specs.Records.{Calls, call_in, recorded, is_over_before, may_follow, IsWellTimed, HasFault}
 use Rattle.flow_check.specs.Moments.{is_past, known_call, known_row, IsKnown}
 use Rattle.flow_check.proofs.Ends.{past_earlier, not_over, past_end_again, begins_later, follows_known}
 
@@ -139,3 +141,13 @@ module _ {C : Type 0} (cut : Cut) (callers known : Calls C) (well : IsWellTimed 
             subst (λ (t : Timed C). may_follow t other ≡ true) (sym c.3) (
             subst (λ (t : Timed C). may_follow (known_call cut c.0) t ≡ true) (sym d.3) (follows_known cut c.0 d.0 (at.1 d.0 d.1) d.2)),
       )
+
+-- ---- no faults
+
+-- a well-timed record has no fault
+pub no_fault : {C : Type 0} (callers : Calls C) (caller index : ℕ) (kind : FaultKind) → IsWellTimed callers → HasFault callers caller index kind → ⊥
+no_fault callers caller index EndsEarly well has = false≢true (sym (well caller index has.0 has.1).0 ∙ has.2)
+no_fault {C} callers caller index BeginsEarly well has =
+    let is = has.1.1 in
+    let next = subst (λ (n : ℕ). recorded callers caller n ≡ Some is.0) is.1 is.3 in
+    false≢true (sym is.4 ∙ (well caller has.0 has.1.0 is.2).1 is.0 next)

@@ -123,6 +123,7 @@ module _ (callers : Calls SharedEntry) (config : Config) (limit : ℕ) where
           goes_on callers config limit m k h st caller (made caller (operation.Subscribe own) m) (call.Subscribe (name_of caller) own.now) r fresh found.1,
         )
     follows_by operation.Next written n (answer.Value v) r given is e speaks may = follows_next written n (answer.Value v) (Some v) r given is e speaks (eqb_same v)
+    follows_by operation.Next written n answer.SomeValue r given is e speaks may = follows_next written n answer.SomeValue (Some is.0) r given is.1 e speaks refl
     follows_by operation.Next written n answer.Empty r given is e speaks may = follows_next written n answer.Empty None r given is e speaks refl
     follows_by operation.Unsubscribe written n answer.Done r given is e speaks may = by (position_of n s.subscribers) refl (sym is ∙ e)
       where
@@ -206,6 +207,7 @@ module _ (callers : Calls SharedEntry) (config : Config) (limit : ℕ) where
       fresh_of n operation.EmitCancelled answer.Done r e = ap is_refused e
       fresh_of n (operation.Subscribe own) answer.Done r e = ap is_refused e
       fresh_of n operation.Next (answer.Value v) r e = ap is_refused e
+      fresh_of n operation.Next answer.SomeValue r e = ap is_refused e.1
       fresh_of n operation.Next answer.Empty r e = ap is_refused e
       fresh_of n operation.Unsubscribe answer.Done r e = ap is_refused e
       fresh_of n operation.ReplayCache (answer.Values vs) r e = ap is_refused e

@@ -133,6 +133,7 @@ module _ (callers : Calls SharedEntry) (config : Config) (limit : ℕ) where
     next_is : (n : ℕ) (x : Option ℕ) (a : SharedAnswer) → same_answer (emitted_answer x) a ≡ true → IsReply n operation.Next a (reply.Received (next_told x))
     next_is n None answer.Empty e = refl
     next_is n (Some v) (answer.Value w) e = ap (λ (y : ℕ). reply.Received (next.Value y)) (eqb_is v w e)
+    next_is n (Some v) answer.SomeValue e = (v, refl)
     next_is n None _ e = absurd (false≢true e)
     next_is n (Some v) _ e = absurd (false≢true e)
 

@@ -211,10 +211,11 @@ same_values [] [] = true
 same_values (v ∷ vs) (w ∷ ws) = (v == w) && same_values vs ws
 same_values _ _ = false
 
--- the recorded answer is the flow's own
+-- the recorded answer is the flow's own, or says as much of it as is known
 abbrev pub same_answer : OwnAnswer → SharedAnswer → Bool
 same_answer done answer.Done = true
 same_answer (received v) (answer.Value w) = v == w
+same_answer (received v) answer.SomeValue = true
 same_answer (tested b) (answer.Truth c) = if b then c else not c
 same_answer nothing answer.Empty = true
 same_answer (counted m) (answer.Number n) = m == n

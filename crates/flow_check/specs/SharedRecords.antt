@@ -23,7 +23,8 @@ use Rattle.flow_check.specs.Records.{Calls}
 use Rattle.flow_check.specs.Orders.{Explains}
 use Rattle.flow_check.specs.StateRecords.{name_of}
 
--- the call of an event; n is the number of the caller's subscription or emission, if the call names one
+-- The call of an event; n is the number of the caller's subscription or emission, if the call names one. The return of an `emit` is
+-- no event (`IsReply`), so the call that stands for it is of no history.
 abbrev pub call_of : ℕ → ℕ → SharedOperation → SharedCall ℕ
 call_of caller n (operation.TryEmit v) = call.TryEmit v
 call_of caller n (operation.Emit v) = call.Emit v
@@ -45,6 +46,7 @@ IsReply n (operation.EmitOrNot v) answer.Done r = (e : Emit) × (r ≡ reply.Emi
 IsReply n operation.EmitCancelled answer.Done r = r ≡ reply.Tested true
 IsReply n (operation.Subscribe own) answer.Done r = r ≡ reply.Subscribed n
 IsReply n operation.Next (answer.Value v) r = r ≡ reply.Received (next.Value v)
+IsReply n operation.Next answer.SomeValue r = (v : ℕ) × (r ≡ reply.Received (next.Value v))
 IsReply n operation.Next answer.Empty r = r ≡ reply.Received next.Empty
 IsReply n operation.Unsubscribe answer.Done r = r ≡ reply.Tested true
 IsReply n operation.ReplayCache (answer.Values vs) r = r ≡ reply.Cached vs.now

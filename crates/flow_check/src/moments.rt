@@ -1,5 +1,5 @@
 //! What was known of a record at a moment.
-ghost use Rattle.std.specs.Prelude.{◌≡◌, map, IfOk, IfSome};
+ghost use Rattle.std.specs.Prelude.{◌≡◌, map, IfOk, IfSome, IsSome};
 ghost use Rattle.flow_check.specs.Moments.{is_past, past_end, known_call, known_row, IsKnown};
 
 use crate::record::Record;
@@ -82,13 +82,14 @@ fn known_rows<C: Copy>(
     Ok(known)
 }
 
-/// Returns what was known of a record at the cut.
+/// Returns what was known of a record at the cut. There always is such a record: it is well timed, since this one is.
 pub fn known_record<C: Copy>(
     alloc: Global,
     calls: &Record<C>,
     cut: Cut,
 ) -> Result<Option<Record<C>>, AllocError>
-    ensures { IfOk result (λ made. IfSome made (λ known. IsKnown cut calls.now known)) }
+    ensures cut { IfOk result (λ made. IfSome made (λ known. IsKnown cut calls.now known)) }
+    ensures made { IfOk result (λ made. IsSome made) }
 {
     let rows = known_rows(alloc, calls.callers(), cut)?;
     match Record::new(rows) {

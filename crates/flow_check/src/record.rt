@@ -101,7 +101,7 @@ fn count_of<C: Copy>(callers: &[Vec<Timed<C>>], caller: usize) -> usize
     }
 }
 
-/// Returns the first fault of a caller's calls.
+/// Returns a fault of a caller's calls, if there is one.
 fn fault_of<C: Copy>(callers: &[Vec<Timed<C>>], caller: usize) -> Option<Fault>
     ensures { MatchOption result
         ((k : ℕ) → IsWellAt callers.now caller k)
@@ -115,7 +115,7 @@ fn fault_of<C: Copy>(callers: &[Vec<Timed<C>>], caller: usize) -> Option<Fault>
     None
 }
 
-/// Returns the first fault of the record, in the order of the callers.
+/// Returns a fault of the record, if there is one.
 fn first_fault<C: Copy>(callers: &[Vec<Timed<C>>]) -> Option<Fault>
     ensures { MatchOption result (IsWellTimed callers.now) (IsFaultOf callers.now) }
 {
@@ -131,7 +131,7 @@ impl<C: Copy> Record<C> {
     /// Makes a record of the calls of each caller, in the caller's order.
     ///
     /// # Errors
-    /// Returns the first fault if some call has one.
+    /// Returns a fault if some call has one.
     pub fn new(callers: Vec<Vec<Timed<C>>>) -> Result<Self, Fault>
         ensures kept { IfOk result (λ made. made ≡ callers.items) }
         ensures refused { IfErr result (IsFaultOf callers.items) }

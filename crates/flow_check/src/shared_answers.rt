@@ -57,13 +57,14 @@ fn are_values(values: &[u64], recorded: Option<SharedAnswer<'_>>) -> bool
     }
 }
 
-/// Returns whether the recorded answer is this value (Empty for None), or no answer was recorded.
+/// Returns whether the recorded answer is this value (Empty for None) or speaks of it, or no answer was recorded.
 fn is_received(value: Option<u64>, recorded: Option<SharedAnswer<'_>>) -> bool
     ensures { result ≡ agrees (Some (emitted_answer value)) recorded.entry }
 {
     match (value, recorded) {
         (_, None) => true,
         (Some(value), Some(SharedAnswer::Value(other))) => value == other,
+        (Some(_), Some(SharedAnswer::SomeValue)) => true,
         (None, Some(SharedAnswer::Empty)) => true,
         _ => false,
     }

@@ -33,6 +33,9 @@ pub enum SharedAnswer<'a> {
     Done,
     /// The answer to `next`.
     Value(u64),
+    /// The answer to a `next` that received a value of which nothing else is known: that of a pending `first`, which
+    /// leaves only after it has received one.
+    SomeValue,
     /// The answer to `try_emit`.
     Truth(bool),
     /// The answer to `next` if the subscriber has received all that was emitted.
@@ -43,7 +46,8 @@ pub enum SharedAnswer<'a> {
     Values(&'a [u64]),
 }
 
-/// What was recorded of a call. A pending call has no answer.
+/// What was recorded of a call. A pending call has no answer, except for a part without which its next part does not
+/// happen.
 #[derive(Clone, Copy, Debug)]
 pub struct SharedEntry<'a> {
     pub operation: SharedOperation<'a>,

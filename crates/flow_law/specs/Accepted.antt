@@ -28,7 +28,7 @@ module _ {T : Type 0} where
   is_cancel (call.Cancel e) = true
   is_cancel _ = false
 
-  -- no emission was cancelled
+  -- no `cancel` was called
   abbrev pub NoneCancelled : History T → Type 0
   NoneCancelled = AllByRecursion (λ (e : HistoryEvent (Said (SharedCall T) (SharedReply T))). is_cancel e.what.call ≡ false)
 
@@ -37,7 +37,7 @@ module _ {T : Type 0} where
   emitted_and_queued s = map (λ e. e.value) (s.emitted ++ s.queue)
 
 -- the law: in a flow that suspends, the emitted values and then the queued ones are what the flow accepted, in order, if no
--- emission was cancelled
+-- `cancel` was called
 abbrev pub LawAccepted : Type 0 → Type 0
 LawAccepted T = (config : Config) (h : History T) → IsLegal config h → config.overflow ≡ Suspend → NoneCancelled h
     → emitted_and_queued (state_after config h) ≡ accepted (map (λ e. e.what) h)

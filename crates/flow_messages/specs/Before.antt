@@ -9,6 +9,7 @@ use Rattle.flow_law.specs.declared.history.Knowledge.{Knowledge}
 use Rattle.flow_law.specs.declared.history.Said.{Said}
 use Rattle.flow_law.specs.Growth.{child_name, event}
 use Rattle.flow_law.specs.OneHistory.{said}
+use Rattle.flow_law.specs.Tokens.{Token}
 
 -- what the events of a state flow of numbers say
 abbrev pub Says : Type 0
@@ -36,6 +37,12 @@ read_by name value = event name (said GetValue (Got value))
 -- the token has seen that its maker set the value
 abbrev pub IsSetByMaker : ℕ → Knowledge Says → Type 0
 IsSetByMaker value k = (maker : List ℕ) × (j : ℕ) × (k.name ≡ child_name maker j) × Has (set_by maker value) k.seen
+
+-- the same token, later: what it has seen begins with all that it had seen before
+abbrev pub HasSeenMore : {Id E : Type 0} → Token Id E → Token Id E → Type 0
+HasSeenMore {Id} {E} before after =
+    (after.table_id ≡ before.table_id) × (after.knows.name ≡ before.knows.name)
+    × ((more : List (HistoryEvent E)) × (after.knows.seen ≡ before.knows.seen ++ more))
 
 -- a caller set `value`, and later in the history this token read `found`
 abbrev pub ReadsAfterSet : ℕ → ℕ → Knowledge Says → Type 0

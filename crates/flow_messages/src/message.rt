@@ -1,18 +1,24 @@
 //! A message, and what its type says.
-ghost use Rattle.std.specs.Prelude.{◌≡◌, Option, Some, None};
+ghost use Rattle.std.specs.Prelude.{◌≡◌, ℕ, Option, Some, None};
+ghost use Rattle.flow_law.specs.StateFlow.{IsStateHistory};
 ghost use Rattle.flow_word.specs.Tokens.{WordId};
-ghost use Rattle.flow_messages.specs.Before.{IsSetByMaker, ReadsAfterSet};
+ghost use Rattle.flow_messages.specs.Before.{HasSeenMore, IsSetByMaker, ReadsAfterSet};
 
 use flow_word::WordSetter;
 use std::marker::{Brand, PhantomData};
 
-/// The flow of the callers in messages, for contracts only. A call at `Brand` chooses it in its proof.
+/// The flow of the callers in messages, and the value that each message has, for contracts only. A call at `Brand`
+/// chooses them in its proof.
 pub trait OneFlow {
     ghost id: { Option WordId };
+
+    ghost said: { Option ℕ };
 }
 
 impl OneFlow for Brand {
     ghost id = { None };
+
+    ghost said = { None };
 }
 
 /// A value that was set, and a caller that has seen the `set`.
@@ -22,13 +28,15 @@ pub struct Message<'a, F: OneFlow> {
     pub caller: WordSetter<'a, u64>,
     pub of: PhantomData<F>,
     ghost of_flow: { F.id ≡ Some caller.flow.table_id },
+    ghost of_value: { F.said ≡ Some value },
     ghost set: { ∥ IsSetByMaker value caller.token.knows ∥₁ },
 }
 
 impl<'a, F: OneFlow> Message<'a, F> {
     /// Sets the value, and returns a message about it.
     pub fn of_set(setter: &mut WordSetter<'a, u64>, value: u64) -> Message<'a, F>
-        requires { F.id ≡ Some setter.old.flow.table_id }
+        requires flow { F.id ≡ Some setter.old.flow.table_id }
+        requires value { F.said ≡ Some value }
         ensures { result.value ≡ value }
     {
         setter.set(value);
@@ -43,6 +51,8 @@ impl<'a, F: OneFlow> Message<'a, F> {
     pub fn read_after(self, reader: &mut WordSetter<'a, u64>) -> u64
         requires { F.id ≡ Some reader.old.flow.table_id }
         ensures flow { reader.new.flow ≡ reader.old.flow }
+        ensures reader { HasSeenMore reader.old.token reader.new.token }
+        ensures history { IsStateHistory reader.new.flow.first reader.new.token.knows.seen }
         ensures after { ∥ ReadsAfterSet self.entry.value result reader.new.token.knows ∥₁ }
     {
         let Message {

@@ -1,6 +1,7 @@
 //! Passing a message from one thread to another.
 ghost use Rattle.std.specs.Prelude.{◌≡◌, Some, IfSome};
-ghost use Rattle.flow_messages.specs.Before.{ReadsAfterSet};
+ghost use Rattle.flow_law.specs.StateFlow.{IsStateHistory};
+ghost use Rattle.flow_messages.specs.Before.{HasSeenMore, ReadsAfterSet};
 
 use crate::message::{Message, OneFlow};
 use crossbeam_channel::{Receiver, Sender, unbounded};
@@ -25,7 +26,8 @@ fn tell<'a, F: OneFlow, R: Wait>(
     to: Sender<Message<'a, F>, Global>,
     value: u64,
 )
-    requires { F.id ≡ Some setter.flow.table_id }
+    requires flow { F.id ≡ Some setter.flow.table_id }
+    requires value { F.said ≡ Some value }
 {
     let mut setter = setter;
     let message = Message::of_set(&mut setter, value);
@@ -40,7 +42,12 @@ fn hear<'a, F: OneFlow, R: Wait>(
     from: Receiver<Message<'a, F>, Global>,
 ) -> Option<Heard<'a>>
     requires { F.id ≡ Some reader.flow.table_id }
-    ensures { IfSome result (λ heard.
+    ensures value { IfSome result (λ heard. F.said ≡ Some heard.value) }
+    ensures flow { IfSome result (λ heard. heard.reader.flow ≡ reader.entry.flow) }
+    ensures reader { IfSome result (λ heard. HasSeenMore reader.entry.token heard.reader.token) }
+    ensures history { IfSome result (λ heard.
+        IsStateHistory heard.reader.flow.first heard.reader.token.knows.seen) }
+    ensures after { IfSome result (λ heard.
         ∥ ReadsAfterSet heard.value heard.found heard.reader.token.knows ∥₁) }
 {
     let mut reader = reader;
@@ -61,8 +68,14 @@ fn pass_between<'a, F: OneFlow + Send, R: Threads + Wait + Sync>(
     reader: WordSetter<'a, u64>,
     value: u64,
 ) -> Option<Heard<'a>>
-    requires { (F.id ≡ Some setter.flow.table_id) × (F.id ≡ Some reader.flow.table_id) }
-    ensures { IfSome result (λ heard.
+    requires flow { (F.id ≡ Some setter.flow.table_id) × (F.id ≡ Some reader.flow.table_id) }
+    requires value { F.said ≡ Some value }
+    ensures value { IfSome result (λ heard. heard.value ≡ value) }
+    ensures flow { IfSome result (λ heard. heard.reader.flow ≡ reader.entry.flow) }
+    ensures reader { IfSome result (λ heard. HasSeenMore reader.entry.token heard.reader.token) }
+    ensures history { IfSome result (λ heard.
+        IsStateHistory heard.reader.flow.first heard.reader.token.knows.seen) }
+    ensures after { IfSome result (λ heard.
         ∥ ReadsAfterSet heard.value heard.found heard.reader.token.knows ∥₁) }
 {
     let (to, from) = unbounded::<Message<'a, F>, Global>(alloc).ok()?;
@@ -76,8 +89,8 @@ fn pass_between<'a, F: OneFlow + Send, R: Threads + Wait + Sync>(
 
 /// Joins two closures: one sets the value and sends a message about it, the other waits for the message and then reads.
 ///
-/// Returns `None` if there is no memory for the channel or the message. The reader finds the value that was set, or one
-/// that another caller set after it.
+/// Returns `None` if there is no memory for the channel or the message. The message has this value, and the reader is
+/// the given one. It finds the value that was set, or one that another caller set after it.
 pub fn pass_on<'a, R: Threads + Wait + Sync>(
     rt: &R,
     alloc: Global,
@@ -86,7 +99,12 @@ pub fn pass_on<'a, R: Threads + Wait + Sync>(
     value: u64,
 ) -> Option<Heard<'a>>
     requires { setter.flow ≡ reader.flow }
-    ensures { IfSome result (λ heard.
+    ensures value { IfSome result (λ heard. heard.value ≡ value) }
+    ensures flow { IfSome result (λ heard. heard.reader.flow ≡ reader.entry.flow) }
+    ensures reader { IfSome result (λ heard. HasSeenMore reader.entry.token heard.reader.token) }
+    ensures history { IfSome result (λ heard.
+        IsStateHistory heard.reader.flow.first heard.reader.token.knows.seen) }
+    ensures after { IfSome result (λ heard.
         ∥ ReadsAfterSet heard.value heard.found heard.reader.token.knows ∥₁) }
 {
     pass_between::<Brand, R>(rt, alloc, setter, reader, value)

@@ -1,5 +1,6 @@
 pub mod AskLemmas
 pub mod BoundLemmas
 pub mod PassingLemmas
+pub mod StoppingLemmas
 pub mod StreamLemmas
 pub mod TerminalLemmas

@@ -1,4 +1,4 @@
--- Where a chain is after its next item, what `any` and `all` return for the first item that is found, and the first call of `for_each`.
+-- What is left of a chain after its next item, what `any` and `all` return for the first item that is found, and the first call of `for_each`.
 use Rattle.std.proofs.Common.{◌≡◌, ◌⊎◌, Bool, true, false, cond, ◌||◌, ◌&&◌, not, List, [], ◌∷◌, ◌++◌, Option, Some, None, Result, Ok, Err, inl, inr, refl, sym, ap, ◌∙◌}
 use Rattle.std.specs.Prelude.{filter}
 use Rattle.std.specs.List.{list_all, list_any}
@@ -8,29 +8,13 @@ use Rattle.flow_law.specs.declared.chain.ChainFault.TheVariants.{OutOfMemory}
 use Rattle.flow_law.specs.declared.chain.End.{End}
 use Rattle.flow_law.specs.declared.chain.End.TheVariants.{Completed, Failed}
 use Rattle.flow_law.specs.ChainRun.{ChainRun, items, ending}
-use Rattle.flow_operators.specs.Collecting.{Reaches, StandsAfter, StandsAfterItem}
+use Rattle.flow_operators.specs.Collecting.{Reaches}
 use Rattle.flow_operators.specs.Closures.{Follows}
 use Rattle.flow_operators.specs.Terminal.{FollowsRun, GivesItem, Visits, all_of, any_of, first_of}
 
-module _ {T : Type 0} where
-  pub after-item : (x : T) (whole before after : ChainRun T) → Reaches whole before → GivesItem before (Ok (Some x)) after → StandsAfter x whole after
-  after-item x whole before after stands gives = (stands.0, stands.1 ∙ ap (λ ys. stands.0 ++ ys) gives.0, stands.2 ∙ gives.1)
-
-  pub after-some-item : (x : T) (whole before after : ChainRun T) → Reaches whole before → GivesItem before (Ok (Some x)) after → StandsAfterItem whole after
-  after-some-item x whole before after stands gives = (stands.0, x, stands.1 ∙ ap (λ ys. stands.0 ++ ys) gives.0, stands.2 ∙ gives.1)
-
-  pub reaches-next : (x : T) (whole before after : ChainRun T) → Reaches whole before → GivesItem before (Ok (Some x)) after → Reaches whole after
-  reaches-next x whole before after stands gives =
-      (stands.0 ++ x ∷ [], stands.1 ∙ ap (λ ys. stands.0 ++ ys) gives.0 ∙ sym (append_assoc stands.0 (x ∷ []) (items after)), stands.2 ∙ gives.1)
-
-module _ {T : Type 0} where
-  -- a chain that was rewound is at its start
-  pub reaches-start : (whole rest : ChainRun T) → rest ≡ whole → Reaches whole rest
-  reaches-start whole rest is = ([], sym (ap items is), sym (ap ending is))
-
-  pub stands-further : (whole before after : ChainRun T) → Reaches whole before → StandsAfterItem before after → StandsAfterItem whole after
-  stands-further whole before after (xs, same, ends_so) (ys, x, next, ends_then) =
-      (xs ++ ys, x, same ∙ ap (λ zs. xs ++ zs) next ∙ sym (append_assoc xs ys (x ∷ items after)), ends_so ∙ ends_then)
+pub reaches-next : {T : Type 0} (x : T) (whole before after : ChainRun T) → Reaches whole before → GivesItem before (Ok (Some x)) after → Reaches whole after
+reaches-next x whole before after stands gives =
+    (stands.0 ++ x ∷ [], stands.1 ∙ ap (λ ys. stands.0 ++ ys) gives.0 ∙ sym (append_assoc stands.0 (x ∷ []) (items after)), stands.2 ∙ gives.1)
 
 -- what `any` (found is true) and `all` (found is false) return for the item that was searched
 abbrev pub told : {A : Type 0} → Bool → Result (Option A) ChainFault → Result Bool ChainFault

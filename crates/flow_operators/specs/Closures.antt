@@ -1,6 +1,6 @@
 -- What a caller's closure answers. It computes a function if each answer that it may give at x is that of the function at x. Any call may
 -- answer out of memory instead.
-use Rattle.std.specs.Prelude.{◌≡◌, ◌⊎◌, Bool, Result, Ok, Err}
+use Rattle.std.specs.Prelude.{◌≡◌, ◌≢◌, ◌⊎◌, Bool, Result, Ok, Err}
 use Rattle.flow_law.specs.declared.chain.ChainFault.{ChainFault}
 use Rattle.flow_law.specs.declared.chain.ChainFault.TheVariants.{OutOfMemory}
 
@@ -35,13 +35,25 @@ abbrev pub OpensTo : {S P : Type 0} → (S → Type 0) → (S → P) → Result 
 OpensTo reads view meant (Ok y) = reads y × (meant ≡ Ok (view y))
 OpensTo reads view meant (Err fault) = (meant ≡ Err fault) ⊎ (fault ≡ OutOfMemory)
 
--- the closure opens chains with the runs of f; one reading serves all of them
-abbrev pub Opens : {A S P : Type 0} → (S → Type 0) → (S → P) → (A → Result S ChainFault → Type 0) → (A → Result P ChainFault) → Type 0
-Opens {A} {S} {P} reads view post f = (x : A) (r : Result S ChainFault) → post x r → OpensTo reads view (f x) r
+-- the closure opens chains: that of an item x has the reading `readings x`, and by it the run f x
+abbrev pub Opens : {A S R P : Type 0} → (S → R → Type 0) → (S → R → P) → (A → Result S ChainFault → Type 0) → (A → R) → (A → Result P ChainFault) → Type 0
+Opens {A} {S} reads view post readings f = (x : A) (r : Result S ChainFault) → post x r → OpensTo (λ s. reads s (readings x)) (λ s. view s (readings x)) (f x) r
 
 -- each chain that the closure opens can be asked
 abbrev pub OpensCallable : {A S : Type 0} → (S → Type 0) → (A → Result S ChainFault → Type 0) → Type 0
 OpensCallable {A} {S} callable post = (x : A) (s : S) → post x (Ok s) → callable s
+
+-- no call of the closure answers out of memory
+abbrev pub NeverRefuses : {A B : Type 0} → (A → Result B ChainFault → Type 0) → Type 0
+NeverRefuses {A} {B} post = (x : A) (r : Result B ChainFault) → post x r → r ≢ Err OutOfMemory
+
+-- no call of a closure of two arguments answers out of memory
+abbrev pub NeverRefusesPairs : {A B C : Type 0} → (A → B → Result C ChainFault → Type 0) → Type 0
+NeverRefusesPairs {A} {B} {C} post = (x : A) (y : B) (r : Result C ChainFault) → post x y r → r ≢ Err OutOfMemory
+
+-- no call of a closure that changes answers out of memory; `step` says what a call answers, and what the closure becomes
+abbrev pub NeverRefusesVisits : {A B F : Type 0} → (F → A → Result B ChainFault → F → Type 0) → Type 0
+NeverRefusesVisits {A} {B} {F} step = (f g : F) (x : A) (r : Result B ChainFault) → step f x r g → r ≢ Err OutOfMemory
 
 -- the closure computes the test
 abbrev pub Decides : {A : Type 0} → (A → Bool → Type 0) → (A → Bool) → Type 0

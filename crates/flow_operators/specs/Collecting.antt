@@ -7,10 +7,6 @@ module _ {T : Type 0} where
   abbrev pub Reaches : ChainRun T → ChainRun T → Type 0
   Reaches whole rest = (xs : List T) × (items whole ≡ xs ++ items rest) × (ending whole ≡ ending rest)
 
-  -- the chain is just after an item x of `whole`: `rest` has the items after x, and the end
-  abbrev pub StandsAfter : T → ChainRun T → ChainRun T → Type 0
-  StandsAfter x whole rest = (xs : List T) × (items whole ≡ xs ++ (x ∷ items rest)) × (ending whole ≡ ending rest)
-
   -- the chain is just after some item of `whole`
   abbrev pub StandsAfterItem : ChainRun T → ChainRun T → Type 0
   StandsAfterItem whole rest = (xs : List T) × (x : T) × (items whole ≡ xs ++ (x ∷ items rest)) × (ending whole ≡ ending rest)

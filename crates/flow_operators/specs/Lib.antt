@@ -2,12 +2,14 @@ pub mod Asking
 pub mod Behind
 pub mod Closures
 pub mod Collecting
+pub mod InnerChains
 pub mod Kept
 pub mod Numbers
 pub mod Pairs
 pub mod Passing
 pub mod Results
 pub mod Sources
+pub mod Stopping
 pub mod Streams
 pub mod Taking
 pub mod Terminal

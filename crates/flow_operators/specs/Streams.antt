@@ -1,13 +1,17 @@
 -- What a chain emits as a stream: its items, and its fault, if it fails, as the last item. `xs` is what the stream has emitted so far, and
 -- `last` what it emits next.
-use Rattle.std.specs.Prelude.{◌≡◌, ◌⊎◌, List, [], ◌∷◌, Option, Some, None, Result, Ok, Err}
+use Rattle.std.specs.Prelude.{◌≡◌, ◌⊎◌, Bool, List, [], ◌∷◌, Option, Some, None, Result, Ok, Err}
 use Rattle.futures.specs.declared.task.Poll.{Poll}
-use Rattle.futures.specs.declared.task.Poll.TheVariants.{Ready}
+use Rattle.futures.specs.declared.task.Poll.TheVariants.{Ready, Pending}
 use Rattle.flow_law.specs.declared.chain.ChainFault.{ChainFault}
 use Rattle.flow_law.specs.declared.chain.ChainFault.TheVariants.{OutOfMemory}
 use Rattle.flow_law.specs.declared.chain.End.TheVariants.{Completed, Failed}
 use Rattle.flow_law.specs.ChainRun.{ChainRun, gives, pends, ends}
+use Rattle.flow_operators.specs.declared.cold.Asked.{Asked}
+use Rattle.flow_operators.specs.declared.cold.Asked.TheVariants as asked
+use Rattle.flow_operators.specs.declared.cold.Asked.TheVariants.{Item, End as Ended, Fault}
 use Rattle.flow_operators.specs.declared.streamed.Streamed.{Streamed}
+use Rattle.flow_operators.specs.Kept.{unless_ended}
 
 module _ {T : Type 0} where
   -- the stream emits nothing more
@@ -35,6 +39,21 @@ module _ {T : Type 0} where
 -- the chain of a stream
 abbrev pub streamed_chain : {C : Type 0} → Streamed C → C
 streamed_chain stream = stream.chain
+
+-- the stream has emitted its last item
+abbrev pub is_stream_over : {C : Type 0} → Streamed C → Bool
+is_stream_over stream = stream.ended
+
+-- the rest of the chain's run; nothing if the stream has emitted its last item
+abbrev pub streamed_rest : {C T : Type 0} → (C → ChainRun T) → Streamed C → ChainRun T
+streamed_rest rest stream = unless_ended stream.ended (rest stream.chain)
+
+-- the chain's answer that a poll returns
+abbrev pub answer_in : {T : Type 0} → Poll (Option (Result T ChainFault)) → Asked T
+answer_in (Ready (Some (Ok x))) = Item x
+answer_in (Ready (Some (Err fault))) = Fault fault
+answer_in (Ready None) = Ended
+answer_in Pending = asked.Pending
 
 -- P of the fault, if the poll returns one as the stream's last item
 abbrev pub OnFault : {T : Type 0} → Poll (Option (Result T ChainFault)) → (ChainFault → Type 0) → Type 0

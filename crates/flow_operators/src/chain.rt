@@ -8,7 +8,7 @@ ghost use Rattle.flow_law.specs.ChainRun.{ChainRun, gives};
 ghost use Rattle.flow_law.specs.Chain as means;
 ghost use Rattle.flow_law.specs.Chain.{meaning_of};
 ghost use Rattle.flow_law.specs.OperatorRuns as runs;
-ghost use Rattle.flow_operators.specs.Closures.{Computes, ComputesBy, ComputesPairs, Decides, Makes, Opens, OpensCallable};
+ghost use Rattle.flow_operators.specs.Closures.{Computes, ComputesBy, ComputesPairs, Decides, Makes, NeverRefuses, NeverRefusesPairs, Opens, OpensCallable};
 ghost use Rattle.flow_operators.specs.Taking.{items_left};
 
 use crate::cold::Cold;
@@ -31,6 +31,8 @@ pub trait Chain: Cold {
         ensures callable { ⟦<Map<Self, F> as Cold>⟧.CanAsk result }
         ensures reads { (m : Self.Reading) (f : Self.Item → Result U ChainFault) → Self.Reads self m
             → Computes (F.post closure) f → ⟦<Map<Self, F> as Cold>⟧.Reads result (m, f) }
+        ensures given { Self.IsGiven self → NeverRefuses (F.post closure)
+            → ⟦<Map<Self, F> as Cold>⟧.IsGiven result }
         ensures whole { (m : Self.Reading) (f : Self.Item → Result U ChainFault)
             → ⟦<Map<Self, F> as Cold>⟧.whole result (m, f) ≡ runs.map_run f (Self.whole self m) }
         ensures meaning { (m : Self.Reading) (f : Self.Item → Result U ChainFault)
@@ -53,6 +55,8 @@ pub trait Chain: Cold {
         ensures callable { ⟦<MapValue<Self, F> as Cold>⟧.CanAsk result }
         ensures reads { (m : Self.Reading) (f : Self.Item → U) → Self.Reads self m
             → Makes (F.post closure) f → ⟦<MapValue<Self, F> as Cold>⟧.Reads result (m, f) }
+        ensures given { Self.IsGiven self
+            → ⟦<MapValue<Self, F> as Cold>⟧.IsGiven result }
         ensures whole { (m : Self.Reading) (f : Self.Item → U)
             → ⟦<MapValue<Self, F> as Cold>⟧.whole result (m, f)
             ≡ runs.map_run (λ x. Ok (f x)) (Self.whole self m) }
@@ -77,6 +81,8 @@ pub trait Chain: Cold {
         ensures reads { (m : Self.Reading) (p : Self.Item → Bool) → Self.Reads self m
             → Decides (λ x b. FnReturnsAt F.Fn test x b) p
             → ⟦<Filter<Self, F> as Cold>⟧.Reads result (m, p) }
+        ensures given { Self.IsGiven self
+            → ⟦<Filter<Self, F> as Cold>⟧.IsGiven result }
         ensures whole { (m : Self.Reading) (p : Self.Item → Bool)
             → ⟦<Filter<Self, F> as Cold>⟧.whole result (m, p)
             ≡ runs.filter_run p (Self.whole self m) }
@@ -98,6 +104,8 @@ pub trait Chain: Cold {
         ensures callable { IfOk result ⟦<Take<Self> as Cold>⟧.CanAsk }
         ensures reads { IfOk result (λ t.
             (m : Self.Reading) → Self.Reads self m → ⟦<Take<Self> as Cold>⟧.Reads t m) }
+        ensures given { IfOk result (λ t.
+            Self.IsGiven self → ⟦<Take<Self> as Cold>⟧.IsGiven t) }
         ensures whole { IfOk result (λ t. (m : Self.Reading)
             → ⟦<Take<Self> as Cold>⟧.whole t m ≡ runs.take_run count (Self.whole self m)) }
         ensures meaning { IfOk result (λ t. (m : Self.Reading) →
@@ -120,6 +128,8 @@ pub trait Chain: Cold {
         ensures callable { ⟦<DropFirst<Self> as Cold>⟧.CanAsk result }
         ensures reads { (m : Self.Reading) →
             Self.Reads self m → ⟦<DropFirst<Self> as Cold>⟧.Reads result m }
+        ensures given { Self.IsGiven self
+            → ⟦<DropFirst<Self> as Cold>⟧.IsGiven result }
         ensures whole { (m : Self.Reading) → ⟦<DropFirst<Self> as Cold>⟧.whole result m
             ≡ runs.drop_run (Self.whole self m) count }
         ensures meaning { (m : Self.Reading) →
@@ -142,6 +152,8 @@ pub trait Chain: Cold {
         ensures reads { (m : Self.Reading) (p : Self.Item → Bool) → Self.Reads self m
             → Decides (λ x b. FnReturnsAt F.Fn test x b) p
             → ⟦<TakeWhile<Self, F> as Cold>⟧.Reads result (m, p) }
+        ensures given { Self.IsGiven self
+            → ⟦<TakeWhile<Self, F> as Cold>⟧.IsGiven result }
         ensures whole { (m : Self.Reading) (p : Self.Item → Bool)
             → ⟦<TakeWhile<Self, F> as Cold>⟧.whole result (m, p)
             ≡ runs.take_while_run p (Self.whole self m) }
@@ -166,6 +178,8 @@ pub trait Chain: Cold {
         ensures reads { (m : Self.Reading) (p : Self.Item → Bool) → Self.Reads self m
             → Decides (λ x b. FnReturnsAt F.Fn test x b) p
             → ⟦<DropWhile<Self, F> as Cold>⟧.Reads result (m, p) }
+        ensures given { Self.IsGiven self
+            → ⟦<DropWhile<Self, F> as Cold>⟧.IsGiven result }
         ensures whole { (m : Self.Reading) (p : Self.Item → Bool)
             → ⟦<DropWhile<Self, F> as Cold>⟧.whole result (m, p)
             ≡ runs.drop_while_run p (Self.whole self m) }
@@ -191,6 +205,8 @@ pub trait Chain: Cold {
         ensures reads { (m : Self.Reading) (f : U × Self.Item → Result U ChainFault) →
             Self.Reads self m
             → ComputesPairs (F.post closure) f → ⟦<Scan<Self, U, F> as Cold>⟧.Reads result (m, f) }
+        ensures given { Self.IsGiven self → NeverRefusesPairs (F.post closure) → U.IsAlwaysCopied
+            → ⟦<Scan<Self, U, F> as Cold>⟧.IsGiven result }
         ensures whole { (m : Self.Reading) (f : U × Self.Item → Result U ChainFault)
             → ⟦<Scan<Self, U, F> as Cold>⟧.whole result (m, f) ≡
             gives initial (runs.scan_run f initial (Self.whole self m)) }
@@ -217,6 +233,8 @@ pub trait Chain: Cold {
             (f : Self.Item × Self.Item → Result Self.Item ChainFault) → Self.Reads self m
             → ComputesPairs (F.post closure) f
             → ⟦<RunningReduce<Self, F> as Cold>⟧.Reads result (m, f) }
+        ensures given { Self.IsGiven self → NeverRefusesPairs (F.post closure) → Self.Item.IsAlwaysCopied
+            → ⟦<RunningReduce<Self, F> as Cold>⟧.IsGiven result }
         ensures whole { (m : Self.Reading) (f : Self.Item × Self.Item → Result Self.Item ChainFault)
             → ⟦<RunningReduce<Self, F> as Cold>⟧.whole result (m, f)
             ≡ runs.running_reduce_run f None (Self.whole self m) }
@@ -239,6 +257,8 @@ pub trait Chain: Cold {
         ensures callable { ⟦<Distinct<Self> as Cold>⟧.CanAsk result }
         ensures reads { (m : Self.Reading) →
             Self.Reads self m → ⟦<Distinct<Self> as Cold>⟧.Reads result m }
+        ensures given { Self.IsGiven self → Self.Item.IsAlwaysCopied
+            → ⟦<Distinct<Self> as Cold>⟧.IsGiven result }
         ensures whole { (m : Self.Reading) → ⟦<Distinct<Self> as Cold>⟧.whole result m
             ≡ runs.distinct_run Self.Item.is_same None (Self.whole self m) }
         ensures meaning { (m : Self.Reading) →
@@ -263,6 +283,8 @@ pub trait Chain: Cold {
             Self.Reads self m
             → ComputesBy (λ v. v.items) (F.post closure) f
             → ⟦<Transform<Self, U, F> as Cold>⟧.Reads result (m, f) }
+        ensures given { Self.IsGiven self → NeverRefuses (F.post closure)
+            → ⟦<Transform<Self, U, F> as Cold>⟧.IsGiven result }
         ensures whole { (m : Self.Reading) (f : Self.Item → Result (List U) ChainFault)
             → ⟦<Transform<Self, U, F> as Cold>⟧.whole result (m, f)
             ≡ runs.transform_run f (Self.whole self m) }
@@ -288,19 +310,19 @@ pub trait Chain: Cold {
         requires opens { OpensCallable D.CanAsk (F.post closure) }
         requires limited { D.IsLimited }
         ensures callable { ⟦<FlatMapConcat<Self, D, F> as Cold>⟧.CanAsk result }
-        ensures reads { (m : Self.Reading) (n : D.Reading)
+        ensures reads { (m : Self.Reading) (n : Self.Item → D.Reading)
             (f : Self.Item → Result (ChainRun D.Item) ChainFault)
-            → Self.Reads self m → Opens (λ d. D.Reads d n) (λ d. D.whole d n) (F.post closure) f
+            → Self.Reads self m → Opens D.Reads D.whole (F.post closure) n f
             → ⟦<FlatMapConcat<Self, D, F> as Cold>⟧.Reads result ((m, n), f) }
-        ensures whole { (m : Self.Reading) (n : D.Reading)
+        ensures whole { (m : Self.Reading) (n : Self.Item → D.Reading)
             (f : Self.Item → Result (ChainRun D.Item) ChainFault)
             → ⟦<FlatMapConcat<Self, D, F> as Cold>⟧.whole result ((m, n), f)
             ≡ runs.flat_map_run f (Self.whole self m) }
-        ensures meaning { (m : Self.Reading) (n : D.Reading)
+        ensures meaning { (m : Self.Reading) (n : Self.Item → D.Reading)
             (f : Self.Item → Result (ChainRun D.Item) ChainFault)
             → meaning_of (⟦<FlatMapConcat<Self, D, F> as Cold>⟧.whole result ((m, n), f))
             ≡ means.flat_map_meaning f (meaning_of (Self.whole self m)) }
-        ensures rest { (m : Self.Reading) (n : D.Reading)
+        ensures rest { (m : Self.Reading) (n : Self.Item → D.Reading)
             (f : Self.Item → Result (ChainRun D.Item) ChainFault)
             → ⟦<FlatMapConcat<Self, D, F> as Cold>⟧.rest result ((m, n), f)
             ≡ runs.flat_map_run f (Self.rest self m) }
@@ -323,6 +345,8 @@ pub trait Chain: Cold {
             (f : Self.Item × R.Item → Result U ChainFault) → Self.Reads self m
             → R.Reads right n → ComputesPairs (F.post closure) f
             → ⟦<Zip<Self, R, F> as Cold>⟧.Reads result ((m, n), f) }
+        ensures given { Self.IsGiven self → R.IsGiven right → NeverRefusesPairs (F.post closure)
+            → ⟦<Zip<Self, R, F> as Cold>⟧.IsGiven result }
         ensures whole { (m : Self.Reading) (n : R.Reading)
             (f : Self.Item × R.Item → Result U ChainFault)
             → ⟦<Zip<Self, R, F> as Cold>⟧.whole result ((m, n), f)

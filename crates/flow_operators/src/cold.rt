@@ -1,5 +1,5 @@
 //! The trait of cold chains.
-ghost use Rattle.std.specs.Prelude.{◌≡◌, ◌⊎◌, ◌<◌, ◌≤◌, ℕ};
+ghost use Rattle.std.specs.Prelude.{◌≡◌, ◌≢◌, ◌⊎◌, ◌<◌, ◌≤◌, ℕ};
 ghost use Rattle.flow_law.specs.ChainRun.{ChainRun};
 ghost use Rattle.flow_operators.specs.Asking.{AskGives, IsFinal, OnEnd};
 
@@ -61,11 +61,16 @@ pub trait Cold: Drop {
     /// its end.
     ghost HasAnswered: { Self → End → Type 0 } = { λ _ _. Unit {0} };
 
+    /// Whether no ask can be refused memory: copies that the chain makes of items are always given, and no call of a
+    /// closure answers `OutOfMemory`. By default a chain makes no claim.
+    ghost IsGiven: { Self → Type 0 } = { λ _. ⊥ };
+
     /// What an ask does to the upstream chains: it takes just the entries that the answer needs. A source has no
     /// upstream.
     ghost AsksBehind: { Self → Reading → Asked Self.Item → Self → Type 0 };
 
-    /// Takes the next entry of the rest. It may fail with `OutOfMemory` instead, which ends the chain.
+    /// Takes the next entry of the rest. Unless `IsGiven` holds, it may fail with `OutOfMemory` instead, which ends the
+    /// chain.
     fn ask(&mut self) -> Asked<Self::Item>
         requires { CanAsk self.old }
         ensures callable { CanAsk self.new }
@@ -78,6 +83,8 @@ pub trait Cold: Drop {
         ensures answered { OnEnd result (HasAnswered self.new) }
         ensures behind { (¬ IsOver self.old) → (m : Reading) → Reads self.old m
             → AsksBehind self.old m result self.new }
+        ensures given { IsGiven self.old → result ≢ Asked.Fault ChainFault.OutOfMemory }
+        ensures lasting { IsGiven self.old → IsGiven self.new }
         // A chain that is over does not change, and neither do its upstream chains.
         ensures end { IsOver self.old → (result ≡ Asked.End) × self.new ≡ self.old };
 
@@ -87,7 +94,8 @@ pub trait Cold: Drop {
         ensures callable { CanAsk self.new }
         ensures reads { (m : Reading) → Reads self.old m → Reads self.new m }
         ensures whole { (m : Reading) → whole self.new m ≡ whole self.old m }
-        ensures rest { (m : Reading) → rest self.new m ≡ whole self.old m };
+        ensures rest { (m : Reading) → rest self.new m ≡ whole self.old m }
+        ensures lasting { IsGiven self.old → IsGiven self.new };
 
     ghost limited: { IsLimited → (s : Self) → most_asks s ≤ limit };
 }

@@ -1,5 +1,5 @@
 //! Collecting a chain to its end.
-ghost use Rattle.std.specs.Prelude.{◌≡◌, IfOk, IfErr};
+ghost use Rattle.std.specs.Prelude.{◌≡◌, ◌≢◌, IfOk, IfErr};
 ghost use Rattle.flow_law.specs.ChainRun.{Collects};
 ghost use Rattle.flow_operators.specs.Collecting.{StandsAfterItem};
 
@@ -27,6 +27,9 @@ pub fn collect_all<C: Cold, A: Allocator>(
     ensures callable { C.CanAsk chain.new }
     ensures reads { (m : C.Reading) → C.Reads chain.old m → C.Reads chain.new m }
     ensures whole { (m : C.Reading) → C.whole chain.new m ≡ C.whole chain.old m }
+    ensures lasting { C.IsGiven chain.old → C.IsGiven chain.new }
+    ensures given { C.IsGiven chain.old → IfOk result (λ collected.
+        collected.end ≢ End.Failed ChainFault.OutOfMemory) }
     ensures collects { IfOk result (λ collected. (m : C.Reading) → C.Reads chain.old m
         → Collects (C.whole chain.old m) collected.items.items collected.end) }
     // The end is the chain's last answer, also if that is `OutOfMemory`. The items before it are returned.

@@ -25,7 +25,8 @@
 //! Operators take plain closures. All that they require is that the closure may be called. Claims about items are
 //! stated for each *reading* of the closures: one function for each closure, which it computes unless memory is refused
 //! (`Cold::Reading`, `Cold::Reads`). To prove more than safety, name these functions in a contract of your own; nothing
-//! is written at the call.
+//! is written at the call. A closure in the chains of a `flat_map_concat` may capture the outer item: then it has a
+//! function for each outer item.
 //!
 //! # Faults
 //! A closure that makes items may answer a fault, as `x.checked_mul(k).ok_or(ChainFault::Overflow)` does. The fault

@@ -1,11 +1,11 @@
 //! Steps of the terminal operators. None of them starts a chain from the beginning.
-ghost use Rattle.std.specs.Prelude.{◌≡◌, ◌⊎◌, ◌<◌, Bool, Result, filter, IfOk, IfErr, IfSome};
+ghost use Rattle.std.specs.Prelude.{◌≡◌, ◌≢◌, ◌⊎◌, ◌<◌, Bool, Result, filter, IfOk, IfErr, IfSome};
 ghost use Rattle.std.specs.Fn.{FnReturnsAt};
 ghost use Rattle.flow_law.specs.declared.chain.ChainFault.{ChainFault};
 ghost use Rattle.flow_law.specs.declared.chain.End.{End};
 ghost use Rattle.flow_law.specs.ChainRun.{items, ending};
-ghost use Rattle.flow_operators.specs.Closures.{ComputesPairs, Decides, Follows};
-ghost use Rattle.flow_operators.specs.Collecting.{StandsAfter, StandsAfterItem};
+ghost use Rattle.flow_operators.specs.Closures.{ComputesPairs, Decides, Follows, NeverRefusesPairs};
+ghost use Rattle.flow_operators.specs.Stopping.{StandsAfterFailed, StandsAfterFirst, StandsAfterFound};
 ghost use Rattle.flow_operators.specs.Terminal.{CallFails, GivesItem, OnNoItem, first_of, folded, sought};
 
 use crate::cold::{Asked, Cold};
@@ -18,8 +18,14 @@ pub(crate) fn next_item<C: Cold>(chain: &mut C) -> Result<Option<C::Item>, Chain
     ensures callable { C.CanAsk chain.new }
     ensures reads { (m : C.Reading) → C.Reads chain.old m → C.Reads chain.new m }
     ensures whole { (m : C.Reading) → C.whole chain.new m ≡ C.whole chain.old m }
+    ensures lasting { C.IsGiven chain.old → C.IsGiven chain.new }
+    ensures given { C.IsGiven chain.old
+        → IfErr result (λ fault. fault ≢ ChainFault.OutOfMemory) }
     ensures gives { (m : C.Reading) → C.Reads chain.old m →
         GivesItem (C.rest chain.old m) result (C.rest chain.new m) }
+    ensures stands { IfOk result (λ found.
+        IfSome found (λ item. (m : C.Reading) → C.Reads chain.old m
+        → StandsAfterFirst item (C.rest chain.old m) (C.rest chain.new m))) }
     ensures fewer { IfOk result (λ found.
         IfSome found (λ _. C.most_asks chain.new < C.most_asks chain.old)) }
     ensures over { OnNoItem result (C.IsOver chain.new) }
@@ -58,14 +64,19 @@ where
     ensures callable { C.CanAsk chain.new }
     ensures reads { (m : C.Reading) → C.Reads chain.old m → C.Reads chain.new m }
     ensures whole { (m : C.Reading) → C.whole chain.new m ≡ C.whole chain.old m }
+    ensures lasting { C.IsGiven chain.old → C.IsGiven chain.new }
+    ensures given { C.IsGiven chain.old → NeverRefusesPairs (F.post closure.now)
+        → IfErr result (λ fault. fault ≢ ChainFault.OutOfMemory) }
     ensures folds { (m : C.Reading) (f : U × C.Item → Result U ChainFault) → C.Reads chain.old m
         → ComputesPairs (F.post closure.now) f
         → Follows (folded f initial (items (C.rest chain.old m)) (ending (C.rest chain.old m)))
         result }
     ensures over { IfOk result (λ _. C.IsOver chain.new) }
-    ensures stands { IfErr result (λ _. C.IsOver chain.new
-        ⊎ ((m : C.Reading) → C.Reads chain.old m →
-        StandsAfterItem (C.rest chain.old m) (C.rest chain.new m))) }
+    ensures stands { IfErr result (λ fault.
+        (C.IsOver chain.new × C.HasAnswered chain.new (End.Failed fault))
+        ⊎ ((m : C.Reading) → C.Reads chain.old m
+        → StandsAfterFailed (F.post closure.now) fault initial (C.rest chain.old m)
+        (C.rest chain.new m))) }
     ensures answered { IfErr result (λ fault.
         C.HasAnswered chain.new (End.Failed fault) ⊎ CallFails (F.post closure.now) fault) }
 {
@@ -92,6 +103,9 @@ where
     ensures callable { C.CanAsk chain.new }
     ensures reads { (m : C.Reading) → C.Reads chain.old m → C.Reads chain.new m }
     ensures whole { (m : C.Reading) → C.whole chain.new m ≡ C.whole chain.old m }
+    ensures lasting { C.IsGiven chain.old → C.IsGiven chain.new }
+    ensures given { C.IsGiven chain.old
+        → IfErr result (λ fault. fault ≢ ChainFault.OutOfMemory) }
     ensures finds { (m : C.Reading) (p : C.Item → Bool) → C.Reads chain.old m
         → Decides (λ x b. FnReturnsAt F.Fn test.now x b) p
         → Follows (first_of (filter (sought wanted p) (items (C.rest chain.old m)))
@@ -99,7 +113,8 @@ where
     ensures over { OnNoItem result (C.IsOver chain.new) }
     ensures stands { IfOk result (λ found.
         IfSome found (λ item. (m : C.Reading) → C.Reads chain.old m
-        → StandsAfter item (C.rest chain.old m) (C.rest chain.new m))) }
+        → StandsAfterFound (λ x b. FnReturnsAt F.Fn test.now x b) wanted item
+        (C.rest chain.old m) (C.rest chain.new m))) }
     ensures answered { IfErr result (λ fault. C.HasAnswered chain.new (End.Failed fault)) }
 {
     loop {

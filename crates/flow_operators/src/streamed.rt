@@ -1,10 +1,12 @@
 //! A chain as a stream.
-ghost use Rattle.std.specs.Prelude.{◌≡◌, cond, [], List, Option, Result, IfSome, OnSome};
+ghost use Rattle.std.specs.Prelude.{◌≡◌, ◌≢◌, ◌⊎◌, ◌<◌, true, false, None, cond, [], List, Option, Result, IfSome, OnSome};
 ghost use Rattle.futures.specs.Poll.{IfReady, OnPending};
 ghost use Rattle.futures.specs.Runs.{After, Within};
 ghost use Rattle.futures.specs.Task.{Covers, Keeps};
 ghost use Rattle.flow_law.specs.declared.chain.End.{End};
-ghost use Rattle.flow_operators.specs.Streams.{Streams, Over, OnFault, streamed_chain};
+ghost use Rattle.flow_operators.specs.Asking.{AskGives, IsFinal};
+ghost use Rattle.flow_operators.specs.Streams.{Streams, Over, OnFault};
+ghost use Rattle.flow_operators.specs.Streams.{answer_in, is_stream_over, streamed_chain, streamed_rest};
 
 use crate::cold::{Asked, Cold};
 use flow_law::ChainFault;
@@ -23,6 +25,10 @@ impl<C: Cold> Streamed<C> {
     pub fn new(mut chain: C) -> Self
         requires { C.CanAsk chain }
         ensures callable { ⟦<Streamed<C> as Stream>⟧.can_poll result }
+        ensures reads { (m : C.Reading) → C.Reads chain m → C.Reads (streamed_chain result) m }
+        ensures given { C.IsGiven chain → C.IsGiven (streamed_chain result) }
+        ensures rest { (m : C.Reading) → streamed_rest (λ c. C.rest c m) result ≡ C.whole chain m }
+        ensures running { is_stream_over result ≡ false }
         ensures yields { (xs : List (Result C.Item ChainFault))
             (last : Option (Result C.Item ChainFault))
             → ⟦<Streamed<C> as Stream>⟧.yields result xs last
@@ -44,7 +50,8 @@ impl<C: Cold> Stream for Streamed<C> {
     ghost yields = { λ s xs last. cond s.ended (Over xs last)
         ((m : C.Reading) → C.Reads s.chain m → Streams (C.rest s.chain m) xs last) };
 
-    // The trait's clauses, and: a fault is the chain's own last answer, also if it is `OutOfMemory`.
+    // The trait's clauses, and: a poll is one ask of the chain, and answers what the chain answered. It pends only if
+    // it took a pending turn off the chain's run.
     fn poll_next(&mut self, cx: &mut Context<'_>) -> Poll<Option<Result<C::Item, ChainFault>>>
         requires { ⟦<Streamed<C> as Stream>⟧.can_poll self.old }
         ensures value { IfReady result (⟦<Streamed<C> as Stream>⟧.yields self.old []) }
@@ -60,6 +67,22 @@ impl<C: Cold> Stream for Streamed<C> {
         ensures registered { OnPending result
             (Covers cx.new (⟦<Streamed<C> as Stream>⟧.needs self.new)) }
         ensures kept { Keeps cx.old cx.new }
+        ensures reads { (m : C.Reading) →
+            C.Reads (streamed_chain self.old) m → C.Reads (streamed_chain self.new) m }
+        ensures gives { (m : C.Reading) → C.Reads (streamed_chain self.old) m
+            → AskGives (streamed_rest (λ c. C.rest c m) self.old) (answer_in result)
+            (streamed_rest (λ c. C.rest c m) self.new) }
+        ensures lasting { C.IsGiven (streamed_chain self.old)
+            → C.IsGiven (streamed_chain self.new) }
+        ensures given { C.IsGiven (streamed_chain self.old)
+            → OnFault result (λ fault. fault ≢ ChainFault.OutOfMemory) }
+        ensures fewer { IsFinal (answer_in result) ⊎ C.most_asks (streamed_chain self.new)
+            < C.most_asks (streamed_chain self.old) }
+        ensures over { IsFinal (answer_in result) → is_stream_over self.new ≡ true }
+        // After its last item the stream does not change, and neither does its chain.
+        ensures end { is_stream_over self.old ≡ true
+            → (result ≡ Poll.Ready None) × self.new ≡ self.old }
+        // A fault is the chain's own last answer, also if it is `OutOfMemory`.
         ensures answered { OnFault result
             (λ fault. C.HasAnswered (streamed_chain self.new) (End.Failed fault)) }
     {

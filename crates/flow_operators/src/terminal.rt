@@ -1,12 +1,14 @@
 //! The terminal operators. Each starts the chain from the beginning and asks it.
 //!
 //! After `Pending` they ask again. If the chain fails before the answer is known, they return its fault.
-ghost use Rattle.std.specs.Prelude.{◌≡◌, ◌⊎◌, Bool, Result, filter, IfOk, IfErr, IfSome};
+ghost use Rattle.std.specs.Bool.{OnFalse, OnTrue};
+ghost use Rattle.std.specs.Prelude.{◌≡◌, ◌≢◌, ◌⊎◌, true, false, Bool, Result, filter, IfOk, IfErr, IfSome};
 ghost use Rattle.std.specs.Fn.{FnReturnsAt};
 ghost use Rattle.flow_law.specs.declared.chain.ChainFault.{ChainFault};
 ghost use Rattle.flow_law.specs.ChainRun.{Collects, items, ending};
-ghost use Rattle.flow_operators.specs.Closures.{ComputesPairs, Decides};
-ghost use Rattle.flow_operators.specs.Collecting.{StandsAfter, StandsAfterItem};
+ghost use Rattle.flow_operators.specs.Closures.{ComputesPairs, Decides, NeverRefusesPairs, NeverRefusesVisits};
+ghost use Rattle.flow_operators.specs.Collecting.{StandsAfterItem};
+ghost use Rattle.flow_operators.specs.Stopping.{HasNoSecond, StandsAfterFailed, StandsAfterFirst, StandsAfterFound, StandsAfterOverflow, StandsAfterReduced, StandsAfterSecond, StandsAfterVisited};
 ghost use Rattle.flow_operators.specs.Terminal.{CallFails, FollowsRun, OnNoItem, VisitFails, Visits};
 ghost use Rattle.flow_operators.specs.Terminal.{all_of, any_of, counted, first_of, folded, last_of, reduced_to, single_of};
 
@@ -29,15 +31,20 @@ pub trait Terminal: Cold {
         ensures callable { Self.CanAsk self.new }
         ensures reads { (m : Self.Reading) → Self.Reads self.old m → Self.Reads self.new m }
         ensures whole { (m : Self.Reading) → Self.whole self.new m ≡ Self.whole self.old m }
+        ensures lasting { Self.IsGiven self.old → Self.IsGiven self.new }
+        ensures given { Self.IsGiven self.old → NeverRefusesPairs (F.post closure)
+            → IfErr result (λ fault. fault ≢ ChainFault.OutOfMemory) }
         ensures folds { (m : Self.Reading) (f : U × Self.Item → Result U ChainFault) →
             Self.Reads self.old m
             → ComputesPairs (F.post closure) f →
             FollowsRun (folded f initial) (Self.whole self.old m) result }
         ensures over { IfOk result (λ _. Self.IsOver self.new) }
-        // After a fault of the closure the chain is just after the item of that call.
-        ensures stands { IfErr result (λ _. Self.IsOver self.new
-            ⊎ ((m : Self.Reading) → Self.Reads self.old m →
-            StandsAfterItem (Self.whole self.old m) (Self.rest self.new m))) }
+        // After its own fault the chain is over, after one of the closure just after the item of that call.
+        ensures stands { IfErr result (λ fault.
+            (Self.IsOver self.new × Self.HasAnswered self.new (End.Failed fault))
+            ⊎ ((m : Self.Reading) → Self.Reads self.old m
+            → StandsAfterFailed (F.post closure) fault initial
+            (Self.whole self.old m) (Self.rest self.new m))) }
         // A fault is the chain's own last answer, or the answer of a call of the closure. So is `OutOfMemory`.
         ensures answered { IfErr result (λ fault.
             Self.HasAnswered self.new (End.Failed fault) ⊎ CallFails (F.post closure) fault) }
@@ -56,15 +63,20 @@ pub trait Terminal: Cold {
         ensures callable { Self.CanAsk self.new }
         ensures reads { (m : Self.Reading) → Self.Reads self.old m → Self.Reads self.new m }
         ensures whole { (m : Self.Reading) → Self.whole self.new m ≡ Self.whole self.old m }
+        ensures lasting { Self.IsGiven self.old → Self.IsGiven self.new }
+        ensures given { Self.IsGiven self.old → NeverRefusesPairs (F.post closure)
+            → IfErr result (λ fault. fault ≢ ChainFault.OutOfMemory) }
         ensures reduces { (m : Self.Reading)
             (f : Self.Item × Self.Item → Result Self.Item ChainFault) → Self.Reads self.old m
             → ComputesPairs (F.post closure) f →
             FollowsRun (reduced_to f) (Self.whole self.old m) result }
         ensures over { IfOk result (λ _. Self.IsOver self.new) }
-        // After a fault of the closure the chain is just after the item of that call.
-        ensures stands { IfErr result (λ _. Self.IsOver self.new
-            ⊎ ((m : Self.Reading) → Self.Reads self.old m →
-            StandsAfterItem (Self.whole self.old m) (Self.rest self.new m))) }
+        // After its own fault the chain is over, after one of the closure just after the item of that call.
+        ensures stands { IfErr result (λ fault.
+            (Self.IsOver self.new × Self.HasAnswered self.new (End.Failed fault))
+            ⊎ ((m : Self.Reading) → Self.Reads self.old m
+            → StandsAfterReduced (F.post closure) fault
+            (Self.whole self.old m) (Self.rest self.new m))) }
         // A fault is the chain's own last answer, or the answer of a call of the closure. So is `OutOfMemory`.
         ensures answered { IfErr result (λ fault.
             Self.HasAnswered self.new (End.Failed fault) ⊎ CallFails (F.post closure) fault) }
@@ -85,12 +97,15 @@ pub trait Terminal: Cold {
         ensures callable { Self.CanAsk self.new }
         ensures reads { (m : Self.Reading) → Self.Reads self.old m → Self.Reads self.new m }
         ensures whole { (m : Self.Reading) → Self.whole self.new m ≡ Self.whole self.old m }
+        ensures lasting { Self.IsGiven self.old → Self.IsGiven self.new }
+        ensures given { Self.IsGiven self.old
+            → IfErr result (λ fault. fault ≢ ChainFault.OutOfMemory) }
         ensures first { (m : Self.Reading) → Self.Reads self.old m
             → FollowsRun first_of (Self.whole self.old m) result }
         ensures over { OnNoItem result (Self.IsOver self.new) }
         ensures stands { IfOk result (λ found.
             IfSome found (λ item. (m : Self.Reading) → Self.Reads self.old m
-            → StandsAfter item (Self.whole self.old m) (Self.rest self.new m))) }
+            → StandsAfterFirst item (Self.whole self.old m) (Self.rest self.new m))) }
         // A fault is the chain's own last answer. So is `OutOfMemory`.
         ensures answered { IfErr result (λ fault. Self.HasAnswered self.new (End.Failed fault)) }
     {
@@ -108,13 +123,17 @@ pub trait Terminal: Cold {
         ensures callable { Self.CanAsk self.new }
         ensures reads { (m : Self.Reading) → Self.Reads self.old m → Self.Reads self.new m }
         ensures whole { (m : Self.Reading) → Self.whole self.new m ≡ Self.whole self.old m }
+        ensures lasting { Self.IsGiven self.old → Self.IsGiven self.new }
+        ensures given { Self.IsGiven self.old
+            → IfErr result (λ fault. fault ≢ ChainFault.OutOfMemory) }
         ensures finds { (m : Self.Reading) (p : Self.Item → Bool) → Self.Reads self.old m
             → Decides (λ x b. FnReturnsAt F.Fn test x b) p
             → FollowsRun (λ xs e. first_of (filter p xs) e) (Self.whole self.old m) result }
         ensures over { OnNoItem result (Self.IsOver self.new) }
         ensures stands { IfOk result (λ found.
             IfSome found (λ item. (m : Self.Reading) → Self.Reads self.old m
-            → StandsAfter item (Self.whole self.old m) (Self.rest self.new m))) }
+            → StandsAfterFound (λ x b. FnReturnsAt F.Fn test x b) true item
+            (Self.whole self.old m) (Self.rest self.new m))) }
         // A fault is the chain's own last answer. So is `OutOfMemory`.
         ensures answered { IfErr result (λ fault. Self.HasAnswered self.new (End.Failed fault)) }
     {
@@ -129,12 +148,17 @@ pub trait Terminal: Cold {
         ensures callable { Self.CanAsk self.new }
         ensures reads { (m : Self.Reading) → Self.Reads self.old m → Self.Reads self.new m }
         ensures whole { (m : Self.Reading) → Self.whole self.new m ≡ Self.whole self.old m }
+        ensures lasting { Self.IsGiven self.old → Self.IsGiven self.new }
+        ensures given { Self.IsGiven self.old
+            → IfErr result (λ fault. fault ≢ ChainFault.OutOfMemory) }
         ensures tells { (m : Self.Reading) (p : Self.Item → Bool) → Self.Reads self.old m
             → Decides (λ x b. FnReturnsAt F.Fn test x b) p →
             FollowsRun (any_of p) (Self.whole self.old m) result }
-        ensures stands { IfOk result (λ _. Self.IsOver self.new
-            ⊎ ((m : Self.Reading) → Self.Reads self.old m →
-            StandsAfterItem (Self.whole self.old m) (Self.rest self.new m))) }
+        ensures stands { IfOk result (λ found. OnTrue found ((m : Self.Reading) →
+            Self.Reads self.old m → (item : Self.Item)
+            × StandsAfterFound (λ x b. FnReturnsAt F.Fn test x b) true item
+            (Self.whole self.old m) (Self.rest self.new m))) }
+        ensures none { IfOk result (λ found. OnFalse found (Self.IsOver self.new)) }
         // A fault is the chain's own last answer. So is `OutOfMemory`.
         ensures over { IfErr result (λ _. Self.IsOver self.new) }
         ensures answered { IfErr result (λ fault. Self.HasAnswered self.new (End.Failed fault)) }
@@ -154,12 +178,17 @@ pub trait Terminal: Cold {
         ensures callable { Self.CanAsk self.new }
         ensures reads { (m : Self.Reading) → Self.Reads self.old m → Self.Reads self.new m }
         ensures whole { (m : Self.Reading) → Self.whole self.new m ≡ Self.whole self.old m }
+        ensures lasting { Self.IsGiven self.old → Self.IsGiven self.new }
+        ensures given { Self.IsGiven self.old
+            → IfErr result (λ fault. fault ≢ ChainFault.OutOfMemory) }
         ensures tells { (m : Self.Reading) (p : Self.Item → Bool) → Self.Reads self.old m
             → Decides (λ x b. FnReturnsAt F.Fn test x b) p →
             FollowsRun (all_of p) (Self.whole self.old m) result }
-        ensures stands { IfOk result (λ _. Self.IsOver self.new
-            ⊎ ((m : Self.Reading) → Self.Reads self.old m →
-            StandsAfterItem (Self.whole self.old m) (Self.rest self.new m))) }
+        ensures stands { IfOk result (λ passed. OnFalse passed ((m : Self.Reading) →
+            Self.Reads self.old m → (item : Self.Item)
+            × StandsAfterFound (λ x b. FnReturnsAt F.Fn test x b) false item
+            (Self.whole self.old m) (Self.rest self.new m))) }
+        ensures none { IfOk result (λ passed. OnTrue passed (Self.IsOver self.new)) }
         // A fault is the chain's own last answer. So is `OutOfMemory`.
         ensures over { IfErr result (λ _. Self.IsOver self.new) }
         ensures answered { IfErr result (λ fault. Self.HasAnswered self.new (End.Failed fault)) }
@@ -178,6 +207,9 @@ pub trait Terminal: Cold {
         ensures callable { Self.CanAsk self.new }
         ensures reads { (m : Self.Reading) → Self.Reads self.old m → Self.Reads self.new m }
         ensures whole { (m : Self.Reading) → Self.whole self.new m ≡ Self.whole self.old m }
+        ensures lasting { Self.IsGiven self.old → Self.IsGiven self.new }
+        ensures given { Self.IsGiven self.old
+            → IfErr result (λ fault. fault ≢ ChainFault.OutOfMemory) }
         ensures last { (m : Self.Reading) → Self.Reads self.old m
             → FollowsRun last_of (Self.whole self.old m) result }
         ensures over { Self.IsOver self.new }
@@ -200,11 +232,17 @@ pub trait Terminal: Cold {
         ensures callable { Self.CanAsk self.new }
         ensures reads { (m : Self.Reading) → Self.Reads self.old m → Self.Reads self.new m }
         ensures whole { (m : Self.Reading) → Self.whole self.new m ≡ Self.whole self.old m }
+        ensures lasting { Self.IsGiven self.old → Self.IsGiven self.new }
+        ensures given { Self.IsGiven self.old
+            → IfErr result (λ fault. fault ≢ ChainFault.OutOfMemory) }
         ensures single { (m : Self.Reading) → Self.Reads self.old m
             → FollowsRun single_of (Self.whole self.old m) result }
-        ensures stands { IfOk result (λ _. Self.IsOver self.new
-            ⊎ ((m : Self.Reading) → Self.Reads self.old m →
-            StandsAfterItem (Self.whole self.old m) (Self.rest self.new m))) }
+        // A chain without a second item is over. Else it is just after that item.
+        ensures only { IfOk result (λ found. IfSome found (λ _. Self.IsOver self.new)) }
+        ensures stands { IfOk result (λ _. (Self.IsOver self.new
+            × ((m : Self.Reading) → Self.Reads self.old m → HasNoSecond (Self.whole self.old m)))
+            ⊎ ((m : Self.Reading) → Self.Reads self.old m
+            → StandsAfterSecond (Self.whole self.old m) (Self.rest self.new m))) }
         // A fault is the chain's own last answer. So is `OutOfMemory`.
         ensures over { IfErr result (λ _. Self.IsOver self.new) }
         ensures answered { IfErr result (λ fault. Self.HasAnswered self.new (End.Failed fault)) }
@@ -225,13 +263,17 @@ pub trait Terminal: Cold {
         ensures callable { Self.CanAsk self.new }
         ensures reads { (m : Self.Reading) → Self.Reads self.old m → Self.Reads self.new m }
         ensures whole { (m : Self.Reading) → Self.whole self.new m ≡ Self.whole self.old m }
+        ensures lasting { Self.IsGiven self.old → Self.IsGiven self.new }
+        ensures given { Self.IsGiven self.old
+            → IfErr result (λ fault. fault ≢ ChainFault.OutOfMemory) }
         ensures counts { (m : Self.Reading) → Self.Reads self.old m
             → FollowsRun counted (Self.whole self.old m) result }
         ensures over { IfOk result (λ _. Self.IsOver self.new) }
-        // If the count overflows, the chain is just after the item that made it overflow.
-        ensures stands { IfErr result (λ _. Self.IsOver self.new
-            ⊎ ((m : Self.Reading) → Self.Reads self.old m →
-            StandsAfterItem (Self.whole self.old m) (Self.rest self.new m))) }
+        // After its own fault the chain is over, after an overflow just after the item that made the count overflow.
+        ensures stands { IfErr result (λ fault.
+            (Self.IsOver self.new × Self.HasAnswered self.new (End.Failed fault))
+            ⊎ ((m : Self.Reading) → Self.Reads self.old m
+            → StandsAfterOverflow (Self.whole self.old m) (Self.rest self.new m))) }
         // A fault is the chain's own last answer, unless the count overflows. So is `OutOfMemory`.
         ensures answered { IfErr result (λ fault.
             (fault ≡ ChainFault.Overflow) ⊎ Self.HasAnswered self.new (End.Failed fault)) }
@@ -258,14 +300,19 @@ pub trait Terminal: Cold {
         ensures callable { Self.CanAsk self.new }
         ensures reads { (m : Self.Reading) → Self.Reads self.old m → Self.Reads self.new m }
         ensures whole { (m : Self.Reading) → Self.whole self.new m ≡ Self.whole self.old m }
+        ensures lasting { Self.IsGiven self.old → Self.IsGiven self.new }
+        ensures given { Self.IsGiven self.old → NeverRefusesVisits (λ f x r g. F.step f x r g)
+            → IfErr result (λ fault. fault ≢ ChainFault.OutOfMemory) }
         ensures visits { (m : Self.Reading) →
             Self.Reads self.old m → Visits (λ f x r g. F.step f x r g) visit
             (items (Self.whole self.old m)) (ending (Self.whole self.old m)) result }
         ensures over { IfOk result (λ _. Self.IsOver self.new) }
-        // After a fault of the closure the chain is just after the item of that call.
-        ensures stands { IfErr result (λ _. Self.IsOver self.new
-            ⊎ ((m : Self.Reading) → Self.Reads self.old m →
-            StandsAfterItem (Self.whole self.old m) (Self.rest self.new m))) }
+        // After its own fault the chain is over, after one of the closure just after the item of that call.
+        ensures stands { IfErr result (λ fault.
+            (Self.IsOver self.new × Self.HasAnswered self.new (End.Failed fault))
+            ⊎ ((m : Self.Reading) → Self.Reads self.old m
+            → StandsAfterVisited (λ f x r g. F.step f x r g) fault visit
+            (Self.whole self.old m) (Self.rest self.new m))) }
         // A fault is the chain's own last answer, or the answer of a call of the closure. So is `OutOfMemory`.
         ensures answered { IfErr result (λ fault. Self.HasAnswered self.new (End.Failed fault)
             ⊎ VisitFails (λ f x r g. F.step f x r g) fault) }
@@ -291,6 +338,9 @@ pub trait Terminal: Cold {
         ensures callable { Self.CanAsk self.new }
         ensures reads { (m : Self.Reading) → Self.Reads self.old m → Self.Reads self.new m }
         ensures whole { (m : Self.Reading) → Self.whole self.new m ≡ Self.whole self.old m }
+        ensures lasting { Self.IsGiven self.old → Self.IsGiven self.new }
+        ensures given { Self.IsGiven self.old → IfOk result (λ collected.
+            collected.end ≢ End.Failed ChainFault.OutOfMemory) }
         ensures collects { IfOk result (λ collected. (m : Self.Reading) → Self.Reads self.old m
             → Collects (Self.whole self.old m) collected.items.items collected.end) }
         ensures over { IfOk result (λ _. Self.IsOver self.new) }

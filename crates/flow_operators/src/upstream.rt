@@ -1,5 +1,5 @@
 //! The upstream of an operator, and whether the operator has ended.
-ghost use Rattle.std.specs.Prelude.{◌≡◌, ◌⊎◌, ◌<◌, true, false, IfOk, IfErr};
+ghost use Rattle.std.specs.Prelude.{◌≡◌, ◌≢◌, ◌⊎◌, ◌<◌, true, false, IfOk, IfErr};
 ghost use Rattle.flow_operators.specs.Asking.{IsFinal, IsItem};
 ghost use Rattle.flow_operators.specs.Upstreams.{NextGives, answer_of, chain_of, is_ended, is_fault, left_of};
 
@@ -42,6 +42,9 @@ impl<C: Cold> Upstream<C> {
             C.most_asks (chain_of self.new) < C.most_asks (chain_of self.old)) }
         ensures pends { IfErr result (λ asked. IsFinal asked
             ⊎ C.most_asks (chain_of self.new) < C.most_asks (chain_of self.old)) }
+        ensures given { C.IsGiven (chain_of self.old)
+            → IfErr result (λ asked. asked ≢ Asked.Fault ChainFault.OutOfMemory) }
+        ensures lasting { C.IsGiven (chain_of self.old) → C.IsGiven (chain_of self.new) }
         ensures no_item { IfErr result (λ asked. ¬ IsItem asked) }
         ensures runs { IfOk result (λ _.
             (is_ended self.old ≡ false) × (is_ended self.new ≡ false)) }
@@ -102,6 +105,7 @@ impl<C: Cold> Upstream<C> {
             C.whole (chain_of self.new) m ≡ C.whole (chain_of self.old) m }
         ensures rest { (m : C.Reading) →
             C.rest (chain_of self.new) m ≡ C.whole (chain_of self.old) m }
+        ensures lasting { C.IsGiven (chain_of self.old) → C.IsGiven (chain_of self.new) }
         ensures ended { is_ended self.new ≡ false }
     {
         self.ended = false;

@@ -18,7 +18,7 @@ use Rattle.flow_law.proofs.TokenLemmas.{next_fault}
 use Rattle.flow_gate.specs.Tokens.{Origin}
 use Rattle.flow_shared.specs.Calls.{NumberedToken, NextsOf, NextsNow}
 use Rattle.flow_shared.specs.Receiving.{NextsAfter, Receives, taken}
-use Rattle.flow_shared.specs.Polling.{PollsNext, Yields, GivesChanged, polled_by}
+use Rattle.flow_shared.specs.Polling.{NextsAtOnce, PollsNext, Yields, GivesChanged, polled_by}
 use Rattle.flow_shared.specs.Attended.{IsWait}
 use Rattle.flow_shared.proofs.Waits.{called_later}
 
@@ -35,12 +35,12 @@ armed_by (Err Unsupported) P h = tt
 armed_by (Err Busy) P h = h tt
 
 module _ {T S C R : Type 0} (kind : Kind T S C R) (law : Lawful kind) (flow : Origin S) (s u : NumberedToken (Said C R)) where
-  refused : (fault : FlowFault) → (u.number ≡ s.number) × CallsAtOnceIn kind flow.first s.token (kind.take_next s.number) (kind.refused fault) u.token → NextsOf kind flow s (Err OutOfMemory) u
-  refused fault h = subst (λ (f : FlowFault). NextsOf kind flow s (Err f) u) (next_fault kind law flow.first s.token.knows u.token.knows s.number (Err fault) h.1.0.1) (h.1.0, h.0)
+  refused : (fault : FlowFault) → (u.number ≡ s.number) × CallsAtOnceIn kind flow.first s.token (kind.take_next s.number) (kind.refused fault) u.token → NextsAtOnce kind flow s (Err OutOfMemory) u
+  refused fault h = (subst (λ (f : FlowFault). NextsOf kind flow s (Err f) u) (next_fault kind law flow.first s.token.knows u.token.knows s.number (Err fault) h.1.0.1) (h.1.0, h.0), h.1.1)
 
   pub polls_next : (answer : Result (Next T) FlowFault) → NextsNow kind flow s answer u → PollsNext kind flow s (polled_by answer) u
-  polls_next (Ok (Value v)) h = (h.2.0, h.1)
-  polls_next (Ok Empty) h = inr (h.2.0, h.1)
+  polls_next (Ok (Value v)) h = ((h.2.0, h.1), h.2.1)
+  polls_next (Ok Empty) h = inr ((h.2.0, h.1), h.2.1)
   polls_next (Ok Gone) h = absurd (h.0 refl)
   polls_next (Err OutOfMemory) h = refused OutOfMemory h
   polls_next (Err TooLarge) h = refused TooLarge h
@@ -64,10 +64,10 @@ module _ {T S C R : Type 0} (kind : Kind T S C R) (flow : Origin S) where
   -- a pending poll and then a run is a run
   pub receives_on : (s u w : NumberedToken (Said C R)) (result : Result T FlowFault) → PollsNext kind flow s Pending u → Receives kind flow u result w → Receives kind flow s result w
   receives_on s u w result (inl busy) h = (h.0, after_later h.0 s u (taken result) w busy h.1)
-  receives_on s u w result (inr called) h = (u ∷ h.0, (called, h.1))
+  receives_on s u w result (inr called) h = (u ∷ h.0, (called.0, h.1))
 
   pub receives_at_once : (s u : NumberedToken (Said C R)) (given : Result T MemoryError) → PollsNext kind flow s (Ready given) u → Receives kind flow s (answer_by memory_fault given) u
-  receives_at_once s u given h = ([], h)
+  receives_at_once s u given h = ([], h.0)
 
   pub yields_on : (s u : NumberedToken (Said C R)) → PollsNext kind flow s Pending u → (xs : List (Result T MemoryError)) (next : Option (Result T MemoryError)) → Yields kind flow u xs next → Yields kind flow s xs next
   yields_on s u p [] (Some x) h = (h.0, receives_on s u h.0 (answer_by memory_fault x) p h.1)

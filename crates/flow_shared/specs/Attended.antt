@@ -60,6 +60,10 @@ module _ {K T S C R : Type 0} {kind : Kind T S C R} (sleeping : Sleeping kind) (
   abbrev pub AddsWaiting : K → ℕ → List ℕ → List ℕ → Type 0
   AddsWaiting core number old new = (new ≡ old) ⊎ (Adds number old new × ((s : S) → StandsAs core s → true ≡ sleeping.waits number s))
 
+-- these sleepers were removed and are woken once the caller has left the gate
+abbrev pub Awaits : List ℕ → List ℕ → Bool → Type 0
+Awaits removed to_wake any = (to_wake ≡ removed) × (any ≡ true)
+
 -- nothing was received
 abbrev pub IsWait : {T : Type 0} → Result (Next T) FlowFault → Type 0
 IsWait (Ok (Value v)) = ⊥

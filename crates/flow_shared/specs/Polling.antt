@@ -1,6 +1,6 @@
 -- What the polls of a reader do, one by one and as a whole run. Begin with `PollsNext`. `flow` is the flow: which one, and the
 -- state that it began with.
-use Rattle.std.specs.Prelude.{◌≡◌, ◌⊎◌, List, [], ◌∷◌, Option, Some, None, Result, Ok, Err}
+use Rattle.std.specs.Prelude.{◌≡◌, ⊤, ◌⊎◌, List, [], ◌∷◌, Option, Some, None, Result, Ok, Err}
 use Rattle.atomic_table.specs.Seated.{TableId}
 use Rattle.futures.specs.declared.task.Poll.{Poll as Polled}
 use Rattle.futures.specs.declared.task.Poll.TheVariants.{Ready, Pending}
@@ -26,16 +26,33 @@ polled_by (Err Busy) = Pending
 polled_by (Err fault) = Ready (Err (record {}))
 
 module _ {T S C R : Type 0} (kind : Kind T S C R) (flow : Origin S) where
+  -- one call of `next`, which lost no exchange
+  abbrev pub NextsAtOnce : NumberedToken (Said C R) → Result (Next T) FlowFault → NumberedToken (Said C R) → Type 0
+  NextsAtOnce old result new = NextsOf kind flow old result new × (new.token.knows.lost ≡ old.token.knows.lost)
+
   -- One poll: it was busy and lost one exchange, or it made one call of `next`, and is ready if that gave a value or was refused.
   abbrev pub PollsNext : NumberedToken (Said C R) → Polled (Result T MemoryError) → NumberedToken (Said C R) → Type 0
-  PollsNext old Pending new = ((new.number ≡ old.number) × IsBusy old.token new.token) ⊎ NextsOf kind flow old (Ok Empty) new
-  PollsNext old (Ready given) new = NextsOf kind flow old (taken (answer_by memory_fault given)) new
+  PollsNext old Pending new = ((new.number ≡ old.number) × IsBusy old.token new.token) ⊎ NextsAtOnce old (Ok Empty) new
+  PollsNext old (Ready given) new = NextsAtOnce old (taken (answer_by memory_fault given)) new
+
+  -- one poll of a stream, which does not end
+  abbrev pub PollsItem : NumberedToken (Said C R) → Polled (Option (Result T MemoryError)) → NumberedToken (Said C R) → Type 0
+  PollsItem old Pending new = PollsNext old Pending new
+  PollsItem old (Ready (Some given)) new = PollsNext old (Ready given) new
+  PollsItem old (Ready None) new = ⊥
 
   -- each item is what one `receive` may give, in order, and the stream does not end
   abbrev pub Yields : NumberedToken (Said C R) → List (Result T MemoryError) → Option (Result T MemoryError) → Type 0
   Yields old [] (Some x) = (u : NumberedToken (Said C R)) × Receives kind flow old (answer_by memory_fault x) u
   Yields old [] None = ⊥
   Yields old (x ∷ xs) next = (u : NumberedToken (Said C R)) × Receives kind flow old (answer_by memory_fault x) u × Yields u xs next
+
+-- One poll of a future of a reader, by the reader before it, its answer and the reader after it. A poll after `Ready` does nothing.
+abbrev pub PollsChange : {T S C R : Type 0} → Kind T S C R → Option (ReaderOf TableId S (Said C R)) → Polled (ReaderOf TableId S (Said C R) × Result T MemoryError) → Option (ReaderOf TableId S (Said C R)) → Type 0
+PollsChange kind (Some old) Pending (Some new) = (new.flow ≡ old.flow) × PollsNext kind old.flow old.subscription Pending new.subscription
+PollsChange kind (Some old) (Ready given) None = (given.0.flow ≡ old.flow) × PollsNext kind old.flow old.subscription (Ready given.1) given.0.subscription
+PollsChange kind None Pending None = ⊤
+PollsChange kind _ _ _ = ⊥
 
 -- what a future of a reader may give: the reader, and the value that it received or its refusal; nothing more after `Ready`
 abbrev pub GivesChanged : {T S C R : Type 0} → Kind T S C R → Option (ReaderOf TableId S (Said C R)) → ReaderOf TableId S (Said C R) × Result T MemoryError → Type 0

@@ -1,8 +1,8 @@
 //! The state that a flow's gate guards: the core, and the callers that sleep until the core has something for them.
-ghost use Rattle.std.specs.Prelude.{◌≡◌, ℕ, List, []};
+ghost use Rattle.std.specs.Prelude.{◌≡◌, ◌⊎◌, ℕ, List, []};
 ghost use Rattle.std.specs.Bool.{OnTrue};
 ghost use Rattle.flow_law.specs.Standing.{Documents};
-ghost use Rattle.flow_shared.specs.Attended.{AttendedAs, attended_stands, Rests, Lasts, Watches, without};
+ghost use Rattle.flow_shared.specs.Attended.{AttendedAs, attended_stands, Rests, Lasts, Watches, Awaits, without};
 
 mod calls;
 
@@ -25,8 +25,8 @@ pub struct Attended<S: FlowCore, A: Allocator + Copy = Global> {
     to_wake: ToWake<A>,
 }
 
-/// The sleepers that calls have removed and not woken yet. They are woken after the call has left the gate.
-#[derive(Drop)]
+/// The sleepers that calls have removed and not woken yet. They are woken after the call has left the gate. It has no
+/// `Drop`: it ends by `wake`.
 pub(crate) struct ToWake<A: Allocator = Global> {
     readers: Woken<A>,
     emitters: Woken<A>,
@@ -55,6 +55,19 @@ impl<A: Allocator + Copy> ToWake<A> {
             any: true,
         }
     }
+
+    /// Wakes the sleepers.
+    pub(crate) fn wake(self) {
+        let Self {
+            readers,
+            emitters,
+            watchers,
+            any: _,
+        } = self;
+        readers.wake();
+        emitters.wake();
+        watchers.wake();
+    }
 }
 
 // Not derived, for the reason given at `Flow`.
@@ -66,8 +79,9 @@ impl<S: FlowCore + Drop, A: Allocator + Copy> Drop for Attended<S, A> {
             emitters: _,
             watchers: _,
             watched: _,
-            to_wake: _,
+            to_wake,
         } = self;
+        to_wake.wake();
     }
 }
 
@@ -122,8 +136,9 @@ impl<S: FlowCore, A: Allocator + Copy> Attended<S, A> {
             emitters: _,
             watchers: _,
             watched: _,
-            to_wake: _,
+            to_wake,
         } = self;
+        to_wake.wake();
         core
     }
 
@@ -142,9 +157,11 @@ impl<S: FlowCore, A: Allocator + Copy> Attended<S, A> {
         ensures core { self.new.core ≡ self.old.core }
         ensures readers { self.new.readers ≡ [] }
         ensures emitters { self.new.emitters ≡ self.old.emitters }
+        ensures to_wake { (self.old.readers ≡ []) ⊎
+            Awaits self.old.readers self.new.to_wake.readers self.new.to_wake.any }
     {
         if !self.readers.is_empty() {
-            self.to_wake.readers = self.readers.take_all();
+            self.to_wake.readers.replace(self.readers.take_all());
             self.to_wake.any = true;
         }
     }
@@ -155,8 +172,9 @@ impl<S: FlowCore, A: Allocator + Copy> Attended<S, A> {
         ensures readers { self.new.readers ≡ self.old.readers }
         ensures emitters { self.new.emitters ≡ self.old.emitters }
         ensures watchers { self.new.watchers ≡ [] }
+        ensures to_wake { Awaits self.old.watchers self.new.to_wake.watchers self.new.to_wake.any }
     {
-        self.to_wake.watchers = self.watchers.take_all();
+        self.to_wake.watchers.replace(self.watchers.take_all());
         self.to_wake.any = true;
     }
 
@@ -169,7 +187,9 @@ impl<S: FlowCore, A: Allocator + Copy> Attended<S, A> {
     }
 
     /// Returns whether there are sleepers to wake.
-    pub(crate) fn wakes_any(&self) -> bool {
+    pub(crate) fn wakes_any(&self) -> bool
+        ensures { result ≡ self.now.to_wake.any }
+    {
         self.to_wake.any
     }
 
@@ -215,7 +235,7 @@ impl<S: ReaderCalls, A: Allocator + Copy> Attended<S, A> {
         match now {
             Some(number) => self.emitters.wake_below(number),
             None => {
-                self.to_wake.emitters = self.emitters.take_all();
+                self.to_wake.emitters.replace(self.emitters.take_all());
                 self.to_wake.any = true;
             }
         }

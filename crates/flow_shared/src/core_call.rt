@@ -95,7 +95,7 @@ impl<S: FlowCore, A: Allocator + Copy> Attended<S, A> {
     {
         let woken = held.state().take_woken();
         let seat = held.leave(evidence);
-        drop(woken);
+        woken.wake();
         seat
     }
 }

@@ -14,6 +14,8 @@ pub(crate) struct Sleepless;
 impl<A: Allocator> Waiter<A> for Sleepless {
     ghost is_armed = { λ w. ⊤ };
 
+    ghost asks_again = { λ w. ⊤ };
+
     ghost keeps = { λ old new. ⊤ };
 
     ghost keeps_same = { λ w. tt };

@@ -98,7 +98,7 @@ enum Watch {
     Ends,
 }
 
-/// A thread that can sleep until the number of subscribers changes, or its emission ends. It watches one flow.
+/// A thread that can sleep until the number of subscribers changes, or an emission that it polled ends.
 ///
 /// A turn of calls after `watch` leaves its waker in the flow, inside the gate that the calls enter anyway. The thread
 /// then sleeps or ends the watch. The next count removes the waker, so that a flow without sleepers is as fast as

@@ -77,6 +77,8 @@ impl<'a, T: FlowValue, A: Allocator + Copy> Hub for SharedFlowHub<'a, T, A> {
 
     ghost does = { SharedFlowHubDoes };
 
+    ghost IsAlwaysReset = { Unit {0} };
+
     fn count(&mut self) -> Result<u64, FlowFault> {
         self.flow
             .count_watched(&mut self.watching, &mut self.driver)

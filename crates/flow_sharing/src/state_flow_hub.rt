@@ -71,6 +71,8 @@ impl<'a, T: FlowValue, A: Allocator + Copy> Hub for StateFlowHub<'a, T, A> {
 
     ghost does = { StateFlowHubDoes };
 
+    ghost IsAlwaysReset = { T.IsAlwaysCopied };
+
     fn count(&mut self) -> Result<u64, FlowFault> {
         self.flow
             .count_watched(&mut self.watching, &mut self.driver)

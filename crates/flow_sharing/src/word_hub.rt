@@ -67,6 +67,8 @@ impl<'a, T: Packed> Hub for WordHub<'a, T> {
 
     ghost does = { WordHubDoes };
 
+    ghost IsAlwaysReset = { Unit {0} };
+
     fn count(&mut self) -> Result<u64, FlowFault> {
         Ok(self.flow.subscription_count(&mut self.watching))
     }

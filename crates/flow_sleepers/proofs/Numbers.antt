@@ -1,8 +1,9 @@
 -- The numbers of a list of sleepers, after a change of the list.
-use Rattle.std.proofs.Common.{◌≡◌, ℕ, zero, suc, ◌==◌, Bool, true, false, cond, not, List, [], ◌∷◌, filter, refl, ap}
+use Rattle.std.proofs.Common.{◌≡◌, ℕ, zero, suc, ◌==◌, Bool, true, false, cond, not, List, [], ◌∷◌, filter, length, ◌≤◌, arith, refl, ap}
 use Rattle.std.specs.Prelude.{insert, nat_le}
+use Rattle.std.proofs.lemmas.List.Edits.{get_or-insert_at, length-insert}
 use Rattle.flow_sleepers.specs.declared.sleepers.Sleeper.{Sleeper}
-use Rattle.flow_sleepers.specs.Sleepers.{numbers_of}
+use Rattle.flow_sleepers.specs.Sleepers.{HasNumber, numbers_of}
 
 split : (b : Bool) (P : Bool → Type 0) → P true → P false → P b
 split true P t f = t
@@ -27,3 +28,6 @@ numbers-filter number (x ∷ xs) = split (not (x.number == number))
     (λ t. numbers_of (cond t (x ∷ filter (λ s. not (s.number == number)) xs) (filter (λ s. not (s.number == number)) xs))
     ≡ cond t (x.number ∷ filter (λ k. not (k == number)) (numbers_of xs)) (filter (λ k. not (k == number)) (numbers_of xs)))
     (ap (λ l. x.number ∷ l) (numbers-filter number xs)) (numbers-filter number xs)
+
+pub inserted : (ns : List ℕ) (i n : ℕ) → i ≤ length ns → HasNumber (insert ns i n) i n
+inserted ns i n within = (omega (arith, length-insert ns i n within), get_or-insert_at ns i n n within)

@@ -1,8 +1,8 @@
 //! The wakers of callers that sleep, each under a number.
-ghost use Rattle.std.specs.Prelude.{◌≡◌, ◌<◌, nat_le, ◌↔◌, ◌==◌, not, filter, length, [], IsTrue, IfSome};
+ghost use Rattle.std.specs.Prelude.{◌≡◌, ◌<◌, ◌≤◌, nat_le, ◌↔◌, ◌==◌, not, filter, length, [], IsTrue, IfSome, ◌⊎◌, Contains};
 ghost use Rattle.std.specs.Bool.{OnTrue};
 ghost use Rattle.std.specs.Vec.{vec_len};
-ghost use Rattle.flow_sleepers.specs.Sleepers.{Adds, numbers_of};
+ghost use Rattle.flow_sleepers.specs.Sleepers.{Adds, HasNumber, numbers_of};
 
 use crate::waiter::{Waiter, Wakers};
 use futures::task::Poll;
@@ -27,7 +27,7 @@ impl<A: Allocator> Drop for Sleeper<A> {
     }
 }
 
-/// Callers that sleep, each under a number, in the order of the numbers.
+/// Callers that sleep, each under a number, in the order of the numbers. Several may sleep under one number.
 pub struct Sleepers<A: Allocator = Global> {
     list: Vec<Sleeper<A>, A>,
 }
@@ -48,20 +48,24 @@ impl<A: Allocator> Model for Sleepers<A> {
     ghost view = { λ s. numbers_of s.list.items };
 }
 
-/// Sleepers that were removed from a list. Dropping this wakes them.
+/// Sleepers that were removed from a list and are still to be woken. It has no `Drop`: it ends by `wake`.
 pub struct Woken<A: Allocator = Global> {
     list: Vec<Sleeper<A>, A>,
 }
 
-impl<A: Allocator> Drop for Woken<A> {
-    fn drop(self) {
-        let Self { list: _ } = self;
-    }
+impl<A: Allocator> Model for Woken<A> {
+    ghost use Rattle.std.specs.Prelude.{List, ℕ};
+
+    ghost Value = { List ℕ };
+
+    ghost use Rattle.flow_sleepers.specs.Sleepers.{numbers_of};
+
+    ghost view = { λ w. numbers_of w.list.items };
 }
 
 /// Returns whether the sleeper at this place has this number.
 fn is_at<A: Allocator>(list: &[Sleeper<A>], place: usize, number: u64) -> bool
-    ensures { OnTrue result (place < length list.now) }
+    ensures { OnTrue result ((place < length list.now) × HasNumber (numbers_of list.now) place number) }
 {
     match list.get(place) {
         Some(sleeper) => sleeper.number == number,
@@ -69,12 +73,29 @@ fn is_at<A: Allocator>(list: &[Sleeper<A>], place: usize, number: u64) -> bool
     }
 }
 
-/// Returns the place of the sleeper of this number, after adding one if there is none, or `None` if memory is refused.
+/// Returns the place of the first sleeper of this number whose wakers another caller may join, or else the place behind
+/// the sleepers of this number.
+fn place_of<A: Allocator>(list: &[Sleeper<A>], number: u64) -> usize
+    ensures { result ≤ length list.now }
+{
+    let first = list.partition_point(|sleeper| sleeper.number < number);
+    for place in first..list.len() {
+        let sleeper = &list[place];
+        if sleeper.number != number || sleeper.wakers.is_free() {
+            return place;
+        }
+    }
+    list.len()
+}
+
+/// Returns the place of a sleeper of this number, after adding one if there is none whose wakers another caller may
+/// join, or `None` if memory is refused.
 fn place_in<A: Allocator>(list: &mut Vec<Sleeper<A>, A>, number: u64) -> Option<usize>
     ensures within { IfSome result (λ place. place < vec_len list.new) }
+    ensures found { IfSome result (λ place. HasNumber (numbers_of list.new.items) place number) }
     ensures adds { Adds number (numbers_of list.old.items) (numbers_of list.new.items) }
 {
-    let place = list.partition_point(|sleeper| sleeper.number < number);
+    let place = place_of(list, number);
     if is_at(list, place, number) {
         return Some(place);
     }
@@ -90,18 +111,36 @@ fn place_in<A: Allocator>(list: &mut Vec<Sleeper<A>, A>, number: u64) -> Option<
 
 impl<A: Allocator + Copy> Woken<A> {
     /// Returns an empty list. Does not allocate.
-    pub fn new(alloc: A) -> Self {
+    pub fn new(alloc: A) -> Self
+        ensures { result ≡ [] }
+    {
         Woken {
             list: Vec::new(alloc),
         }
     }
 
     /// Takes all sleepers out, and leaves an empty list.
-    pub fn take(&mut self) -> Self {
+    pub fn take(&mut self) -> Self
+        ensures all { result ≡ self.old }
+        ensures none { self.new ≡ [] }
+    {
         let alloc = *self.list.allocator();
         Woken {
             list: mem::replace(&mut self.list, Vec::new(alloc)),
         }
+    }
+
+    /// Holds these sleepers in place of its own, which are woken.
+    pub fn replace(&mut self, others: Self)
+        ensures { self.new ≡ others }
+    {
+        mem::replace(self, others).wake();
+    }
+
+    /// Wakes the sleepers.
+    pub fn wake(self) {
+        let Self { list } = self;
+        drop(list);
     }
 }
 
@@ -128,6 +167,7 @@ impl<A: Allocator + Copy> Sleepers<A> {
         ensures pending { result ≡ Poll.Pending }
         ensures armed { W.is_armed waiter.new }
         ensures kept { W.keeps waiter.old waiter.new }
+        ensures listed { (W.asks_again waiter.new) ⊎ (Contains self.new number) }
         ensures adds { Adds number self.old self.new }
     {
         if waiter.asks_first() {
@@ -158,9 +198,10 @@ impl<A: Allocator + Copy> Sleepers<A> {
         self.list.retain(|sleeper| number <= sleeper.number);
     }
 
-    /// Removes all sleepers, and returns them.
+    /// Removes all sleepers, and returns them to be woken.
     pub fn take_all(&mut self) -> Woken<A>
-        ensures { self.new ≡ [] }
+        ensures all { result ≡ self.old }
+        ensures none { self.new ≡ [] }
     {
         let alloc = *self.list.allocator();
         Woken {

@@ -1,11 +1,14 @@
 //! The callers that can sleep: a task that is polled, and a thread.
-ghost use Rattle.std.specs.Prelude.{◌≡◌, ◌≢◌, ◌⊎◌, ⊤, IsSome};
+ghost use Rattle.std.specs.Prelude.{◌≡◌, ◌≢◌, ◌⊎◌, ⊤, IsSome, true};
+ghost use Rattle.futures.specs.Slot.{IsLeftIn};
 ghost use Rattle.futures.specs.Task.{IsArmed, Keeps};
-ghost use Rattle.flow_sleepers.specs.Waiters.{IsReadyToWait};
+ghost use Rattle.flow_sleepers.specs.Waiters.{AsksAgain, IsReadyToWait};
 
 use crate::limit::Limit;
 use futures::task::{Context, Poll, Source, Waker};
 use std::alloc::{AllocError, Allocator, Global};
+use std::sync::atomic::AtomicU64;
+use std::sync::atomic::Ordering::SeqCst;
 use std::sync::{Arc, Wait};
 use std::thread::Parker;
 use std::time::{Clock, Duration};
@@ -39,12 +42,23 @@ impl<A: Allocator> Wakers<A> {
             thread: None,
         }
     }
+
+    /// Returns whether another thread may leave its waker here: no thread sleeps until this one is dropped.
+    pub(crate) fn is_free(&self) -> bool {
+        match &self.thread {
+            Some(waker) => waker.is_over(),
+            None => true,
+        }
+    }
 }
 
 /// A caller that can sleep.
 pub trait Waiter<A: Allocator> {
     /// The caller has left its waker, or asks again.
     ghost is_armed: { Self → Type 0 };
+
+    /// The caller asks again.
+    ghost asks_again: { Self → Type 0 };
 
     /// What does not change when the caller leaves its waker or asks again.
     ghost keeps: { Self → Self → Type 0 };
@@ -56,6 +70,7 @@ pub trait Waiter<A: Allocator> {
 
     /// Makes the caller ask again instead of sleeping.
     fn ask_again(&mut self)
+        ensures again { asks_again self.new }
         ensures armed { is_armed self.new }
         ensures kept { keeps self.old self.new };
 
@@ -69,11 +84,18 @@ pub trait Waiter<A: Allocator> {
 impl<'a, A: Allocator> Waiter<A> for Context<'a> {
     ghost is_armed = { λ cx. IsArmed cx };
 
+    ghost asks_again = { λ cx. cx.is_woken ≡ true };
+
     ghost keeps = { λ old new. Keeps old new };
 
     ghost keeps_same = { λ cx fact holds. holds };
 
-    fn leave_waker(&mut self, _alloc: A, wakers: &mut Wakers<A>) {
+    fn leave_waker(&mut self, _alloc: A, wakers: &mut Wakers<A>)
+        ensures left { IsLeftIn self.old self.new wakers.new.task }
+        // The clauses of the trait.
+        ensures armed { IsArmed self.new }
+        ensures kept { Keeps self.old self.new }
+    {
         let source = Source::new();
         let _asleep: Poll<()> = self.register(&source, &mut wakers.task);
     }
@@ -87,15 +109,44 @@ impl<'a, A: Allocator> Waiter<A> for Context<'a> {
     }
 }
 
-/// The waker of a thread, which wakes it when dropped.
+/// What a thread sleeps on, and its wakers wake.
+struct ThreadSleep {
+    parker: Parker,
+    /// How many waits of the thread have ended.
+    ended: AtomicU64,
+}
+
+// Not derived, for the reason given at `Wakers`.
+impl Drop for ThreadSleep {
+    fn drop(self) {
+        let Self {
+            parker: _,
+            ended: _,
+        } = self;
+    }
+}
+
+/// The waker of a thread for one of its waits. Dropping it during that wait wakes the thread.
 struct ThreadWaker<A: Allocator = Global> {
-    parker: Arc<Parker, A>,
+    sleep: Arc<ThreadSleep, A>,
+    /// How many waits had ended before this one.
+    wait: u64,
+}
+
+impl<A: Allocator> ThreadWaker<A> {
+    /// Returns whether the wait has ended. The thread asks again after it.
+    fn is_over(&self) -> bool {
+        self.sleep.ended.load(SeqCst) != self.wait
+    }
 }
 
 impl<A: Allocator> Drop for ThreadWaker<A> {
     fn drop(self) {
-        let Self { parker } = self;
-        parker.unpark();
+        let is_over = self.is_over();
+        let Self { sleep, wait: _ } = self;
+        if !is_over {
+            sleep.parker.unpark();
+        }
     }
 }
 
@@ -110,22 +161,41 @@ enum Rest {
     Again,
 }
 
-/// The calling thread, which first asks several times, and then sleeps until one of its wakers is dropped. No other
-/// caller leaves a waker under its numbers.
-#[derive(Drop)]
+/// The calling thread, which first asks several times, and then sleeps until one of its wakers is dropped. The wakers
+/// that it leaves serve one wait: when the wait ends, they wake it no more, and other wakers take their places.
 pub struct ThreadWaiter<A: Allocator = Global> {
     /// Made when the thread first leaves a waker.
-    parker: Option<Arc<Parker, A>>,
+    sleep: Option<Arc<ThreadSleep, A>>,
     rest: Rest,
     /// How often it asked without leaving a waker.
     looks: u32,
+}
+
+impl<A: Allocator> Drop for ThreadWaiter<A> {
+    fn drop(self) {
+        self.end_wait();
+        let Self {
+            sleep: _,
+            rest: _,
+            looks: _,
+        } = self;
+    }
+}
+
+impl<A: Allocator> ThreadWaiter<A> {
+    /// Ends a wait: the wakers that were left for it are free.
+    fn end_wait(&self) {
+        if let Some(sleep) = &self.sleep {
+            sleep.ended.fetch_add(1, SeqCst);
+        }
+    }
 }
 
 impl<A: Allocator + Copy> ThreadWaiter<A> {
     /// Makes a waiter that has left no waker. Does not allocate.
     pub fn new() -> Self {
         ThreadWaiter {
-            parker: None,
+            sleep: None,
             rest: Rest::None,
             looks: 0,
         }
@@ -134,16 +204,24 @@ impl<A: Allocator + Copy> ThreadWaiter<A> {
     fn waker(&mut self, alloc: A) -> Result<ThreadWaker<A>, AllocError>
         ensures { self.new.rest ≡ self.old.rest }
     {
-        if let Some(parker) = &self.parker {
+        if let Some(sleep) = &self.sleep {
             return Ok(ThreadWaker {
-                parker: Arc::try_clone(parker)?,
+                sleep: Arc::try_clone(sleep)?,
+                wait: sleep.ended.load(SeqCst),
             });
         }
-        let parker = Arc::new(alloc, Parker::new())?;
+        let sleep = Arc::new(
+            alloc,
+            ThreadSleep {
+                parker: Parker::new(),
+                ended: AtomicU64::new(0),
+            },
+        )?;
         let waker = ThreadWaker {
-            parker: Arc::try_clone(&parker)?,
+            sleep: Arc::try_clone(&sleep)?,
+            wait: 0,
         };
-        self.parker = Some(parker);
+        self.sleep = Some(sleep);
         Ok(waker)
     }
 
@@ -152,19 +230,21 @@ impl<A: Allocator + Copy> ThreadWaiter<A> {
     pub fn begin<R: Wait>(&mut self, rt: &R) {
         self.rest = Rest::None;
         self.looks = LOOKS;
-        if let Some(parker) = &self.parker {
-            parker.park_timeout(rt, Duration::ZERO);
+        self.end_wait();
+        if let Some(sleep) = &self.sleep {
+            sleep.parker.park_timeout(rt, Duration::ZERO);
         }
     }
 
     /// Sleeps until a waker that was left is dropped, or for `most`, if that is given; it may return early. If none was
     /// left, or the thread has to ask again, yields instead.
     pub fn sleep<R: Wait>(&mut self, rt: &R, most: Option<Duration>) {
-        match (mem::replace(&mut self.rest, Rest::None), &self.parker, most) {
-            (Rest::Asleep, Some(parker), Some(most)) => parker.park_timeout(rt, most),
-            (Rest::Asleep, Some(parker), None) => parker.park(rt),
+        match (mem::replace(&mut self.rest, Rest::None), &self.sleep, most) {
+            (Rest::Asleep, Some(sleep), Some(most)) => sleep.parker.park_timeout(rt, most),
+            (Rest::Asleep, Some(sleep), None) => sleep.parker.park(rt),
             _ => self.let_others_go_first(),
         }
+        self.end_wait();
     }
 
     /// Yields once after the first look, twice after the second, and so on up to `YIELDS` times.
@@ -197,6 +277,8 @@ impl<A: Allocator + Copy> ThreadWaiter<A> {
 impl<A: Allocator + Copy> Waiter<A> for ThreadWaiter<A> {
     ghost is_armed = { λ w. IsReadyToWait w };
 
+    ghost asks_again = { λ w. AsksAgain w };
+
     ghost keeps = { λ old new. ⊤ };
 
     ghost keeps_same = { λ w. tt };
@@ -208,11 +290,6 @@ impl<A: Allocator + Copy> Waiter<A> for ThreadWaiter<A> {
         ensures kept { ⊤ }
     {
         if let Rest::Again = self.rest {
-            return;
-        }
-        // Replacing its own waker would wake the thread at once.
-        if self.parker.is_some() && wakers.thread.is_some() {
-            self.rest = Rest::Asleep;
             return;
         }
         let Ok(waker) = self.waker(alloc) else {

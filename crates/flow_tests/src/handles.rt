@@ -1,6 +1,6 @@
 //! Tests of handles: each call returns what the flow's own call returns. The values are from kotlinx.coroutines'
 //! documentation.
-mod answers;
+pub mod answers;
 mod dropping;
 pub mod emissions;
 mod errors;

@@ -46,8 +46,6 @@ mod refusals;
 #[cfg(test)]
 mod sharing;
 #[cfg(test)]
-mod start;
-#[cfg(test)]
 mod steps;
 #[cfg(test)]
 mod values;

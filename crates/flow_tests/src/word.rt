@@ -3,6 +3,8 @@
 mod caller;
 pub mod celsius;
 #[cfg(test)]
+mod lost;
+#[cfg(test)]
 mod messages;
 #[cfg(test)]
 mod one_caller;
@@ -12,3 +14,5 @@ mod packs;
 mod signals;
 #[cfg(test)]
 mod threads;
+#[cfg(test)]
+mod two_setters;

@@ -1,3 +1,4 @@
 pub mod StepLemmas
 pub mod OverCoresLemmas
 pub mod RunLemmas
+pub mod ReadLemmas

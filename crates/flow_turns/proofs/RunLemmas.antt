@@ -1,48 +1,49 @@
 -- What a run of a sharing has done before each of its turns. Begin with `HasRun`.
-use Rattle.std.proofs.Common.{◌≡◌, ℕ, Bool, Result, Ok, Err, sym, subst}
+use Rattle.std.proofs.Common.{◌≡◌, Bool, Ok, Err, sym, subst}
 use Rattle.flow_law.specs.declared.report.Report.{Report}
 use Rattle.flow_law.specs.declared.report.ShareFault.{ShareFault}
 use Rattle.flow_law.specs.ChainRun.{ChainRun}
 use Rattle.flow_law.specs.SharingCalls.{HubCall, HubAnswer}
 use Rattle.flow_turns.specs.declared.sharing.Sharing.{Sharing}
-use Rattle.flow_turns.specs.Runs.{TakesTurns, no_turn, one_more, IsRefusedAt}
+use Rattle.flow_turns.specs.Runs.{TakesTurns, no_turn, one_more, IsRefusedAt, TurnsByClock}
 use Rattle.flow_turns.specs.SharingViews.{chain_of, CanRun, KeepsReadings}
-use Rattle.flow_turns.specs.TurnClauses.{TakesTurn}
+use Rattle.flow_turns.specs.TurnClauses.{TakesTurn, TakesSomeTurn}
 
 -- `whole` and `rest` are the runs of the chain, for each of its readings; `does` and `waits` are those of the hub
 module _ {C H T R : Type 0} (can_ask : C → Type 0) (reads : C → R → Type 0) (whole rest : C → R → ChainRun T)
     (does : (c : HubCall T) → H → HubAnswer c → H → Type 0) (waits : H → Bool) where
-  -- what is known of a turn at the moment of the clock
-  abbrev pub TurnsByClock : Sharing C H T → Result Report ShareFault → Sharing C H T → Type 0
-  TurnsByClock old result new =
-      (m : R) → reads (chain_of old) m → (now : ℕ) × TakesTurn (λ c. whole c m) (λ c. rest c m) does waits now old result new
-
   -- the sharing has taken turns since the run began, and can take another one
   pub record HasRun (start now : Sharing C H T) : Type 0 where
     pub callable : CanRun can_ask now
     pub kept : KeepsReadings reads (chain_of start) (chain_of now)
-    pub turns : (m : R) → reads (chain_of start) m → TakesTurns (λ c. whole c m) (λ c. rest c m) does waits start now
+    pub some : TakesTurns (TakesSomeTurn does waits) start now
+    pub turns : (m : R) → reads (chain_of start) m → TakesTurns (TakesTurn (λ c. whole c m) (λ c. rest c m) does waits) start now
 
 module _ {C H T R : Type 0} {can_ask : C → Type 0} {reads : C → R → Type 0} {whole rest : C → R → ChainRun T}
     {does : (c : HubCall T) → H → HubAnswer c → H → Type 0} {waits : H → Bool} where
   -- before its first turn
   pub run-begins : (start : Sharing C H T) → CanRun can_ask start → HasRun can_ask reads whole rest does waits start start
-  run-begins start callable = record { callable = callable; kept = λ m r. r; turns = λ m r. no_turn }
+  run-begins start callable = record { callable = callable; kept = λ m r. r; some = no_turn; turns = λ m r. no_turn }
 
   -- after one turn more, and a rest that changes nothing
   pub run-goes_on : {start now next rested : Sharing C H T} (report : Report) → HasRun can_ask reads whole rest does waits start now → rested ≡ next →
-      CanRun can_ask next → KeepsReadings reads (chain_of now) (chain_of next) → TurnsByClock can_ask reads whole rest does waits now (Ok report) next → HasRun can_ask reads whole rest does waits start rested
+      CanRun can_ask next → KeepsReadings reads (chain_of now) (chain_of next) → TurnsByClock reads whole rest does waits now (Ok report) next → HasRun can_ask reads whole rest does waits start rested
   run-goes_on {start} {now} {next} {rested} report run same callable keeps turn =
       subst (HasRun can_ask reads whole rest does waits start) (sym same) (
       record {
         callable = callable;
         kept = λ m r. keeps m (run.kept m r);
-        turns = λ m r. (let told = turn m (run.kept m r) in one_more told.0 report (run.turns m r) told.1);
+        some = one_more turn.now report run.some turn.later turn.some;
+        turns = λ m r. one_more turn.now report (run.turns m r) turn.later (turn.read m (run.kept m r));
       })
 
   -- after a turn that was refused
-  pub run-refused : {start now new : Sharing C H T} (fault : ShareFault) → HasRun can_ask reads whole rest does waits start now → TurnsByClock can_ask reads whole rest does waits now (Err fault) new →
-      (m : R) → reads (chain_of start) m → IsRefusedAt (λ c. whole c m) (λ c. rest c m) does waits fault start new
+  pub run-refused : {start now new : Sharing C H T} (fault : ShareFault) → HasRun can_ask reads whole rest does waits start now → TurnsByClock reads whole rest does waits now (Err fault) new →
+      (m : R) → reads (chain_of start) m → IsRefusedAt (TakesTurn (λ c. whole c m) (λ c. rest c m) does waits) fault start new
   run-refused {start} {now} fault run turn m r =
-      let told = turn m (run.kept m r) in
-      record { between = now; turns = run.turns m r; now = told.0; refused = told.1 }
+      record { between = now; turns = run.turns m r; now = turn.now; later = turn.later; refused = turn.read m (run.kept m r) }
+
+  pub run-refused-some : {start now new : Sharing C H T} (fault : ShareFault) → HasRun can_ask reads whole rest does waits start now → TurnsByClock reads whole rest does waits now (Err fault) new →
+      IsRefusedAt (TakesSomeTurn does waits) fault start new
+  run-refused-some {start} {now} fault run turn =
+      record { between = now; turns = run.some; now = turn.now; later = turn.later; refused = turn.some }

@@ -1,5 +1,5 @@
 -- What contracts see of a sharing: what it keeps, as flow_law's `SharingState`, and its chain and hub. Begin with `state_of`.
-use Rattle.std.specs.Prelude.{◌≡◌, Bool, List}
+use Rattle.std.specs.Prelude.{◌≡◌, ℕ, Bool, List}
 use Rattle.flow_law.specs.declared.sharing.Started.{Started}
 use Rattle.flow_law.specs.declared.sharing.SharingObservation.{SharingObservation}
 use Rattle.flow_law.specs.ChainRun.{ChainRun}
@@ -7,7 +7,7 @@ use Rattle.flow_law.specs.SharingCalls.{ChainAndHub}
 use Rattle.flow_law.specs.SharingTurn.{SharingState}
 use Rattle.flow_law.specs.TurnMeaning.{BetweenTurns, IsQuiet}
 use Rattle.flow_turns.specs.declared.sharing.Sharing.{Sharing}
-use Rattle.flow_turns.specs.Policy.{HasSeen}
+use Rattle.flow_turns.specs.Policy.{HasSeen, last_at}
 
 module _ {C H T : Type 0} where
   -- what the sharing keeps between two turns, beside its chain and its hub
@@ -36,6 +36,10 @@ module _ {C H T : Type 0} where
   -- the sharing has this policy, and these observations, the newest one first, were accepted
   abbrev pub HasObserved : Started → Sharing C H T → List SharingObservation → Type 0
   HasObserved started sharing seen = HasSeen started sharing.policy seen
+
+  -- the moment of the last observation, 0 before the first one
+  abbrev pub last_of : Sharing C H T → ℕ
+  last_of sharing = last_at sharing.policy
 
   -- the chain has failed
   abbrev pub has_ended : Sharing C H T → Bool

@@ -15,7 +15,7 @@ use Rattle.flow_law.specs.declared.report.ShareFault.TheVariants.{Chain}
 use Rattle.flow_law.specs.ChainRun.{ChainRun}
 use Rattle.flow_law.specs.Steps.{Takes}
 use Rattle.flow_law.specs.SharingCalls.{HubCall, HubAnswer, CallDoes, HubStep}
-use Rattle.flow_law.specs.SharingTurn.{reported, turn_steps}
+use Rattle.flow_law.specs.SharingTurn.{Turned, TurnSteps, reported, turn_steps}
 use Rattle.flow_law.specs.TurnMeaning.{HasAccount, BetweenTurns, IsQuiet, IsCommand, TurnMeans, TurnResets}
 use Rattle.flow_turns.specs.declared.sharing.Sharing.{Sharing}
 use Rattle.flow_turns.specs.SharingViews.{state_of, chain_and_hub, chain_of, hub_of, HasObserved}
@@ -36,6 +36,23 @@ module _ {C H T : Type 0} (whole rest : C → ChainRun T) (does : (c : HubCall T
       (started : Started) (seen : List SharingObservation) (accepted : List T) → HasObserved started old seen →
       BetweenTurns (state_of old) (chain_and_hub whole rest old) → HasAccount accepted (state_of old) (chain_and_hub whole rest old) →
       TurnMeans (HubStep does waits) accepted (state_of old) (chain_and_hub whole rest old) result (state_of new) (chain_and_hub whole rest new)
+
+-- `does` and `waits` are those of the hub
+module _ {H T : Type 0} (does : (c : HubCall T) → H → HubAnswer c → H → Type 0) (waits : H → Bool) where
+  -- The steps may be taken from the hub `old` to the hub `new`, over a chain that has some runs: its answers may be any.
+  pub record TakesOver (steps : TurnSteps T) (old : H) (turned : Turned T) (new : H) : Type 0 where
+    pub whole : ChainRun T
+    pub before : ChainRun T
+    pub after : ChainRun T
+    pub takes : Takes (CallDoes (HubStep does waits)) steps (record { whole = whole; rest = before; hub = old }) turned (record { whole = whole; rest = after; hub = new })
+
+module _ {C H T : Type 0} (does : (c : HubCall T) → H → HubAnswer c → H → Type 0) (waits : H → Bool) where
+  -- the sharing takes the steps of a turn, whatever its chain answers, and has then observed what the turn says
+  abbrev pub TakesSomeTurn : ℕ → Sharing C H T → Result Report ShareFault → Sharing C H T → Type 0
+  TakesSomeTurn now old result new =
+      (started : Started) (seen : List SharingObservation) → HasObserved started old seen →
+      (all : List SharingObservation) × HasObserved started new all
+      × TakesOver does waits (turn_steps started now seen (state_of old)) (hub_of old) (record { answer = result; seen = all; state = state_of new }) (hub_of new)
 
 module _ {C H T : Type 0} where
   -- the turn's command is the one of the observations

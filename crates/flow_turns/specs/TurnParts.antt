@@ -1,45 +1,70 @@
--- What the parts of a turn do. No public clause uses these definitions. Begin with `ComesTo`.
-use Rattle.std.specs.Prelude.{◌≡◌, Bool, List, Result, Ok, Err}
+-- What the parts of a turn do. No public clause uses these definitions. Begin with `ActsBy` and `ComesTo`.
+use Rattle.std.specs.Prelude.{◌≡◌, ℕ, Bool, List, Result, Ok, Err}
 use Rattle.flow_law.specs.declared.fault.FlowFault.{FlowFault}
+use Rattle.flow_law.specs.declared.sharing.Started.{Started}
 use Rattle.flow_law.specs.declared.sharing.Command.{Command}
 use Rattle.flow_law.specs.declared.sharing.SharingObservation.{SharingObservation}
 use Rattle.flow_law.specs.declared.report.Event.{Event}
+use Rattle.flow_law.specs.declared.report.Report.{Report}
 use Rattle.flow_law.specs.declared.report.ShareFault.{ShareFault}
 use Rattle.flow_law.specs.ChainRun.{ChainRun}
 use Rattle.flow_law.specs.Sharing.{runs_after}
 use Rattle.flow_law.specs.Steps.{Takes}
-use Rattle.flow_law.specs.SharingCalls.{HubCall, HubAnswer, ChainAndHub, to_hub, CallDoes, HubStep}
-use Rattle.flow_law.specs.SharingTurn.{SharingState, Turned, TurnSteps, refusal, reported, begin, work}
+use Rattle.flow_law.specs.SharingCalls.{HubCall, HubAnswer, TurnCall, TurnAnswer, to_hub, asks, rewinds, AskDoes, HubStep}
+use Rattle.flow_law.specs.SharingTurn.{SharingState, Turned, TurnSteps, refusal, reported, begin, work, turn_steps}
 use Rattle.flow_turns.specs.declared.sharing.Sharing.{Sharing}
-use Rattle.flow_turns.specs.SharingViews.{state_of, chain_and_hub}
+use Rattle.flow_turns.specs.SharingViews.{state_of, HasObserved}
 
--- `whole` and `rest` are the runs of the chain; `does` and `waits` are those of the hub
-module _ {C H T : Type 0} (whole rest : C → ChainRun T) (does : (c : HubCall T) → H → HubAnswer c → H → Type 0) (waits : H → Bool) where
-  -- the call of the hub has this answer, and the runs of the chain do not change
+-- a chain and a hub
+pub record Parts (C H : Type 0) : Type 0 where
+  pub chain : C
+  pub hub : H
+
+-- the chain and the hub of a sharing
+abbrev pub parts_of : {C H T : Type 0} → Sharing C H T → Parts C H
+parts_of sharing = record { chain = sharing.chain; hub = sharing.hub }
+
+-- `whole` and `rest` are the runs of the chain, for each of its readings; `does` and `waits` are those of the hub
+module _ {C H T R : Type 0} (reads : C → R → Type 0) (whole rest : C → R → ChainRun T) (does : (c : HubCall T) → H → HubAnswer c → H → Type 0) (waits : H → Bool) where
+  -- what a call of the chain leaves, for a reading that it had before: the reading, and the whole run
+  abbrev pub KeepsReading : R → C → C → Type 0
+  KeepsReading m old new = reads new m × (whole new m ≡ whole old m)
+
+  -- What a call of a turn does to the chain and to the hub. Of a chain without a reading nothing is said.
+  abbrev pub ActsBy : (c : TurnCall T) → Parts C H → TurnAnswer c → Parts C H → Type 0
+  ActsBy (to_hub call) old answer new = HubStep does waits call old.hub answer new.hub × (new ≡ record old { hub = new.hub })
+  ActsBy asks old answer new =
+      ((m : R) → reads old.chain m → KeepsReading m old.chain new.chain × AskDoes (rest old.chain m) answer (rest new.chain m))
+      × (new ≡ record old { chain = new.chain })
+  ActsBy rewinds old answer new =
+      ((m : R) → reads old.chain m → KeepsReading m old.chain new.chain × (rest new.chain m ≡ whole old.chain m))
+      × (new ≡ record old { chain = new.chain })
+
+-- `acts` says what a call of a turn does to the chain and to the hub
+module _ {C H T : Type 0} (acts : (c : TurnCall T) → Parts C H → TurnAnswer c → Parts C H → Type 0) where
+  -- the call of the hub has this answer, and the chain does not change
   abbrev pub CallsHub : (c : HubCall T) → Sharing C H T → HubAnswer c → Sharing C H T → Type 0
-  CallsHub call old answer new =
-      CallDoes (HubStep does waits) (to_hub call) (chain_and_hub whole rest old) answer (chain_and_hub whole rest new)
+  CallsHub call old answer new = acts (to_hub call) (parts_of old) answer (parts_of new)
 
   -- these steps, which follow a turn's command, come to this outcome, whatever the command and the observations
   abbrev pub ComesTo : (Command → List SharingObservation → SharingState T → TurnSteps T) → Sharing C H T → Result Event ShareFault → Sharing C H T → Type 0
   ComesTo steps old outcome new =
       (command : Command) (seen : List SharingObservation) →
-      Takes (CallDoes (HubStep does waits)) (steps command seen (state_of old)) (chain_and_hub whole rest old)
-      (record { answer = reported command outcome; seen = seen; state = state_of new }) (chain_and_hub whole rest new)
+      Takes acts (steps command seen (state_of old)) (parts_of old) (record { answer = reported command outcome; seen = seen; state = state_of new }) (parts_of new)
 
   -- a command and the steps after it come to this outcome, whatever the observations, if the policy runs as the command says
   abbrev pub CommandComesTo : Command → Sharing C H T → Result Event ShareFault → Sharing C H T → Type 0
   CommandComesTo command old outcome new =
       (all : List SharingObservation) (ran : Bool) → (state_of old).runs ≡ runs_after command ran →
-      Takes (CallDoes (HubStep does waits)) (begin all command (record (state_of old) { runs = ran })) (chain_and_hub whole rest old)
-      (record { answer = reported command outcome; seen = all; state = state_of new }) (chain_and_hub whole rest new)
+      Takes acts (begin all command (record (state_of old) { runs = ran })) (parts_of old)
+      (record { answer = reported command outcome; seen = all; state = state_of new }) (parts_of new)
 
   -- whatever the steps `next` come to from `new`, the steps `steps` come to from `old`
   abbrev pub LeadsTo : TurnSteps T → Sharing C H T → TurnSteps T → Sharing C H T → Type 0
   LeadsTo steps old next new =
-      (turned : Turned T) (last : ChainAndHub T H) →
-      Takes (CallDoes (HubStep does waits)) next (chain_and_hub whole rest new) turned last →
-      Takes (CallDoes (HubStep does waits)) steps (chain_and_hub whole rest old) turned last
+      (turned : Turned T) (last : Parts C H) →
+      Takes acts next (parts_of new) turned last →
+      Takes acts steps (parts_of old) turned last
 
   -- after the command is obeyed its work is left, if the policy runs as the command says
   abbrev pub CommandLeads : Command → Sharing C H T → Sharing C H T → Type 0
@@ -52,3 +77,10 @@ module _ {C H T : Type 0} (whole rest : C → ChainRun T) (does : (c : HubCall T
   GoesOn steps next old (Ok done) new =
       (command : Command) (seen : List SharingObservation) → LeadsTo (steps command seen (state_of old)) old (next command seen (state_of new)) new
   GoesOn steps next old (Err fault) new = ComesTo steps old (refusal fault) new
+
+  -- the sharing takes the steps of a turn, and has then observed what the turn says
+  abbrev pub TakesActs : ℕ → Sharing C H T → Result Report ShareFault → Sharing C H T → Type 0
+  TakesActs now old result new =
+      (started : Started) (seen : List SharingObservation) → HasObserved started old seen →
+      (all : List SharingObservation) × HasObserved started new all
+      × Takes acts (turn_steps started now seen (state_of old)) (parts_of old) (record { answer = result; seen = all; state = state_of new }) (parts_of new)

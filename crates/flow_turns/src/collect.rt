@@ -5,7 +5,7 @@ ghost use Rattle.flow_law.specs.SharingTurn as steps;
 ghost use Rattle.flow_operators.specs.Asking.{AskGives, OnEnd};
 ghost use Rattle.flow_turns.specs.SharingViews.{state_of, chain_of, CanRun, KeepsReadings, has_ended};
 ghost use Rattle.flow_turns.specs.TurnClauses.{FaultWasAnswered, ended_after};
-ghost use Rattle.flow_turns.specs.TurnParts.{CallsHub, ComesTo};
+ghost use Rattle.flow_turns.specs.TurnParts.{ActsBy, CallsHub, ComesTo};
 
 use crate::answers::refusal_of;
 use crate::hub::Hub;
@@ -32,8 +32,7 @@ impl<C: Cold, H: Hub<Item = C::Item>> Sharing<C, H> {
         requires callable { CanRun C.CanAsk self.old }
         requires free { H.waits self.old.hub ≡ false }
         requires empty { self.old.kept ≡ None }
-        ensures steps { (m : C.Reading) → C.Reads (chain_of self.old) m
-            → ComesTo (λ c. C.whole c m) (λ c. C.rest c m) H.does H.waits
+        ensures steps { ComesTo (ActsBy C.Reads C.whole C.rest H.does H.waits)
             (λ command seen. steps.put command seen item) self.old result self.new }
         ensures callable { CanRun C.CanAsk self.new }
         ensures reads { KeepsReadings C.Reads (chain_of self.old) (chain_of self.new) }
@@ -62,8 +61,7 @@ impl<C: Cold, H: Hub<Item = C::Item>> Sharing<C, H> {
     fn send(&mut self) -> Result<Event, ShareFault>
         requires callable { CanRun C.CanAsk self.old }
         requires free { H.waits self.old.hub ≡ false }
-        ensures steps { (m : C.Reading) → C.Reads (chain_of self.old) m
-            → ComesTo (λ c. C.whole c m) (λ c. C.rest c m) H.does H.waits
+        ensures steps { ComesTo (ActsBy C.Reads C.whole C.rest H.does H.waits)
             (λ command seen s. steps.send command seen s.kept s) self.old result self.new }
         ensures callable { CanRun C.CanAsk self.new }
         ensures reads { KeepsReadings C.Reads (chain_of self.old) (chain_of self.new) }
@@ -96,9 +94,8 @@ impl<C: Cold, H: Hub<Item = C::Item>> Sharing<C, H> {
         ensures reads { KeepsReadings C.Reads (chain_of self.old) (chain_of self.new) }
         ensures policy { self.new.policy ≡ self.old.policy }
         ensures state { state_of self.new ≡ state_of self.old }
-        ensures polls { (m : C.Reading) →
-            CallsHub (λ c. C.whole c m)
-            (λ c. C.rest c m) H.does H.waits polls self.old result self.new }
+        ensures polls { CallsHub (ActsBy C.Reads C.whole C.rest H.does H.waits)
+            polls self.old result self.new }
         ensures waits { MatchResult result
             (λ waits. H.waits self.new.hub ≡ waits)
             (λ _. H.waits self.new.hub ≡ H.waits self.old.hub) }
@@ -109,8 +106,7 @@ impl<C: Cold, H: Hub<Item = C::Item>> Sharing<C, H> {
     /// While the sharing runs, polls an emission that waits; if none waits, sends the next item.
     pub(crate) fn collect(&mut self) -> Result<Event, ShareFault>
         requires { CanRun C.CanAsk self.old }
-        ensures steps { (m : C.Reading) → C.Reads (chain_of self.old) m
-            → ComesTo (λ c. C.whole c m) (λ c. C.rest c m) H.does H.waits
+        ensures steps { ComesTo (ActsBy C.Reads C.whole C.rest H.does H.waits)
             steps.collect_while_running self.old result self.new }
         ensures callable { CanRun C.CanAsk self.new }
         ensures reads { KeepsReadings C.Reads (chain_of self.old) (chain_of self.new) }

@@ -45,6 +45,8 @@ impl<T: FlowValue, A: Allocator + Copy> Hub for CoreHub<T, A> {
 
     ghost does = { CoreHubDoes };
 
+    ghost IsAlwaysReset = { Unit {0} };
+
     fn count(&mut self) -> Result<u64, FlowFault> {
         Ok(self.core.subscription_count())
     }

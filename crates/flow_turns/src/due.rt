@@ -2,7 +2,7 @@
 ghost use Rattle.std.specs.Prelude.{◌≡◌, ◌||◌, true, false, IfOk};
 ghost use Rattle.flow_law.specs.SharingTurn as steps;
 ghost use Rattle.flow_turns.specs.SharingViews.{chain_of, has_ended, CanRun, KeepsReadings};
-ghost use Rattle.flow_turns.specs.TurnParts.{CommandLeads, GoesOn};
+ghost use Rattle.flow_turns.specs.TurnParts.{ActsBy, CommandLeads, GoesOn};
 
 use crate::hub::Hub;
 use crate::sharing::Sharing;
@@ -18,9 +18,8 @@ impl<C: Cold, H: Hub<Item = C::Item>> Sharing<C, H> {
         ensures reads { KeepsReadings C.Reads (chain_of self.old) (chain_of self.new) }
         ensures policy { self.new.policy ≡ self.old.policy }
         ensures ended { has_ended self.new ≡ has_ended self.old }
-        ensures steps { (m : C.Reading) → C.Reads (chain_of self.old) m
-            → CommandLeads (λ c. C.whole c m)
-            (λ c. C.rest c m) H.does H.waits command self.old self.new }
+        ensures steps { CommandLeads (ActsBy C.Reads C.whole C.rest H.does H.waits)
+            command self.old self.new }
     {
         match command {
             Command::Start => {
@@ -55,7 +54,7 @@ impl<C: Cold, H: Hub<Item = C::Item>> Sharing<C, H> {
         ensures policy { self.new.policy ≡ self.old.policy }
         ensures ended { has_ended self.new ≡ has_ended self.old }
         ensures free { IfOk result (λ _. self.new.reset_due ≡ true → H.waits self.new.hub ≡ false) }
-        ensures steps { (m : C.Reading) → GoesOn (λ c. C.whole c m) (λ c. C.rest c m) H.does H.waits
+        ensures steps { GoesOn (ActsBy C.Reads C.whole C.rest H.does H.waits)
             steps.work steps.reset_if_due self.old result self.new }
     {
         if !self.is_work_due() {
@@ -74,7 +73,7 @@ impl<C: Cold, H: Hub<Item = C::Item>> Sharing<C, H> {
         ensures reads { KeepsReadings C.Reads (chain_of self.old) (chain_of self.new) }
         ensures policy { self.new.policy ≡ self.old.policy }
         ensures ended { has_ended self.new ≡ has_ended self.old }
-        ensures steps { (m : C.Reading) → GoesOn (λ c. C.whole c m) (λ c. C.rest c m) H.does H.waits
+        ensures steps { GoesOn (ActsBy C.Reads C.whole C.rest H.does H.waits)
             steps.reset_if_due steps.collect_while_running self.old result self.new }
     {
         if !self.reset_due {

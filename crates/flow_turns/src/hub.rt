@@ -19,6 +19,9 @@ pub trait Hub: Drop {
     /// What a call does, by the call, the hub before it, its answer, and the hub after it.
     ghost does: { (c : HubCall Self.Item) → Self → HubAnswer c → Self → Type 0 };
 
+    /// The claim that a reset takes no memory. By default a hub makes no claim.
+    ghost IsAlwaysReset: { Type 0 } = { ⊥ };
+
     /// Counts the subscribers.
     fn count(&mut self) -> Result<u64, FlowFault>
         ensures counts { HubStep does waits counts self.old result self.new }
@@ -44,5 +47,6 @@ pub trait Hub: Drop {
     /// while no emission of the hub waits.
     fn reset(&mut self) -> Result<(), FlowFault>
         requires { waits self.old ≡ false }
-        ensures { HubStep does waits resets self.old result self.new };
+        ensures resets { HubStep does waits resets self.old result self.new }
+        ensures given { IsAlwaysReset → IfErr result (λ fault. fault ≢ FlowFault.OutOfMemory) };
 }

@@ -23,6 +23,9 @@
 //! last answer (`answered`). `law_turn_over_core` and `law_turn_over_state_core` say that it is the same turn over
 //! the documented flow that the core stands for.
 //!
+//! A chain whose closures read a clock has no reading. What a turn over it counts, commands, calls and reports is
+//! promised all the same (`any_turn`, `any_resets`); only nothing is claimed of its items.
+//!
 //! # Reset
 //! If the policy says so (`expire`), the flow is reset some time after the stop: a shared flow empties its replay
 //! cache, a state flow gets its initial value again. This happens in the first turn after that time. If that turn

@@ -3,9 +3,9 @@
 //! A policy keeps no list of observations. It keeps the last moment, whether it runs, and, if it is one that stops, the
 //! moment since which all counts are zero after a positive one; these also show whether a reset was due. Its clauses
 //! speak of every list of observations that leads to what it keeps.
-ghost use Rattle.std.specs.Prelude.{◌≡◌, ◌≤◌, ◌<◌, [], true, false, None, IfOk, OnErr};
+ghost use Rattle.std.specs.Prelude.{◌≡◌, ◌≢◌, ◌⊎◌, ◌+◌, ◌≤◌, ◌<◌, [], true, false, None, IfSome, IfOk, OnErr};
 ghost use Rattle.std.specs.Option.{ForSome};
-ghost use Rattle.flow_law.specs.Sharing.{command_of, runs_after, is_past_expiry};
+ghost use Rattle.flow_law.specs.Sharing.{never, command_of, runs_after, is_past_expiry};
 
 use flow_law::{Command, NEVER, Started};
 use thiserror::Error;
@@ -49,7 +49,10 @@ fn change(ran: bool, runs: bool, was_expired: bool, expired: bool) -> Command
 }
 
 /// Returns the moment `time` after `moment`, or `None` if it never comes.
-fn later(moment: u64, time: u64) -> Option<u64> {
+fn later(moment: u64, time: u64) -> Option<u64>
+    ensures at { IfSome result (λ at. (at ≡ moment + time) × (time ≢ never)) }
+    ensures never { result ≡ None → (time ≡ never) ⊎ (never < moment + time) }
+{
     if time == NEVER {
         None
     } else {
@@ -58,7 +61,7 @@ fn later(moment: u64, time: u64) -> Option<u64> {
 }
 
 impl Policy {
-    ghost use Rattle.flow_turns.specs.Policy.{HasSeen, runs, GivesSince, GivesRunning, Observes};
+    ghost use Rattle.flow_turns.specs.Policy.{HasSeen, runs, last_at, GivesSince, GivesRunning, Observes, ActsNext};
 
     /// Makes a policy that has observed nothing, and does not run.
     pub fn new(started: Started) -> Self
@@ -80,12 +83,16 @@ impl Policy {
     }
 
     /// Returns the last accepted moment, 0 before the first observation.
-    pub(crate) fn last(&self) -> u64 {
+    pub(crate) fn last(&self) -> u64
+        ensures { result ≡ last_at self.now }
+    {
         self.last
     }
 
     /// Returns the next moment of a stop or a reset if no subscriber comes, or `None` if there is none.
-    pub(crate) fn next_moment(&self) -> Option<u64> {
+    pub(crate) fn next_moment(&self) -> Option<u64>
+        ensures { ActsNext self.now result }
+    {
         let Started::WhileSubscribed { stop, expire } = self.started else {
             return None;
         };

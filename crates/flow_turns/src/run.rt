@@ -1,9 +1,13 @@
 //! Running a sharing by one call, which sleeps while there is nothing to do.
-ghost use Rattle.std.specs.Prelude.{◌≡◌, ℕ};
+ghost use Rattle.std.specs.Prelude.{◌≡◌, ◌≤◌, ◌/◌, min, max, None, IfSome, IfOk};
+ghost use Rattle.std.specs.Bool.{OnTrue};
+ghost use Rattle.std.specs.Duration.{as_nanos};
 ghost use Rattle.flow_law.specs.declared.chain.End.{End};
-ghost use Rattle.flow_turns.specs.SharingViews.{chain_of, CanRun, KeepsReadings};
-ghost use Rattle.flow_turns.specs.Runs.{RunsTo, RunsToEnd};
-ghost use Rattle.flow_turns.specs.TurnClauses.{TakesTurn};
+ghost use Rattle.flow_law.specs.Sharing.{never};
+ghost use Rattle.flow_turns.specs.Policy.{ActsNext, SleepsTo};
+ghost use Rattle.flow_turns.specs.SharingViews.{chain_of, last_of, CanRun, KeepsReadings};
+ghost use Rattle.flow_turns.specs.Runs.{RunsTo, RunsBy, RunsToEnd, RunsToEndBy, TurnsByClock};
+ghost use Rattle.flow_turns.specs.TurnClauses.{TakesSomeTurn};
 
 use crate::hub::Hub;
 use crate::sharing::Sharing;
@@ -32,34 +36,56 @@ pub trait WatchedHub: Hub {
 
 /// A signal by which a run is asked to stop.
 pub trait StopSignal {
+    /// What follows from an answer that the run was asked to stop. By default nothing does: a flag that another thread
+    /// sets carries no fact.
+    ghost WasAsked: { Self → Type 0 } = { λ _. Unit {0} };
+
     /// Returns whether the run was asked to stop.
-    fn is_asked(&self) -> bool;
+    fn is_asked(&self) -> bool
+        ensures { OnTrue result (WasAsked self.now) };
 }
 
 /// A signal that never asks a run to stop.
 struct NoStop;
 
 impl StopSignal for NoStop {
+    ghost WasAsked = { λ _. ⊥ };
+
     fn is_asked(&self) -> bool {
         false
     }
 }
 
-/// Returns the moment of the clock in milliseconds, which is at least `last`. If the clock cannot be read it is `last`.
-fn moment_of<R: Clock>(clock: &R, last: u64) -> u64 {
-    match clock.monotonic() {
-        Ok(time) => match u64::try_from(time.as_millis()) {
+/// Returns the moment of a reading of the clock in milliseconds, which is at least `last`. If the clock cannot be read
+/// it is `last`.
+fn moment_at(read: Option<Duration>, last: u64) -> u64
+    ensures read { IfSome read (λ time. result ≡ max (min (as_nanos time / 1_000_000) never) last) }
+    ensures unread { read ≡ None → result ≡ last }
+    ensures later { last ≤ result }
+{
+    match read {
+        Some(time) => match u64::try_from(time.as_millis()) {
             Ok(now) => now.max(last),
             Err(_) => u64::MAX,
         },
-        Err(_) => last,
+        None => last,
     }
+}
+
+/// Returns the moment of the clock, which is at least `last`.
+fn moment_of<R: Clock>(clock: &R, last: u64) -> u64
+    ensures { last ≤ result }
+{
+    moment_at(clock.monotonic().ok(), last)
 }
 
 impl<C: Cold, H: WatchedHub<Item = C::Item>> Sharing<C, H> {
     /// Returns how long the driver may sleep if the number of subscribers does not change, or `None` if the policy
     /// waits for no moment.
-    fn most_to_sleep<R: Clock>(&self, rt: &R) -> Option<Duration> {
+    fn most_to_sleep<R: Clock>(&self, rt: &R) -> Option<Duration>
+        ensures { (next : _) × ActsNext self.now.policy next
+            × SleepsTo (last_of self.now) next result }
+    {
         let next = self.policy.next_moment()?;
         let now = moment_of(rt, self.policy.last());
         Some(Duration::from_millis(next.saturating_sub(now)))
@@ -115,9 +141,8 @@ impl<C: Cold, H: WatchedHub<Item = C::Item>> Sharing<C, H> {
         requires { CanRun C.CanAsk self.old }
         ensures callable { CanRun C.CanAsk self.new }
         ensures reads { KeepsReadings C.Reads (chain_of self.old) (chain_of self.new) }
-        ensures turn { (m : C.Reading) → C.Reads (chain_of self.old) m → (now : ℕ)
-            × TakesTurn (λ c. C.whole c m)
-            (λ c. C.rest c m) H.does H.waits now self.old result self.new }
+        ensures turn { TurnsByClock C.Reads C.whole C.rest H.does H.waits
+            self.old result self.new }
     {
         let now = moment_of(rt, self.policy.last());
         match self.turn(now) {
@@ -155,6 +180,9 @@ impl<C: Cold, H: WatchedHub<Item = C::Item>> Sharing<C, H> {
         ensures reads { KeepsReadings C.Reads (chain_of self.old) (chain_of self.new) }
         ensures turns { (m : C.Reading) → C.Reads (chain_of self.old) m
             → RunsTo (λ c. C.whole c m) (λ c. C.rest c m) H.does H.waits self.old result self.new }
+        // The same of a chain without a reading, whatever it answers.
+        ensures any_turns { RunsBy (TakesSomeTurn H.does H.waits) self.old result self.new }
+        ensures asked { IfOk result (λ _. S.WasAsked stop.now) }
     {
         let mut watches = false;
         for _ in rt.forever() {
@@ -186,6 +214,7 @@ impl<C: Cold, H: WatchedHub<Item = C::Item>> Sharing<C, H> {
         ensures turns { (m : C.Reading) → C.Reads (chain_of self.old) m
             → RunsToEnd (λ c. C.whole c m)
             (λ c. C.rest c m) H.does H.waits self.old result self.new }
+        ensures any_turns { RunsToEndBy (TakesSomeTurn H.does H.waits) self.old result self.new }
     {
         let mut watches = false;
         for _ in rt.forever() {

@@ -1,5 +1,5 @@
 //! Sharings over flows for one thread (`shareIn`, `stateIn`).
-ghost use Rattle.std.specs.Prelude.{◌≡◌, [], None, IfOk, IfErr, MatchResult};
+ghost use Rattle.std.specs.Prelude.{◌≡◌, [], None, IsOk, IfOk, IfErr, MatchResult};
 ghost use Rattle.flow_law.specs.declared.fault.FlowFault.{FlowFault};
 ghost use Rattle.flow_law.specs.SharedFlow.{NoFlow, config_fault, first_state};
 ghost use Rattle.flow_law.specs.Standing.{StandsFor};
@@ -74,6 +74,7 @@ pub fn state_in<C: Cold, A: Allocator + Copy>(
 ) -> Result<Sharing<C, StateHub<C::Item, A>>, ShareFault>
     requires { C.CanAsk chain }
     ensures refused { IfErr result (λ fault. fault ≡ ShareFault.Flow FlowFault.OutOfMemory) }
+    ensures given { C.Item.IsAlwaysCopied → IsOk result }
     ensures flow { IfOk result (λ sharing.
         state_core_of (hub_of sharing) ≡ first_state_flow limit initial) }
     ensures initial { IfOk result (λ sharing. initial_of (hub_of sharing) ≡ initial) }

@@ -8,7 +8,7 @@ use flow_law::{FlowFault, FlowValue, Refused};
 use std::alloc::{Allocator, Global};
 
 /// A `StateCore` whose value a sharing sets. No item waits or is refused, and it is never busy. A reset copies the
-/// initial value, and may fail with `OutOfMemory`.
+/// initial value, and fails with `OutOfMemory` if the copy does; a copy of a number never fails.
 #[derive(Drop)]
 pub struct StateHub<T: FlowValue, A: Allocator + Copy = Global> {
     pub(crate) core: StateCore<T, A>,
@@ -40,6 +40,8 @@ impl<T: FlowValue, A: Allocator + Copy> Hub for StateHub<T, A> {
     ghost waits = { never_waits };
 
     ghost does = { StateHubDoes };
+
+    ghost IsAlwaysReset = { T.IsAlwaysCopied };
 
     fn count(&mut self) -> Result<u64, FlowFault> {
         Ok(self.core.subscription_count())

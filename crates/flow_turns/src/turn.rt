@@ -6,8 +6,8 @@ ghost use Rattle.std.specs.Prelude.{◌≡◌, ◌≢◌, [], false, IsTrue, ◌
 ghost use Rattle.flow_law.specs.SharingCalls.{counts};
 ghost use Rattle.flow_law.specs.SharingTurn.{at_rest};
 ghost use Rattle.flow_turns.specs.SharingViews.{state_of, chain_of, hub_of, CanRun, KeepsReadings, SharesChain, IsBetweenTurns, IsQuietHub, HasObserved, has_ended};
-ghost use Rattle.flow_turns.specs.TurnClauses.{TakesTurn, MeansAnswer, HandlesReset, StaysBetween, StaysQuiet, FaultWasAnswered, ended_after};
-ghost use Rattle.flow_turns.specs.TurnParts.{CallsHub, CommandComesTo};
+ghost use Rattle.flow_turns.specs.TurnClauses.{TakesTurn, TakesSomeTurn, MeansAnswer, HandlesReset, StaysBetween, StaysQuiet, FaultWasAnswered, ended_after};
+ghost use Rattle.flow_turns.specs.TurnParts.{ActsBy, CallsHub, CommandComesTo};
 
 use crate::answers::{refusal_of, report_of};
 use crate::hub::Hub;
@@ -49,9 +49,8 @@ impl<C: Cold, H: Hub<Item = C::Item>> Sharing<C, H> {
         ensures reads { KeepsReadings C.Reads (chain_of self.old) (chain_of self.new) }
         ensures policy { self.new.policy ≡ self.old.policy }
         ensures state { state_of self.new ≡ state_of self.old }
-        ensures counts { (m : C.Reading) →
-            CallsHub (λ c. C.whole c m) (λ c. C.rest c m)
-            H.does H.waits counts self.old result self.new }
+        ensures counts { CallsHub (ActsBy C.Reads C.whole C.rest H.does H.waits)
+            counts self.old result self.new }
     {
         self.hub.count()
     }
@@ -59,9 +58,8 @@ impl<C: Cold, H: Hub<Item = C::Item>> Sharing<C, H> {
     /// Takes the steps after the command: starts or stops the chain, does what is due, and then emits an item.
     fn carry_out(&mut self, command: Command) -> Result<Event, ShareFault>
         requires { CanRun C.CanAsk self.old }
-        ensures steps { (m : C.Reading) → C.Reads (chain_of self.old) m
-            → CommandComesTo (λ c. C.whole c m)
-            (λ c. C.rest c m) H.does H.waits command self.old result self.new }
+        ensures steps { CommandComesTo (ActsBy C.Reads C.whole C.rest H.does H.waits)
+            command self.old result self.new }
         ensures callable { CanRun C.CanAsk self.new }
         ensures reads { KeepsReadings C.Reads (chain_of self.old) (chain_of self.new) }
         ensures policy { self.new.policy ≡ self.old.policy }
@@ -98,6 +96,10 @@ impl<C: Cold, H: Hub<Item = C::Item>> Sharing<C, H> {
             → TakesTurn (λ c. C.whole c m)
             (λ c. C.rest c m) H.does H.waits now self.old result self.new }
 
+        // The same of a chain without a reading, whatever it answers: the count and the command, the calls of the hub
+        // and their answers, and the report.
+        ensures any_turn { TakesSomeTurn H.does H.waits now self.old result self.new }
+
         // The sharing has ended once a turn has answered a fault of the chain. Every later turn answers `Ended`.
         ensures ended { has_ended self.new ≡ ended_after result (has_ended self.old) }
         ensures refused_after_end { IsTrue (has_ended self.old) ↔ (result ≡ Err ShareFault.Ended) }
@@ -111,6 +113,7 @@ impl<C: Cold, H: Hub<Item = C::Item>> Sharing<C, H> {
             (λ c. C.rest c m) H.does H.waits self.old result self.new }
         ensures resets { (m : C.Reading) → C.Reads (chain_of self.old) m
             → HandlesReset H.does H.waits self.old result self.new }
+        ensures any_resets { HandlesReset H.does H.waits self.old result self.new }
         ensures between { (m : C.Reading) → C.Reads (chain_of self.old) m
             → StaysBetween (λ c. C.whole c m) (λ c. C.rest c m) self.old self.new }
         ensures quiet { (m : C.Reading) → C.Reads (chain_of self.old) m

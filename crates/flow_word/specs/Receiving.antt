@@ -1,6 +1,8 @@
 -- What a wait for a value does: calls of `next`, each one event of the history. Begin with `Receives`. `first` is the state that the
 -- flow began with.
-use Rattle.std.specs.Prelude.{◌≡◌, List, [], ◌∷◌, Option, Some, None, Ok}
+use Rattle.std.specs.Prelude.{◌≡◌, ⊤, List, [], ◌∷◌, Option, Some, None, Ok}
+use Rattle.futures.specs.declared.task.Poll.{Poll as Polled}
+use Rattle.futures.specs.declared.task.Poll.TheVariants.{Ready, Pending}
 use Rattle.flow_law.specs.declared.history.Said.{Said}
 use Rattle.flow_law.specs.declared.outcome.Next.{Next}
 use Rattle.flow_law.specs.declared.outcome.Next.TheVariants.{Value, Empty}
@@ -35,6 +37,13 @@ module _ {Id T S C R : Type 0} (kind : Kind T S C R) (first : S) where
   ReceivesInTime old (Some value) new = Receives old value new
   ReceivesInTime old None new = FindsNone old new
 
+  -- One poll of a stream, which does not end: it gives a value that it received, or it is pending, and its calls of `next`, at least one, found
+  -- nothing.
+  abbrev pub PollsItem : NumberedToken Id (Said C R) → Polled (Option T) → NumberedToken Id (Said C R) → Type 0
+  PollsItem old Pending new = FindsNone old new
+  PollsItem old (Ready (Some value)) new = Receives old value new
+  PollsItem old (Ready None) new = ⊥
+
   -- each value of a stream is what one wait may receive, in order, and the stream does not end
   abbrev pub Yields : NumberedToken Id (Said C R) → List T → Option T → Type 0
   Yields old [] (Some value) = (new : NumberedToken Id (Said C R)) × Receives old value new
@@ -45,3 +54,11 @@ module _ {Id T S C R : Type 0} (kind : Kind T S C R) (first : S) where
 abbrev pub GivesChanged : {Id T S C R : Type 0} → Kind T S C R → Option (ReaderOf Id S (Said C R)) → ReaderOf Id S (Said C R) × T → Type 0
 GivesChanged kind (Some reader) given = (given.0.flow ≡ reader.flow) × Receives kind reader.flow.first reader.subscription given.1 given.0.subscription
 GivesChanged kind None given = ⊥
+
+-- One poll of a future of a reader, by the reader before it, its answer and the reader after it. If it is pending, its calls of `next`, at
+-- least one, found nothing. A poll after `Ready` does nothing.
+abbrev pub PollsChange : {Id T S C R : Type 0} → Kind T S C R → Option (ReaderOf Id S (Said C R)) → Polled (ReaderOf Id S (Said C R) × T) → Option (ReaderOf Id S (Said C R)) → Type 0
+PollsChange kind (Some old) Pending (Some new) = (new.flow ≡ old.flow) × FindsNone kind old.flow.first old.subscription new.subscription
+PollsChange kind (Some old) (Ready given) None = GivesChanged kind (Some old) given
+PollsChange kind None Pending None = ⊤
+PollsChange kind _ _ _ = ⊥

@@ -1,9 +1,15 @@
 //! A state flow without a lock, for values that fit a word.
 //!
 //! A `WordState` is a `MutableStateFlow` of kotlinx.coroutines. It is two words that change in single atomic steps: one
-//! has the current value, the other one the numbers of subscriptions made and of subscribers. So no call waits for
-//! another caller: `value`, `set`, `compare_and_set`, `next`, `unsubscribe` and `subscription_count` are one step each,
-//! take no memory and cannot fail.
+//! has the current value, the other one the numbers of subscriptions made and of subscribers. So `value`, `set`,
+//! `compare_and_set`, `next`, `unsubscribe` and `subscription_count` wait for no other caller, take no memory and cannot
+//! fail. `value`, `next` and `subscription_count` are one step each.
+//!
+//! # Waking
+//! `set`, `compare_and_set`, `subscribe` and `unsubscribe` are one step on a word, and then wake the callers that sleep
+//! until this word changes. If none sleeps, that is one load. If some do, it is one system call for the threads, and
+//! the drop of each task's waker. A drop takes the lock of the task's executor for a moment: no other lock is waited
+//! for. The end of a subscription whose task left a waker removes it.
 //!
 //! # Tokens
 //! A caller holds a token: a seat or a subscription. `new` makes the first seat, and `seat` makes more, one for each

@@ -45,6 +45,7 @@ impl<T: Packed> WordState<T> {
             seat: self.table.shared.split_seat::<Make>(&mut seat.seat),
             number: issued + 1,
             last: None,
+            has_left_waker: false,
         }))
     }
 
@@ -105,14 +106,23 @@ impl<T: Packed> WordState<T> {
         T::unpack(self.table.shared.load::<ReadBy>(&mut subscription.seat, 0))
     }
 
-    /// Ends the subscription, and returns its seat, for other calls.
+    /// Ends the subscription, and returns its seat, for other calls. A waker that a task left by a future or a stream of
+    /// the subscription is removed, and the task is woken.
     pub fn unsubscribe(&self, subscription: WordSubscription<T>) -> WordSeat<T>
         requires { subscription.token.table_id ≡ self.now.table_id }
         ensures { UnsubscribesIn state_flow self.now.first subscription result }
     {
-        let WordSubscription { mut seat, .. } = subscription;
+        let WordSubscription {
+            mut seat,
+            number,
+            last: _,
+            has_left_waker,
+        } = subscription;
         self.table.shared.fetch_sub::<Leave>(&mut seat, 1, 1);
         self.watchers.wake();
+        if has_left_waker {
+            self.readers.remove(number);
+        }
         WordSeat { seat }
     }
 

@@ -1,16 +1,14 @@
 //! A word state, and the tokens of its callers.
 ghost use Rattle.std.specs.Prelude.{◌≡◌};
-ghost use Rattle.futures.specs.Task.{IsArmed, Keeps};
 ghost use Rattle.flow_law.specs.Tokens.{origin, numbered};
 ghost use Rattle.flow_word.specs.View.{begun};
 ghost use Rattle.flow_word.specs.Tokens.{Token, Origin, NumberedToken, word_id, token_of, IsIdle, IsSubscribed};
 
 use crate::rule::WordRule;
-use crate::sleepers::{Announced, WordSleepers};
+use crate::sleepers::WordSleepers;
 use crate::view::{Known, Start};
 use atomic_table::{Seat, Table};
 use flow_law::{Packed, Sequence};
-use futures::task::Context;
 use std::alloc::Global;
 use std::marker::Model;
 
@@ -26,21 +24,6 @@ pub struct WordState<T: Packed> {
     pub(crate) readers: WordSleepers,
     /// The callers that sleep until the number of subscribers changes.
     pub(crate) watchers: WordSleepers,
-}
-
-impl<T: Packed> WordState<T> {
-    /// Counts a thread among those that sleep until the value changes.
-    pub(crate) fn announce(&self) -> Announced<'_> {
-        self.readers.announce()
-    }
-
-    /// Leaves the waker of the task that is polled, to be woken when the value changes.
-    pub(crate) fn leave_waker(&self, cx: &mut Context<'_>, subscription: &WordSubscription<T>)
-        ensures armed { IsArmed cx.new }
-        ensures kept { Keeps cx.old cx.new }
-    {
-        self.readers.leave_waker(cx, subscription.number);
-    }
 }
 
 impl<T: Packed> Model for WordState<T> {
@@ -83,6 +66,8 @@ pub struct WordSubscription<T: Packed> {
     pub(crate) seat: Seat<(), Sequence<Known<T>>>,
     pub(crate) number: u64,
     pub(crate) last: Option<u64>,
+    /// Whether a task has left its waker under the number. `unsubscribe` removes it.
+    pub(crate) has_left_waker: bool,
 }
 
 impl<T: Packed> Model for WordSubscription<T> {
@@ -91,4 +76,14 @@ impl<T: Packed> Model for WordSubscription<T> {
     ghost view = { λ s. numbered (token_of s.seat) s.number };
 
     ghost invariant = { λ s. IsSubscribed T.packs T.value_of s.seat s.number s.last };
+}
+
+impl<T: Packed> WordSubscription<T> {
+    /// Notes that a task leaves its waker under the subscription's number, and returns the number.
+    pub(crate) fn note_waker(&mut self) -> u64
+        ensures { self.new ≡ self.old }
+    {
+        self.has_left_waker = true;
+        self.number
+    }
 }

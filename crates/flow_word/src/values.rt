@@ -1,8 +1,10 @@
 //! The values of a subscription to a word state, as a stream that is woken.
-ghost use Rattle.std.specs.Prelude.{◌≡◌, None};
-ghost use Rattle.futures.specs.Task.{IsArmed, Keeps};
+ghost use Rattle.std.specs.Prelude.{◌≡◌, ⊤, [], None, IfSome, OnSome};
+ghost use Rattle.futures.specs.Poll.{IfReady, OnPending};
+ghost use Rattle.futures.specs.Runs.{After, Within};
+ghost use Rattle.futures.specs.Task.{Covers, IsArmed, Keeps};
 ghost use Rattle.flow_law.specs.StateFlow.{state_flow};
-ghost use Rattle.flow_word.specs.Receiving.{ReceivesInTime, Yields};
+ghost use Rattle.flow_word.specs.Receiving.{PollsItem, ReceivesInTime, Yields};
 
 use crate::handles::WordReader;
 use flow_law::Packed;
@@ -74,7 +76,24 @@ impl<'a, T: Packed> Stream for WordValues<'a, T> {
 
     ghost yields = { λ v values next. Yields state_flow v.flow.first v.subscription values next };
 
-    fn poll_next(&mut self, cx: &mut Context<'_>) -> Poll<Option<T>> {
+    fn poll_next(&mut self, cx: &mut Context<'_>) -> Poll<Option<T>>
+        ensures flow { self.new.flow ≡ self.old.flow }
+        ensures polls { PollsItem state_flow self.old.flow.first
+            self.old.subscription result self.new.subscription }
+        // The clauses of the trait. A pending poll has left its waker, or asked to be polled again (`registered`).
+        ensures value { IfReady result (Yields state_flow
+            self.old.flow.first self.old.subscription []) }
+        ensures rest { IfReady result (λ o. IfSome o (λ x.
+            After (Yields state_flow self.old.flow.first self.old.subscription) x
+            (Yields state_flow self.new.flow.first self.new.subscription))) }
+        ensures goes { IfReady result (λ o. OnSome o ⊤) }
+        ensures again { OnPending result ⊤ }
+        ensures same { OnPending result (Within
+            (Yields state_flow self.old.flow.first self.old.subscription)
+            (Yields state_flow self.new.flow.first self.new.subscription)) }
+        ensures registered { OnPending result (Covers cx.new (λ _. ⊥)) }
+        ensures kept { Keeps cx.old cx.new }
+    {
         match self.look_or_leave_waker(cx) {
             Some(value) => Poll::Ready(Some(value)),
             None => Poll::Pending,

@@ -1,5 +1,5 @@
 //! Callers that sleep until the number of subscribers changes.
-use crate::sleepers::Announced;
+use crate::sleepers::Announcement;
 use crate::token::WordState;
 use flow_law::Packed;
 use std::sync::Wait;
@@ -11,7 +11,7 @@ use std::time::Duration;
 /// Dropping it ends the registration.
 #[derive(Drop)]
 pub struct CountWatch<'a> {
-    announced: Announced<'a>,
+    announced: Announcement<'a>,
 }
 
 impl<T: Packed> WordState<T> {
@@ -33,6 +33,7 @@ impl CountWatch<'_> {
     /// Sleeps until a subscriber was added or removed since the thread was registered, or for `most`, if that is given.
     /// It may return early.
     pub fn sleep<R: Wait>(self, rt: &R, most: Option<Duration>) {
-        self.announced.sleep(rt, most);
+        let CountWatch { announced } = self;
+        announced.sleep(rt, most);
     }
 }

@@ -1,1 +1,4 @@
+pub mod StateRows
+pub mod SharedRows
+pub mod Judged
 pub mod Verdicts

@@ -1,5 +1,11 @@
--- The words on a record, and the status that belongs to them. Begin with `TellsVerdict`.
-use Rattle.std.specs.Prelude.{◌≡◌, ◌⊎◌, ◌++◌, ℕ, Bool, false, List, [], codes}
+-- The words on a record, and the status that belongs to them. Begin with `Tells`; `TellsVerdict` says only that they belong together.
+use Rattle.std.specs.Prelude.{◌≡◌, ◌⊎◌, ◌++◌, ℕ, Bool, true, false, List, [], ◌∷◌, map, slice_get, Option, Some, None, codes, decimal, string_bytes}
+use Rattle.flow_check.specs.declared.verdict.Verdict.{Verdict}
+use Rattle.flow_check.specs.declared.verdict.Verdict.TheVariants.{Legal, Illegal, GaveUp}
+use Rattle.record_judging.specs.declared.written.Sheet.{Sheet}
+use Rattle.record_judging.specs.declared.written.WrittenFlow.{WrittenFlow}
+use Rattle.record_judging.specs.StateRows.{Rows}
+use Rattle.record_judging.specs.Judged.{JudgesCalls, GoesWrongAt}
 
 -- ---- statuses
 
@@ -36,3 +42,82 @@ TellsVerdict with_order status words =
     ⊎ ((status ≡ illegal) × BeginsWith (codes "illegal\n") words)
     ⊎ ((status ≡ refused) × BeginsWith (codes "refused: ") words)
     ⊎ ((status ≡ gave_up) × (words ≡ codes "gave up\n"))
+
+-- ---- a record as it was read
+
+-- its flow, the names of its callers, its lists of values, and the calls of each caller
+pub record Read : Type 0 where
+  pub flow : WrittenFlow
+  pub names : List (List ℕ)
+  pub lists : List ℕ
+  pub rows : Rows
+
+-- what a sheet has
+abbrev pub read_of : Sheet → Read
+read_of sheet = record { flow = sheet.flow; names = map string_bytes sheet.names.items; lists = sheet.lists.items; rows = sheet.rows.items }
+
+-- the verdict is right about the record
+abbrev pub JudgesRead : Read → Verdict → Type 0
+JudgesRead read verdict = JudgesCalls read.flow read.lists read.rows verdict
+
+-- ---- the words on a record
+
+-- a name, or no letters if there is none
+abbrev pub named : Option (List ℕ) → List ℕ
+named None = []
+named (Some name) = name
+
+-- the name of a caller
+abbrev pub name_of : List (List ℕ) → ℕ → List ℕ
+name_of names caller = named (slice_get names caller)
+
+-- the line of a turn begins with a number and the name of the caller
+abbrev pub IsLineOf : List ℕ → List ℕ → Type 0
+IsLineOf name line = (number : ℕ) × BeginsWith (codes "  " ++ (decimal number ++ (codes "  " ++ (name ++ codes " ")))) line
+
+-- the lines are those of the turns of the order, one line for each turn, one after another
+abbrev pub AreLinesOf : List (List ℕ) → List ℕ → List ℕ → Type 0
+AreLinesOf names [] lines = lines ≡ []
+AreLinesOf names (caller ∷ order) lines =
+    (line : List ℕ) × ((rest : List ℕ) × (lines ≡ line ++ rest) × IsLineOf (name_of names caller) line × AreLinesOf names order rest)
+
+-- the lines are those of the order if it is asked for, and else there are none
+abbrev pub TellsOrder : Bool → List (List ℕ) → List ℕ → List ℕ → Type 0
+TellsOrder true names order lines = AreLinesOf names order lines
+TellsOrder false names order lines = lines ≡ []
+
+-- the lines begin with this moment
+abbrev pub TellsMoment : ℕ → List ℕ → Type 0
+TellsMoment moment lines = BeginsWith (codes "by moment " ++ (decimal moment ++ codes " no order explains the calls; from ")) lines
+
+-- there are no lines, or they begin with the moment at which the calls go wrong
+abbrev pub TellsConflict : Read → List ℕ → Type 0
+TellsConflict read lines = (lines ≡ []) ⊎ ((moment : ℕ) × GoesWrongAt read.flow read.lists read.rows moment × TellsMoment moment lines)
+
+-- the status of a verdict
+abbrev pub status_of : Verdict → ℕ
+status_of (Legal order) = legal
+status_of Illegal = illegal
+status_of GaveUp = gave_up
+
+-- the words are those of this verdict on the record: its name, and then the order or the moment
+abbrev pub TellsOf : Bool → Read → Verdict → List ℕ → Type 0
+TellsOf with_order read (Legal order) words = (lines : List ℕ) × (words ≡ codes "legal\n" ++ lines) × TellsOrder with_order read.names order.items lines
+TellsOf with_order read Illegal words = (lines : List ℕ) × (words ≡ codes "illegal\n" ++ lines) × TellsConflict read lines
+TellsOf with_order read GaveUp words = words ≡ codes "gave up\n"
+
+-- the words and the status are those of a verdict that is right about a record
+pub record TellsRead (with_order : Bool) (status : ℕ) (words : List ℕ) : Type 0 where
+  pub read : Read
+  pub verdict : Verdict
+  pub judges : JudgesRead read verdict
+  pub has_status : status ≡ status_of verdict
+  pub tells : TellsOf with_order read verdict words
+
+-- the text is refused, or the words and the status are those of a verdict that is right about the record that was read
+abbrev pub Tells : Bool → ℕ → List ℕ → Type 0
+Tells with_order status words = ((status ≡ refused) × BeginsWith (codes "refused: ") words) ⊎ TellsRead with_order status words
+
+-- the text is refused, or the status is that of a verdict that is right about the record that was read
+abbrev pub IsStatus : ℕ → Type 0
+IsStatus status = (status ≡ refused) ⊎ ((read : Read) × ((verdict : Verdict) × JudgesRead read verdict × (status ≡ status_of verdict)))

@@ -1,4 +1,8 @@
 //! The calls of an illegal record that contradict each other.
+ghost use Rattle.std.specs.Prelude.{◌≡◌, IfOk, IfSome, string_bytes};
+ghost use Rattle.record_judging.specs.Judged.{GoesWrongAt};
+ghost use Rattle.record_judging.specs.Verdicts.{TellsMoment};
+
 use crate::judging::wrong_moment;
 use crate::left_out::Roles;
 use crate::looks::is_look;
@@ -72,7 +76,10 @@ pub struct Conflict {
 
 impl Conflict {
     /// Finds the conflict of an illegal record. Returns None if a search gave up.
-    pub fn find(alloc: Global, sheet: &Sheet) -> Result<Option<Conflict>, AllocError> {
+    pub fn find(alloc: Global, sheet: &Sheet) -> Result<Option<Conflict>, AllocError>
+        ensures { IfOk result (λ found. IfSome found (λ conflict. GoesWrongAt
+            sheet.now.flow sheet.now.lists.items sheet.now.rows.items conflict.moment)) }
+    {
         let Some(moment) = wrong_moment(alloc, sheet)? else {
             return Ok(None);
         };
@@ -81,7 +88,9 @@ impl Conflict {
     }
 
     /// Returns the conflict that is complete at this moment.
-    fn at(alloc: Global, sheet: &Sheet, moment: u64) -> Result<Conflict, AllocError> {
+    fn at(alloc: Global, sheet: &Sheet, moment: u64) -> Result<Conflict, AllocError>
+        ensures { IfOk result (λ conflict. conflict.moment ≡ moment) }
+    {
         let mut roles = Roles::new(alloc, sheet, moment)?;
         roles.leave_out_looks(alloc, sheet)?;
         let begin = begin_of(sheet, moment, &roles);
@@ -107,13 +116,23 @@ impl Conflict {
         self.overlaps(call) && self.roles.needs(call.number)
     }
 
-    /// Writes the moment, and the calls that are needed, in the order of their callers.
-    pub fn write(&self, out: &mut String, sheet: &Sheet) -> Result<(), AllocError> {
-        let Conflict { moment, from, .. } = self;
-        writeln!(
-            out,
-            "by moment {moment} no order explains the calls; from {from} on there were:"
+    /// Returns the moment and the calls that are needed, in lines.
+    pub fn lines(&self, alloc: Global, sheet: &Sheet) -> Result<String, AllocError>
+        ensures { IfOk result (λ lines. TellsMoment self.now.moment (string_bytes lines)) }
+    {
+        let mut calls = String::new(alloc);
+        self.write_all(&mut calls, sheet)?;
+        let (moment, from) = (self.moment, self.from);
+        let mut lines = String::new(alloc);
+        write!(
+            lines,
+            "by moment {moment} no order explains the calls; from {from} on there were:\n{calls}"
         )?;
+        Ok(lines)
+    }
+
+    /// Writes the calls that are needed, in the order of their callers.
+    fn write_all(&self, out: &mut String, sheet: &Sheet) -> Result<(), AllocError> {
         for (caller, calls) in sheet.rows.iter().enumerate() {
             self.write_calls(out, sheet, caller, calls.as_slice())?;
         }

@@ -1,4 +1,8 @@
 //! Judges a record that was read.
+ghost use Rattle.std.specs.Prelude.{IfOk, IfSome};
+ghost use Rattle.record_judging.specs.declared.written.WrittenFlow.TheVariants.{State, Shared};
+ghost use Rattle.record_judging.specs.Judged.{JudgesRows, GoesWrongAt};
+
 use crate::shared_rows::shared_callers;
 use crate::state_rows::state_callers;
 use crate::words::CallWord;
@@ -50,44 +54,87 @@ fn number_of(sheet: &Sheet, fault: Fault) -> usize {
     0
 }
 
-/// Judges these calls of the callers of a record.
-pub fn judge(
+/// Judges these calls of a state flow with this initial value.
+fn judge_state(
     alloc: Global,
     sheet: &Sheet,
     rows: &[Vec<WrittenCall>],
-) -> Result<Outcome, AllocError> {
-    let lists = sheet.lists.as_slice();
-    let budget = turns(sheet.count);
-    match sheet.flow {
-        WrittenFlow::State { initial } => match Record::new(state_callers(alloc, rows, lists)?) {
-            Ok(record) => check_state(alloc, initial, &record, budget).map(Outcome::Judged),
-            Err(fault) => Ok(Outcome::Faulty(fault, number_of(sheet, fault))),
-        },
-        WrittenFlow::Shared(config) => match Record::new(shared_callers(alloc, rows, lists)?) {
-            Ok(record) => check_shared(alloc, config, &record, budget).map(Outcome::Judged),
-            Err(fault) => Ok(Outcome::Faulty(fault, number_of(sheet, fault))),
-        },
+    initial: u64,
+) -> Result<Outcome, AllocError>
+    ensures { IfOk result (JudgesRows (State initial) sheet.now.lists.items rows.now) }
+{
+    let callers = state_callers(alloc, rows, sheet.lists.as_slice())?;
+    match Record::new(callers) {
+        Ok(record) => {
+            let verdict = check_state(alloc, initial, &record, turns(sheet.count))?;
+            Ok(Outcome::Judged(verdict))
+        }
+        Err(fault) => Ok(Outcome::Faulty(fault, number_of(sheet, fault))),
     }
 }
 
-fn wrong_state(alloc: Global, sheet: &Sheet, initial: u64) -> Result<Option<u64>, AllocError> {
+/// Judges these calls of a shared flow of this configuration.
+fn judge_shared(
+    alloc: Global,
+    sheet: &Sheet,
+    rows: &[Vec<WrittenCall>],
+    config: Config,
+) -> Result<Outcome, AllocError>
+    ensures { IfOk result (JudgesRows (Shared config) sheet.now.lists.items rows.now) }
+{
+    let callers = shared_callers(alloc, rows, sheet.lists.as_slice())?;
+    match Record::new(callers) {
+        Ok(record) => {
+            let verdict = check_shared(alloc, config, &record, turns(sheet.count))?;
+            Ok(Outcome::Judged(verdict))
+        }
+        Err(fault) => Ok(Outcome::Faulty(fault, number_of(sheet, fault))),
+    }
+}
+
+/// Judges these calls of the callers of a record.
+pub fn judge(alloc: Global, sheet: &Sheet, rows: &[Vec<WrittenCall>]) -> Result<Outcome, AllocError>
+    ensures { IfOk result (JudgesRows sheet.now.flow sheet.now.lists.items rows.now) }
+{
+    match sheet.flow {
+        WrittenFlow::State { initial } => judge_state(alloc, sheet, rows, initial),
+        WrittenFlow::Shared(config) => judge_shared(alloc, sheet, rows, config),
+    }
+}
+
+fn wrong_state(alloc: Global, sheet: &Sheet, initial: u64) -> Result<Option<u64>, AllocError>
+    ensures { IfOk result (λ found. IfSome found
+        (GoesWrongAt (State initial) sheet.now.lists.items sheet.now.rows.items)) }
+{
     let callers = state_callers(alloc, sheet.rows.as_slice(), sheet.lists.as_slice())?;
     match Record::new(callers) {
-        Ok(record) => state_goes_wrong(alloc, initial, &record, turns(sheet.count)),
+        Ok(record) => {
+            let moment = state_goes_wrong(alloc, initial, &record, turns(sheet.count))?;
+            Ok(moment)
+        }
         Err(_) => Ok(None),
     }
 }
 
-fn wrong_shared(alloc: Global, sheet: &Sheet, config: Config) -> Result<Option<u64>, AllocError> {
+fn wrong_shared(alloc: Global, sheet: &Sheet, config: Config) -> Result<Option<u64>, AllocError>
+    ensures { IfOk result (λ found. IfSome found
+        (GoesWrongAt (Shared config) sheet.now.lists.items sheet.now.rows.items)) }
+{
     let callers = shared_callers(alloc, sheet.rows.as_slice(), sheet.lists.as_slice())?;
     match Record::new(callers) {
-        Ok(record) => shared_goes_wrong(alloc, config, &record, turns(sheet.count)),
+        Ok(record) => {
+            let moment = shared_goes_wrong(alloc, config, &record, turns(sheet.count))?;
+            Ok(moment)
+        }
         Err(_) => Ok(None),
     }
 }
 
 /// Returns the first moment by which no order explains the calls of an illegal record, or None if a search gave up.
-pub fn wrong_moment(alloc: Global, sheet: &Sheet) -> Result<Option<u64>, AllocError> {
+pub fn wrong_moment(alloc: Global, sheet: &Sheet) -> Result<Option<u64>, AllocError>
+    ensures { IfOk result (λ found. IfSome found
+        (GoesWrongAt sheet.now.flow sheet.now.lists.items sheet.now.rows.items)) }
+{
     match sheet.flow {
         WrittenFlow::State { initial } => wrong_state(alloc, sheet, initial),
         WrittenFlow::Shared(config) => wrong_shared(alloc, sheet, config),

@@ -1,8 +1,14 @@
 //! Writes an order of calls in words.
+ghost use Rattle.std.specs.Prelude.{◌≡◌, ◌++◌, List, ℕ, IfOk, OnOk, map, string_bytes};
+ghost use Rattle.record_judging.specs.Verdicts.{name_of, IsLineOf, AreLinesOf};
+
 use crate::judging::parts_of;
 use crate::words::CallWord;
 use crate::written::{Sheet, WrittenAnswer, WrittenCall};
 use std::alloc::{AllocError, Global};
+
+/// The number in the line of a turn that has no call. The calls of a record have numbers from 1.
+const NO_CALL: usize = 0;
 
 /// The position of a caller: one of its calls, and a part of that call.
 #[derive(Clone, Copy)]
@@ -80,19 +86,6 @@ pub fn write_call(out: &mut String, sheet: &Sheet, call: WrittenCall) -> Result<
     write_answer(out, lists, call)
 }
 
-/// Writes these words, the number of a caller's call, the caller, and the call.
-fn write_numbered(
-    out: &mut String,
-    front: &str,
-    sheet: &Sheet,
-    caller: usize,
-    call: WrittenCall,
-) -> Result<(), AllocError> {
-    let name = sheet.name(caller);
-    write!(out, "{front}{}  {name} ", call.number)?;
-    write_call(out, sheet, call)
-}
-
 /// Writes a line of these words, the number of a caller's call, the caller, the call, and its moments.
 pub fn write_line(
     out: &mut String,
@@ -101,7 +94,9 @@ pub fn write_line(
     caller: usize,
     call: WrittenCall,
 ) -> Result<(), AllocError> {
-    write_numbered(out, front, sheet, caller, call)?;
+    let name = sheet.name(caller);
+    write!(out, "{front}{}  {name} ", call.number)?;
+    write_call(out, sheet, call)?;
     match call.end {
         Some(end) => writeln!(out, "  [{}, {end}]", call.begin),
         None => writeln!(out, "  [{}, ..]", call.begin),
@@ -121,34 +116,80 @@ fn part_words(call: WrittenCall, part: usize) -> &'static str {
     }
 }
 
-/// Writes a turn of this caller, and moves its cursor on.
-fn write_turn(
+/// The caller's next part in an order, by the cursors of all callers. Moves the caller's cursor on.
+fn next_part(
+    cursors: &mut Vec<Cursor>,
+    sheet: &Sheet,
+    caller: usize,
+) -> Option<(WrittenCall, usize)> {
+    let cursor = cursors.get_mut(caller)?;
+    let call = cursor.call_in(sheet, caller)?;
+    let part = cursor.part;
+    cursor.pass(parts_of(call, sheet.flow.is_state()));
+    Some((call, part))
+}
+
+/// Writes the line of a turn: the number of a call, the caller, and these words.
+fn write_named(
     out: &mut String,
     sheet: &Sheet,
     caller: usize,
-    cursor: &mut Cursor,
-) -> Result<(), AllocError> {
-    let Some(call) = cursor.call_in(sheet, caller) else {
-        return Ok(());
-    };
-    write_numbered(out, "  ", sheet, caller, call)?;
-    writeln!(out, "{}", part_words(call, cursor.part))?;
-    cursor.pass(parts_of(call, sheet.flow.is_state()));
+    number: usize,
+    words: &str,
+) -> Result<(), AllocError>
+    ensures { OnOk result ((line : List ℕ) × (string_bytes out.new ≡ string_bytes out.old ++ line)
+        × IsLineOf (name_of (map string_bytes sheet.now.names.items) caller) line) }
+{
+    writeln!(out, "  {number}  {} {words}", sheet.name(caller))?;
     Ok(())
 }
 
-/// Writes a line for each turn of an order: the number of the call, its caller, and the call.
-pub fn write_order(
-    alloc: Global,
+/// Writes the line of a part of this caller's call. Writes the call to `words` first.
+fn write_part(
     out: &mut String,
+    words: &mut String,
     sheet: &Sheet,
-    order: &[usize],
-) -> Result<(), AllocError> {
-    let mut cursors = vec![in alloc; Cursor { call: 0, part: 0 }; sheet.names.len()]?;
-    for caller in order {
-        if let Some(cursor) = cursors.get_mut(*caller) {
-            write_turn(out, sheet, *caller, cursor)?;
-        }
+    caller: usize,
+    call: WrittenCall,
+    part: usize,
+) -> Result<(), AllocError>
+    ensures { OnOk result ((line : List ℕ) × (string_bytes out.new ≡ string_bytes out.old ++ line)
+        × IsLineOf (name_of (map string_bytes sheet.now.names.items) caller) line) }
+{
+    words.clear();
+    write_call(words, sheet, call)?;
+    words.push_str(part_words(call, part))?;
+    write_named(out, sheet, caller, call.number, words.as_str())
+}
+
+/// Writes the line of a turn, which is the caller's next part. An order of a legal record has a part for each turn.
+fn write_turn(
+    out: &mut String,
+    words: &mut String,
+    sheet: &Sheet,
+    caller: usize,
+    next: Option<(WrittenCall, usize)>,
+) -> Result<(), AllocError>
+    ensures { OnOk result ((line : List ℕ) × (string_bytes out.new ≡ string_bytes out.old ++ line)
+        × IsLineOf (name_of (map string_bytes sheet.now.names.items) caller) line) }
+{
+    match next {
+        Some((call, part)) => write_part(out, words, sheet, caller, call, part),
+        None => write_named(out, sheet, caller, NO_CALL, "has no call left"),
     }
-    Ok(())
+}
+
+/// Returns a line for each turn of an order.
+pub fn order_lines(alloc: Global, sheet: &Sheet, order: &[usize]) -> Result<String, AllocError>
+    ensures { IfOk result (λ lines.
+        AreLinesOf (map string_bytes sheet.now.names.items) order.now (string_bytes lines)) }
+{
+    let mut cursors = vec![in alloc; Cursor { call: 0, part: 0 }; sheet.names.len()]?;
+    let mut words = String::new(alloc);
+    let mut lines = String::new(alloc);
+    for caller in order {
+        let next = next_part(&mut cursors, sheet, *caller);
+        write_turn(&mut lines, &mut words, sheet, *caller, next)?;
+    }
+    Ok(lines)
 }

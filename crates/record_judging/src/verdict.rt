@@ -1,13 +1,15 @@
 //! The verdict on a record, in words and as a status.
-ghost use Rattle.std.specs.Prelude.{◌≡◌, ◌++◌, IfOk, List, string_bytes, ℕ};
+ghost use Rattle.std.specs.Prelude.{◌≡◌, ◌++◌, IfOk, List, map, codes, string_bytes, ℕ};
 ghost use Rattle.std.specs.Io.KnownBytes.{Appends};
-ghost use Rattle.record_judging.specs.Verdicts.{TellsVerdict};
+ghost use Rattle.record_judging.specs.Verdicts.{TellsVerdict, Tells, TellsOf, TellsOrder, IsStatus};
+ghost use Rattle.record_judging.specs.Verdicts.{TellsConflict, JudgesRead, read_of, status_of, refused};
+ghost use Rattle.record_judging.specs.Verdicts.{BeginsWith};
 
 use crate::conflict::Conflict;
 use crate::drawing::{Form, Picture, write_picture};
 use crate::explaining::explain;
 use crate::judging::{Outcome, judge};
-use crate::order::write_order;
+use crate::order::order_lines;
 use crate::reading::read_sheet;
 use crate::refusal::{Part, Refusal, Unread, Wrong};
 use crate::written::Sheet;
@@ -48,16 +50,13 @@ impl Told {
 }
 
 /// Returns the words on why these bytes are no record.
-fn tell_refusal(
-    alloc: Global,
-    bytes: &[u8],
-    unread: Unread,
-    with_order: bool,
-) -> Result<Told, AllocError>
-    ensures { IfOk result (λ told. TellsVerdict with_order told.status (string_bytes told.words)) }
+fn tell_refusal(alloc: Global, bytes: &[u8], unread: Unread) -> Result<Told, AllocError>
+    ensures { IfOk result (λ told. (told.status ≡ refused)
+        × BeginsWith (codes "refused: ") (string_bytes told.words)) }
 {
     let words = explain(alloc, bytes, unread)?;
-    Told::new(alloc, "refused: ", words.as_str(), REFUSED)
+    let told = Told::new(alloc, "refused: ", words.as_str(), REFUSED)?;
+    Ok(told)
 }
 
 /// Returns the refusal of a record whose call of this number ends or begins too early.
@@ -78,60 +77,111 @@ fn faulty(fault: Fault, number: usize) -> Unread {
     Unread::Refused(Refusal { part, wrong })
 }
 
-/// Returns the words on a legal record, with an order of its calls if `with_order`.
-fn tell_legal(
+/// Returns the status of a verdict.
+fn status_of(verdict: &Verdict) -> u8
+    ensures { result ≡ status_of verdict.now }
+{
+    match verdict {
+        Verdict::Legal(_) => LEGAL,
+        Verdict::Illegal => ILLEGAL,
+        Verdict::GaveUp => GAVE_UP,
+    }
+}
+
+/// Returns the lines on a legal record: those of an order of its calls if `with_order`, and else none.
+fn legal_lines(
     alloc: Global,
     sheet: &Sheet,
     order: &[usize],
     with_order: bool,
-) -> Result<Told, AllocError>
-    ensures { IfOk result (λ told. TellsVerdict with_order told.status (string_bytes told.words)) }
+) -> Result<String, AllocError>
+    ensures { IfOk result (λ lines. TellsOrder
+        with_order (map string_bytes sheet.now.names.items) order.now (string_bytes lines)) }
 {
-    if !with_order {
-        return Told::new(alloc, "legal\n", "", LEGAL);
+    if with_order {
+        order_lines(alloc, sheet, order)
+    } else {
+        Ok(String::new(alloc))
     }
-    let mut lines = String::new(alloc);
-    write_order(alloc, &mut lines, sheet, order)?;
-    Told::new(alloc, "legal\n", lines.as_str(), LEGAL)
 }
 
+/// Returns the lines on an illegal record: the moment and the calls that show it, or none if a search gave up.
+fn illegal_lines(alloc: Global, sheet: &Sheet) -> Result<String, AllocError>
+    ensures { IfOk result (λ lines. TellsConflict (read_of sheet.now) (string_bytes lines)) }
+{
+    match Conflict::find(alloc, sheet)? {
+        Some(conflict) => {
+            let lines = conflict.lines(alloc, sheet)?;
+            Ok(lines)
+        }
+        None => Ok(String::new(alloc)),
+    }
+}
+
+/// Returns the words on a record with this verdict.
+#[tactic(auto, using(crate::proofs::Telling::told_legal, crate::proofs::Telling::told_illegal, crate::proofs::Telling::told_gave_up))]
 fn tell_verdict(
     alloc: Global,
     sheet: &Sheet,
     verdict: &Verdict,
     with_order: bool,
 ) -> Result<Told, AllocError>
-    ensures { IfOk result (λ told. TellsVerdict with_order told.status (string_bytes told.words)) }
+    ensures { IfOk result (λ told. (told.status ≡ status_of verdict.now)
+        × TellsOf with_order (read_of sheet.now) verdict.now (string_bytes told.words)) }
 {
     match verdict {
-        Verdict::Legal(order) => tell_legal(alloc, sheet, order.as_slice(), with_order),
-        Verdict::Illegal => {
-            let mut lines = String::new(alloc);
-            if let Some(conflict) = Conflict::find(alloc, sheet)? {
-                conflict.write(&mut lines, sheet)?;
-            }
-            Told::new(alloc, "illegal\n", lines.as_str(), ILLEGAL)
+        Verdict::Legal(order) => {
+            let lines = legal_lines(alloc, sheet, order.as_slice(), with_order)?;
+            let told = Told::new(alloc, "legal\n", lines.as_str(), LEGAL)?;
+            Ok(told)
         }
-        Verdict::GaveUp => Told::new(alloc, "gave up\n", "", GAVE_UP),
+        Verdict::Illegal => {
+            let lines = illegal_lines(alloc, sheet)?;
+            let told = Told::new(alloc, "illegal\n", lines.as_str(), ILLEGAL)?;
+            Ok(told)
+        }
+        Verdict::GaveUp => {
+            let told = Told::new(alloc, "gave up\n", "", GAVE_UP)?;
+            Ok(told)
+        }
     }
 }
 
 /// Reads the record of these bytes, and judges it.
-fn judge_bytes(alloc: Global, bytes: &[u8]) -> Result<(Sheet, Verdict), Unread> {
+fn judge_bytes(alloc: Global, bytes: &[u8]) -> Result<(Sheet, Verdict), Unread>
+    ensures { IfOk result (λ judged. JudgesRead (read_of judged.0) judged.1) }
+{
     let sheet = read_sheet(alloc, bytes)?;
-    match judge(alloc, &sheet, sheet.rows.as_slice())? {
+    let outcome = judge(alloc, &sheet, sheet.rows.as_slice())?;
+    match outcome {
         Outcome::Judged(verdict) => Ok((sheet, verdict)),
         Outcome::Faulty(fault, number) => Err(faulty(fault, number)),
     }
 }
 
 /// Judges the record of these bytes, and returns the words on it.
+#[tactic(auto, using(crate::proofs::Telling::tells_read, crate::proofs::Telling::tells_refused))]
 fn tell_record(alloc: Global, bytes: &[u8], with_order: bool) -> Result<Told, AllocError>
-    ensures { IfOk result (λ told. TellsVerdict with_order told.status (string_bytes told.words)) }
+    ensures { IfOk result (λ told. Tells with_order told.status (string_bytes told.words)) }
 {
     match judge_bytes(alloc, bytes) {
-        Ok((sheet, verdict)) => tell_verdict(alloc, &sheet, &verdict, with_order),
-        Err(unread) => tell_refusal(alloc, bytes, unread, with_order),
+        Ok((sheet, verdict)) => {
+            let told = tell_verdict(alloc, &sheet, &verdict, with_order)?;
+            Ok(told)
+        }
+        Err(unread) => {
+            let told = tell_refusal(alloc, bytes, unread)?;
+            Ok(told)
+        }
+    }
+}
+
+/// Returns the word of a verdict in a picture.
+fn word_of(verdict: &Verdict) -> &'static str {
+    match verdict {
+        Verdict::Legal(_) => "legal",
+        Verdict::Illegal => "illegal",
+        Verdict::GaveUp => "gave up",
     }
 }
 
@@ -141,23 +191,33 @@ fn draw_verdict(
     sheet: &Sheet,
     verdict: &Verdict,
     form: Form,
-) -> Result<Told, AllocError> {
-    let (word, status, conflict) = match verdict {
-        Verdict::Legal(_) => ("legal", LEGAL, None),
-        Verdict::Illegal => ("illegal", ILLEGAL, Conflict::find(alloc, sheet)?),
-        Verdict::GaveUp => ("gave up", GAVE_UP, None),
+) -> Result<Told, AllocError>
+    ensures { IfOk result (λ told. told.status ≡ status_of verdict.now) }
+{
+    let conflict = match verdict {
+        Verdict::Illegal => Conflict::find(alloc, sheet)?,
+        _ => None,
     };
     let picture = Picture::new(alloc, sheet, conflict)?;
     let mut words = String::new(alloc);
-    write_picture(alloc, &mut words, sheet, &picture, word, form)?;
+    write_picture(alloc, &mut words, sheet, &picture, word_of(verdict), form)?;
+    let status = status_of(verdict);
     Ok(Told { words, status })
 }
 
 /// Judges the record of these bytes, and draws its calls, or returns the words on why it is refused.
-fn draw_bytes(alloc: Global, bytes: &[u8], form: Form) -> Result<Told, AllocError> {
+fn draw_bytes(alloc: Global, bytes: &[u8], form: Form) -> Result<Told, AllocError>
+    ensures { IfOk result (λ told. IsStatus told.status) }
+{
     match judge_bytes(alloc, bytes) {
-        Ok((sheet, verdict)) => draw_verdict(alloc, &sheet, &verdict, form),
-        Err(unread) => tell_refusal(alloc, bytes, unread, false),
+        Ok((sheet, verdict)) => {
+            let told = draw_verdict(alloc, &sheet, &verdict, form)?;
+            Ok(told)
+        }
+        Err(unread) => {
+            let told = tell_refusal(alloc, bytes, unread)?;
+            Ok(told)
+        }
     }
 }
 
@@ -166,6 +226,7 @@ fn draw_bytes(alloc: Global, bytes: &[u8], form: Form) -> Result<Told, AllocErro
 ///
 /// # Errors
 /// Fails if memory is refused, and then writes nothing, or if a write fails, and then a first part may be written.
+#[tactic(auto, using(crate::proofs::Telling::tells_verdict))]
 pub fn judge_record<W: Write>(
     alloc: Global,
     out: &mut W,
@@ -173,6 +234,8 @@ pub fn judge_record<W: Write>(
     with_order: bool,
 ) -> io::Result<u8>
     ensures tells { IfOk result (λ status. (words : List ℕ) × TellsVerdict with_order status words
+        × Appends (W.contents out.old) (W.contents out.new) words) }
+    ensures judged { IfOk result (λ status. (words : List ℕ) × Tells with_order status words
         × Appends (W.contents out.old) (W.contents out.new) words) }
 {
     let told = tell_record(alloc, bytes, with_order)?;
@@ -185,12 +248,9 @@ pub fn judge_record<W: Write>(
 ///
 /// # Errors
 /// As `judge_record`.
-pub fn draw_record<W: Write>(
-    alloc: Global,
-    out: &mut W,
-    bytes: &[u8],
-    form: Form,
-) -> io::Result<u8> {
+pub fn draw_record<W: Write>(alloc: Global, out: &mut W, bytes: &[u8], form: Form) -> io::Result<u8>
+    ensures judged { IfOk result IsStatus }
+{
     let told = draw_bytes(alloc, bytes, form)?;
     out.write_all(told.words.as_bytes())?;
     Ok(told.status)

@@ -1,4 +1,8 @@
 //! A record as it is written, before it is judged.
+ghost use Rattle.std.specs.Prelude.{◌≡◌, take, drop, map, string_bytes};
+ghost use Rattle.record_judging.specs.StateRows.{values_in};
+ghost use Rattle.record_judging.specs.Verdicts.{name_of};
+
 use crate::words::CallWord;
 use flow_law::Config;
 use std::alloc::{AllocError, Global};
@@ -11,10 +15,35 @@ pub struct Range {
     pub count: usize,
 }
 
+/// Returns the values from this index on.
+fn values_from(values: &[u64], index: usize) -> &[u64]
+    ensures { result.now ≡ drop index values.now }
+{
+    if index <= values.len() {
+        let (_, others) = values.split_at(index);
+        others
+    } else {
+        &[]
+    }
+}
+
+/// Returns the first `count` values.
+fn first_values(values: &[u64], count: usize) -> &[u64]
+    ensures { result.now ≡ take count values.now }
+{
+    if count <= values.len() {
+        let (front, _) = values.split_at(count);
+        front
+    } else {
+        values
+    }
+}
+
 impl Range {
-    pub fn of(self, lists: &[u64]) -> &[u64] {
-        let end = self.from.saturating_add(self.count);
-        lists.get(self.from..end).unwrap_or(&[])
+    pub fn of(self, lists: &[u64]) -> &[u64]
+        ensures { result.now ≡ values_in lists.now self }
+    {
+        first_values(values_from(lists, self.from), self.count)
     }
 }
 
@@ -83,7 +112,9 @@ impl Sheet {
     }
 
     /// Returns the name of the caller at this place.
-    pub fn name(&self, caller: usize) -> &str {
+    pub fn name(&self, caller: usize) -> &str
+        ensures { result.now ≡ name_of (map string_bytes self.now.names.items) caller }
+    {
         match self.names.get(caller) {
             Some(name) => name.as_str(),
             None => "",

@@ -1,1 +1,2 @@
+pub mod ProductsLemmas
 pub mod ReadingsLemmas

@@ -39,6 +39,8 @@ impl<C: Cold> Cold for Distinct<C> {
 
     ghost IsOver = { λ s. is_ended s.upstream ≡ true };
 
+    ghost IsGiven = { λ s. C.IsGiven (chain_of s.upstream) × C.Item.IsAlwaysCopied };
+
     ghost AsksBehind = { λ old m result new.
         Leaves (after_distinct C.Item.is_same old.last (C.rest (chain_of old.upstream) m))
         result (C.rest (chain_of new.upstream) m) };
@@ -82,6 +84,8 @@ impl<C: Cold> Distinct<C> {
         ensures callable { ⟦<Distinct<C> as Cold>⟧.CanAsk result }
         ensures reads { (m : C.Reading) →
             C.Reads upstream m → ⟦<Distinct<C> as Cold>⟧.Reads result m }
+        ensures given { C.IsGiven upstream → C.Item.IsAlwaysCopied
+            → ⟦<Distinct<C> as Cold>⟧.IsGiven result }
         ensures whole { (m : C.Reading) → ⟦<Distinct<C> as Cold>⟧.whole result m
             ≡ distinct_run C.Item.is_same None (C.whole upstream m) }
         ensures meaning { (m : C.Reading) → meaning_of (⟦<Distinct<C> as Cold>⟧.whole result m)

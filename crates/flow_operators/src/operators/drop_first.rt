@@ -37,6 +37,8 @@ impl<C: Cold> Cold for DropFirst<C> {
 
     ghost IsOver = { λ s. is_ended s.upstream ≡ true };
 
+    ghost IsGiven = { λ s. C.IsGiven (chain_of s.upstream) };
+
     ghost AsksBehind = { λ old m result new.
         Leaves (after_drop (C.rest (chain_of old.upstream) m) old.left)
         result (C.rest (chain_of new.upstream) m) };
@@ -70,6 +72,8 @@ impl<C: Cold> DropFirst<C> {
         ensures callable { ⟦<DropFirst<C> as Cold>⟧.CanAsk result }
         ensures reads { (m : C.Reading) →
             C.Reads upstream m → ⟦<DropFirst<C> as Cold>⟧.Reads result m }
+        ensures given { C.IsGiven upstream
+            → ⟦<DropFirst<C> as Cold>⟧.IsGiven result }
         ensures whole { (m : C.Reading) → ⟦<DropFirst<C> as Cold>⟧.whole result m
             ≡ drop_run (C.whole upstream m) count }
         ensures meaning { (m : C.Reading) → meaning_of (⟦<DropFirst<C> as Cold>⟧.whole result m)

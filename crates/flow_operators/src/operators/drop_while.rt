@@ -42,6 +42,8 @@ impl<C: Cold, F: Fn(&C::Item) -> bool> Cold for DropWhile<C, F> {
 
     ghost IsOver = { λ s. is_ended s.upstream ≡ true };
 
+    ghost IsGiven = { λ s. C.IsGiven (chain_of s.upstream) };
+
     ghost AsksBehind = { λ old m result new.
         Leaves (after_drop_while m.1 old.dropping (C.rest (chain_of old.upstream) m.0))
         result (C.rest (chain_of new.upstream) m.0) };
@@ -79,6 +81,8 @@ impl<C: Cold, F: Fn(&C::Item) -> bool> DropWhile<C, F> {
         ensures reads { (m : C.Reading) (p : C.Item → Bool) → C.Reads upstream m
             → Decides (λ x b. FnReturnsAt F.Fn test x b) p →
             ⟦<DropWhile<C, F> as Cold>⟧.Reads result (m, p) }
+        ensures given { C.IsGiven upstream
+            → ⟦<DropWhile<C, F> as Cold>⟧.IsGiven result }
         ensures whole { (m : C.Reading) (p : C.Item → Bool)
             → ⟦<DropWhile<C, F> as Cold>⟧.whole result (m, p) ≡
             drop_while_run p (C.whole upstream m) }

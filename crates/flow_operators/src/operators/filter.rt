@@ -40,6 +40,8 @@ impl<C: Cold, F: Fn(&C::Item) -> bool> Cold for Filter<C, F> {
 
     ghost IsOver = { λ s. is_ended s.upstream ≡ true };
 
+    ghost IsGiven = { λ s. C.IsGiven (chain_of s.upstream) };
+
     ghost AsksBehind = { λ old m result new.
         Leaves (after_filter m.1 (C.rest (chain_of old.upstream) m.0))
         result (C.rest (chain_of new.upstream) m.0) };
@@ -67,6 +69,8 @@ impl<C: Cold, F: Fn(&C::Item) -> bool> Filter<C, F> {
         ensures reads { (m : C.Reading) (p : C.Item → Bool) → C.Reads upstream m
             → Decides (λ x b. FnReturnsAt F.Fn test x b) p →
             ⟦<Filter<C, F> as Cold>⟧.Reads result (m, p) }
+        ensures given { C.IsGiven upstream
+            → ⟦<Filter<C, F> as Cold>⟧.IsGiven result }
         ensures whole { (m : C.Reading) (p : C.Item → Bool)
             → ⟦<Filter<C, F> as Cold>⟧.whole result (m, p) ≡ filter_run p (C.whole upstream m) }
         ensures meaning { (m : C.Reading) (p : C.Item → Bool)

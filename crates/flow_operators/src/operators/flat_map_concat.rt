@@ -8,20 +8,30 @@ ghost use Rattle.flow_operators.specs.Kept.{inner_left, most_inner, unless_ended
 ghost use Rattle.flow_operators.specs.Upstreams.{chain_of, is_ended};
 ghost use Rattle.flow_operators.specs.Asking.{AskGives, IsFinal};
 ghost use Rattle.flow_operators.specs.Closures.{Opens, OpensCallable, OpensTo};
+ghost use Rattle.flow_operators.specs.InnerChains.{ReadsByItem, inner_chain, rest_by_item};
 ghost use Rattle.std.proofs.Common.{arith};
 ghost use Rattle.std.proofs.lemmas.Grind.{common_steps};
 
 use crate::cold::{Asked, Cold};
 use crate::upstream::Upstream;
 use flow_law::ChainFault;
+use std::snapshot::Snapshot;
+
+/// An inner chain, and the item that the closure made it of. The item is moved into the closure, so only contracts see
+/// it here.
+#[derive(Drop)]
+struct InnerChain<A, D> {
+    item: Snapshot<A>,
+    chain: D,
+}
 
 /// A chain of the items of the inner chains that a closure makes of each item, one chain after the other.
 ///
 /// An inner chain is started from its beginning before it is asked. Its fault ends the whole chain.
 #[derive(Drop)]
-pub struct FlatMapConcat<C, D, F> {
+pub struct FlatMapConcat<C: Cold, D, F> {
     upstream: Upstream<C>,
-    inner: Option<D>,
+    inner: Option<InnerChain<C::Item, D>>,
     closure: F,
 }
 
@@ -35,23 +45,25 @@ where
 
     type Item = D::Item;
 
-    ghost Reading = { (C.Reading × D.Reading) × (C.Item → Result (ChainRun D.Item) ChainFault) };
+    // A reading of the upstream, a reading of the inner chain of each item, and that chain's run.
+    ghost Reading = { (C.Reading × (C.Item → D.Reading)) × (C.Item → Result (ChainRun D.Item) ChainFault) };
 
-    ghost CanAsk = { λ s. C.CanAsk (chain_of s.upstream) × IfSome s.inner D.CanAsk
+    ghost CanAsk = { λ s. C.CanAsk (chain_of s.upstream)
+        × IfSome s.inner (λ inner. D.CanAsk (inner_chain inner))
         × F.IsAlwaysCallable s.closure × OpensCallable D.CanAsk (F.post s.closure) × D.IsLimited };
 
     ghost Reads = { λ s m.
-        (C.Reads (chain_of s.upstream) m.0.0 × IfSome s.inner (λ d. D.Reads d m.0.1))
-        × Opens (λ d. D.Reads d m.0.1) (λ d. D.whole d m.0.1) (F.post s.closure) m.1 };
+        (C.Reads (chain_of s.upstream) m.0.0 × IfSome s.inner (ReadsByItem D.Reads m.0.1))
+        × Opens D.Reads D.whole (F.post s.closure) m.0.1 m.1 };
 
     ghost whole = { λ s m. flat_map_run m.1 (C.whole (chain_of s.upstream) m.0.0) };
 
     ghost rest = { λ s m. unless_ended (is_ended s.upstream)
-        (followed (inner_left (λ d. D.rest d m.0.1) s.inner)
+        (followed (inner_left (rest_by_item D.rest m.0.1) s.inner)
         (flat_map_run m.1 (C.rest (chain_of s.upstream) m.0.0))) };
 
     ghost most_asks = { λ s. C.most_asks (chain_of s.upstream) * (D.limit + 1)
-        + most_inner D.most_asks s.inner };
+        + most_inner (λ inner. D.most_asks (inner_chain inner)) s.inner };
 
     ghost IsLimited = { C.IsLimited × D.IsLimited };
 
@@ -60,7 +72,7 @@ where
     ghost IsOver = { λ s. is_ended s.upstream ≡ true };
 
     ghost AsksBehind = { λ old m result new.
-        Leaves (unless_completed (inner_left (λ d. D.rest d m.0.1) old.inner)
+        Leaves (unless_completed (inner_left (rest_by_item D.rest m.0.1) old.inner)
         (C.rest (chain_of old.upstream) m.0.0)
         (after_flat_map m.1 (C.rest (chain_of old.upstream) m.0.0)))
         result (C.rest (chain_of new.upstream) m.0.0) };
@@ -96,22 +108,23 @@ where
 }
 
 /// Asks the open inner chain, and drops it at its end or fault. If none is open, answers the end.
-fn ask_inner<D: Cold>(inner: &mut Option<D>) -> Asked<D::Item>
-    requires { IfSome inner.old D.CanAsk }
-    ensures callable { IfSome inner.new D.CanAsk }
-    ensures reads { (n : D.Reading) →
-        IfSome inner.old (λ d. D.Reads d n) → IfSome inner.new (λ d. D.Reads d n) }
-    ensures gives { (n : D.Reading) → IfSome inner.old (λ d. D.Reads d n)
-        → AskGives (inner_left (λ d. D.rest d n) inner.old) result
-        (inner_left (λ d. D.rest d n) inner.new) }
+fn ask_inner<A, D: Cold>(inner: &mut Option<InnerChain<A, D>>) -> Asked<D::Item>
+    requires { IfSome inner.old (λ opened. D.CanAsk (inner_chain opened)) }
+    ensures callable { IfSome inner.new (λ opened. D.CanAsk (inner_chain opened)) }
+    ensures reads { (n : A → D.Reading) →
+        IfSome inner.old (ReadsByItem D.Reads n) → IfSome inner.new (ReadsByItem D.Reads n) }
+    ensures gives { (n : A → D.Reading) → IfSome inner.old (ReadsByItem D.Reads n)
+        → AskGives (inner_left (rest_by_item D.rest n) inner.old) result
+        (inner_left (rest_by_item D.rest n) inner.new) }
     ensures fewer { IsFinal result ⊎
-        most_inner D.most_asks inner.new < most_inner D.most_asks inner.old }
+        most_inner (λ opened. D.most_asks (inner_chain opened)) inner.new
+        < most_inner (λ opened. D.most_asks (inner_chain opened)) inner.old }
     ensures closed { IsFinal result → inner.new ≡ None }
 {
     let Some(mut open) = inner.take() else {
         return Asked::End;
     };
-    match open.ask() {
+    match open.chain.ask() {
         Asked::Item(item) => {
             *inner = Some(open);
             Asked::Item(item)
@@ -124,23 +137,27 @@ fn ask_inner<D: Cold>(inner: &mut Option<D>) -> Asked<D::Item>
     }
 }
 
-/// Returns the inner chain that the closure makes of an item, started from its beginning. Its run is that of each
-/// function that the closure computes.
-fn open<A, D, F>(closure: &F, item: A) -> Result<D, ChainFault>
+/// Returns the inner chain that the closure makes of an item, started from its beginning. It has the item's reading,
+/// and the item's run, of each pair of functions that the closure opens chains by.
+fn open<A, D, F>(closure: &F, item: A) -> Result<InnerChain<A, D>, ChainFault>
 where
     D: Cold,
     F: Fn(A) -> Result<D, ChainFault>,
     requires callable { F.IsAlwaysCallable closure.now }
     requires opens { OpensCallable D.CanAsk (F.post closure.now) }
-    ensures callable { IfOk result D.CanAsk }
-    ensures opens { (n : D.Reading) (f : A → Result (ChainRun D.Item) ChainFault)
-        → Opens (λ d. D.Reads d n) (λ d. D.whole d n) (F.post closure.now) f
-        → OpensTo (λ d. D.Reads d n) (λ d. D.rest d n) (f item) result }
+    ensures callable { IfOk result (λ opened. D.CanAsk (inner_chain opened)) }
+    ensures opens { (n : A → D.Reading) (f : A → Result (ChainRun D.Item) ChainFault)
+        → Opens D.Reads D.whole (F.post closure.now) n f
+        → OpensTo (ReadsByItem D.Reads n) (rest_by_item D.rest n) (f item) result }
 {
+    let made_of = Snapshot::of(&item);
     match closure(item) {
         Ok(mut inner) => {
             inner.rewind();
-            Ok(inner)
+            Ok(InnerChain {
+                item: made_of,
+                chain: inner,
+            })
         }
         Err(fault) => Err(fault),
     }
@@ -156,26 +173,26 @@ where
 
     /// Flattens the chains that the closure makes of this chain's items. A fault of the closure ends the chain, too.
     ///
-    /// One reading of the inner chains serves all of them.
+    /// The inner chains have a reading for each item, since the closures in them may capture it.
     pub fn new(upstream: C, closure: F) -> Self
         requires upstream { C.CanAsk upstream }
         requires callable { F.IsAlwaysCallable closure }
         requires opens { OpensCallable D.CanAsk (F.post closure) }
         requires limited { D.IsLimited }
         ensures callable { ⟦<FlatMapConcat<C, D, F> as Cold>⟧.CanAsk result }
-        ensures reads { (m : C.Reading) (n : D.Reading)
+        ensures reads { (m : C.Reading) (n : C.Item → D.Reading)
             (f : C.Item → Result (ChainRun D.Item) ChainFault)
-            → C.Reads upstream m → Opens (λ d. D.Reads d n) (λ d. D.whole d n) (F.post closure) f
+            → C.Reads upstream m → Opens D.Reads D.whole (F.post closure) n f
             → ⟦<FlatMapConcat<C, D, F> as Cold>⟧.Reads result ((m, n), f) }
-        ensures whole { (m : C.Reading) (n : D.Reading)
+        ensures whole { (m : C.Reading) (n : C.Item → D.Reading)
             (f : C.Item → Result (ChainRun D.Item) ChainFault)
             → ⟦<FlatMapConcat<C, D, F> as Cold>⟧.whole result ((m, n), f) ≡
             flat_map_run f (C.whole upstream m) }
-        ensures meaning { (m : C.Reading) (n : D.Reading)
+        ensures meaning { (m : C.Reading) (n : C.Item → D.Reading)
             (f : C.Item → Result (ChainRun D.Item) ChainFault)
             → meaning_of (⟦<FlatMapConcat<C, D, F> as Cold>⟧.whole result ((m, n), f))
             ≡ flat_map_meaning f (meaning_of (C.whole upstream m)) }
-        ensures rest { (m : C.Reading) (n : D.Reading)
+        ensures rest { (m : C.Reading) (n : C.Item → D.Reading)
             (f : C.Item → Result (ChainRun D.Item) ChainFault)
             → ⟦<FlatMapConcat<C, D, F> as Cold>⟧.rest result ((m, n), f) ≡
             flat_map_run f (C.rest upstream m) }

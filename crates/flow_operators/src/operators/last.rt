@@ -1,5 +1,5 @@
 //! A copy of the last item that an operator emitted.
-ghost use Rattle.std.specs.Prelude.{◌≡◌, IfOk, IfErr};
+ghost use Rattle.std.specs.Prelude.{◌≡◌, ◌≢◌, IfOk, IsOk, IfErr};
 ghost use Rattle.flow_operators.specs.Closures.{Follows};
 
 use flow_law::{ChainFault, FlowValue};
@@ -8,6 +8,7 @@ use flow_law::{ChainFault, FlowValue};
 pub(crate) fn keep<T: FlowValue>(last: &mut Option<T>, item: T) -> Result<T, ChainFault>
     ensures kept { IfOk result (λ given. (given ≡ item) × (last.new ≡ Some item)) }
     ensures memory { IfErr result (λ fault. fault ≡ ChainFault.OutOfMemory) }
+    ensures given { T.IsAlwaysCopied → IsOk result }
 {
     match item.try_copy() {
         Ok(copy) => {
@@ -25,6 +26,8 @@ pub(crate) fn keep_made<T: FlowValue>(
 ) -> Result<T, ChainFault>
     ensures follows { Follows made result }
     ensures kept { IfOk result (λ given. last.new ≡ Some given) }
+    ensures given { T.IsAlwaysCopied → made ≢ Err ChainFault.OutOfMemory
+        → result ≢ Err ChainFault.OutOfMemory }
 {
     match made {
         Ok(item) => keep(last, item),

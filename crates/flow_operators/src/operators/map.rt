@@ -3,7 +3,7 @@ ghost use Rattle.std.specs.Prelude.{◌≡◌, true, Result};
 ghost use Rattle.flow_law.specs.declared.chain.ChainFault.{ChainFault};
 ghost use Rattle.flow_law.specs.Chain.{map_meaning, meaning_of};
 ghost use Rattle.flow_law.specs.OperatorRuns.{map_run};
-ghost use Rattle.flow_operators.specs.Closures.{Computes};
+ghost use Rattle.flow_operators.specs.Closures.{Computes, NeverRefuses};
 ghost use Rattle.flow_operators.specs.Upstreams.{AsksUpstream, chain_of, is_ended, left_of};
 
 use crate::cold::{Asked, Cold};
@@ -43,6 +43,8 @@ where
 
     ghost IsOver = { λ s. is_ended s.upstream ≡ true };
 
+    ghost IsGiven = { λ s. C.IsGiven (chain_of s.upstream) × NeverRefuses (F.post s.closure) };
+
     ghost AsksBehind = { λ old m result new.
         AsksUpstream (λ c. C.rest c m.0) old.upstream result new.upstream };
 
@@ -76,6 +78,8 @@ where
         ensures callable { ⟦<Map<C, F> as Cold>⟧.CanAsk result }
         ensures reads { (m : C.Reading) (f : C.Item → Result U ChainFault) → C.Reads upstream m
             → Computes (F.post closure) f → ⟦<Map<C, F> as Cold>⟧.Reads result (m, f) }
+        ensures given { C.IsGiven upstream → NeverRefuses (F.post closure)
+            → ⟦<Map<C, F> as Cold>⟧.IsGiven result }
         ensures whole { (m : C.Reading) (f : C.Item → Result U ChainFault)
             → ⟦<Map<C, F> as Cold>⟧.whole result (m, f) ≡ map_run f (C.whole upstream m) }
         ensures meaning { (m : C.Reading) (f : C.Item → Result U ChainFault)

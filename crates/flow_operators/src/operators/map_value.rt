@@ -42,6 +42,8 @@ where
 
     ghost IsOver = { λ s. is_ended s.upstream ≡ true };
 
+    ghost IsGiven = { λ s. C.IsGiven (chain_of s.upstream) };
+
     ghost AsksBehind = { λ old m result new. AsksUpstream (λ c. C.rest c m.0)
         old.upstream result new.upstream };
 
@@ -72,6 +74,8 @@ where
         ensures callable { ⟦<MapValue<C, F> as Cold>⟧.CanAsk result }
         ensures reads { (m : C.Reading) (f : C.Item → U) → C.Reads upstream m
             → Makes (F.post closure) f → ⟦<MapValue<C, F> as Cold>⟧.Reads result (m, f) }
+        ensures given { C.IsGiven upstream
+            → ⟦<MapValue<C, F> as Cold>⟧.IsGiven result }
         ensures whole { (m : C.Reading) (f : C.Item → U)
             → ⟦<MapValue<C, F> as Cold>⟧.whole result (m, f) ≡
             map_run (λ x. Ok (f x)) (C.whole upstream m) }

@@ -1,5 +1,6 @@
 //! Pairs of the items of two chains, for `zip`.
-ghost use Rattle.std.specs.Prelude.{◌≡◌, ◌⊎◌, ◌<◌, true, false, IfOk, IfErr};
+ghost use Rattle.std.specs.Prelude.{◌≡◌, ◌≢◌, ◌⊎◌, ◌<◌, true, false, IfOk, IfErr};
+ghost use Rattle.flow_law.specs.declared.chain.ChainFault.TheVariants.{OutOfMemory};
 ghost use Rattle.flow_operators.specs.Asking.{IsFinal};
 ghost use Rattle.flow_operators.specs.Pairs.{AsksSides, PairGives};
 ghost use Rattle.flow_operators.specs.Pairs.{is_over, left_chain, most_pairs, right_chain};
@@ -41,6 +42,11 @@ impl<L: Cold, R: Cold> Pairs<L, R, L::Item> {
             IsFinal asked ⊎ most_pairs L.most_asks R.most_asks self.new
             < most_pairs L.most_asks R.most_asks self.old) }
         ensures over { IfErr result (λ asked. IsFinal asked → is_over self.new ≡ true) }
+        ensures given { L.IsGiven (left_chain self.old) → R.IsGiven (right_chain self.old)
+            → IfErr result (λ asked. asked ≢ Asked.Fault OutOfMemory) }
+        ensures left_lasting { L.IsGiven (left_chain self.old) → L.IsGiven (left_chain self.new) }
+        ensures right_lasting { R.IsGiven (right_chain self.old)
+            → R.IsGiven (right_chain self.new) }
         ensures behind { (¬ (is_over self.old ≡ true)) → (m : L.Reading) (n : R.Reading)
             → L.Reads (left_chain self.old) m → R.Reads (right_chain self.old) n
             → WithAnswer result (λ asked.

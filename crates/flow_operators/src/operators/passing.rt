@@ -1,6 +1,7 @@
 //! Calls of the caller's tests.
-ghost use Rattle.std.specs.Prelude.{◌≡◌, ◌⊎◌, ◌<◌, true, Bool, IfOk, IfErr};
+ghost use Rattle.std.specs.Prelude.{◌≡◌, ◌≢◌, ◌⊎◌, ◌<◌, true, Bool, IfOk, IfErr};
 ghost use Rattle.std.specs.Fn.{FnReturnsAt};
+ghost use Rattle.flow_law.specs.declared.chain.ChainFault.TheVariants.{OutOfMemory};
 ghost use Rattle.flow_operators.specs.Asking.{IsFinal};
 ghost use Rattle.flow_operators.specs.Closures.{Decides};
 ghost use Rattle.flow_operators.specs.Passing.{from_passing};
@@ -13,7 +14,8 @@ use crate::upstream::Upstream;
 /// Returns the test's answer for an item, which is that of each function that the test computes.
 pub(crate) fn passes<T, F: Fn(&T) -> bool>(test: &F, item: &T) -> bool
     requires { F.IsAlwaysCallable test.now }
-    ensures { (p : T → Bool) →
+    ensures called { FnReturnsAt F.Fn test.now item.now result }
+    ensures decides { (p : T → Bool) →
         Decides (λ x b. FnReturnsAt F.Fn test.now x b) p → result ≡ p item.now }
 {
     test(item)
@@ -45,6 +47,9 @@ pub(crate) fn next_where<C: Cold, U, F: Fn(&C::Item) -> bool>(
     ensures pends { IfErr result (λ asked. IsFinal asked
         ⊎ C.most_asks (chain_of upstream.new) < C.most_asks (chain_of upstream.old)) }
     ensures over { IfErr result (λ asked. IsFinal asked → is_ended upstream.new ≡ true) }
+    ensures given { C.IsGiven (chain_of upstream.old)
+        → IfErr result (λ asked. asked ≢ Asked.Fault OutOfMemory) }
+    ensures lasting { C.IsGiven (chain_of upstream.old) → C.IsGiven (chain_of upstream.new) }
     ensures end { is_ended upstream.old ≡ true →
         (result ≡ Err Asked.End) × upstream.new ≡ upstream.old }
 {

@@ -1,5 +1,5 @@
 //! The results so far, for `scan` and `running_reduce`.
-ghost use Rattle.std.specs.Prelude.{◌≡◌, ◌⊎◌, ◌<◌, true, false, None, IfOk, IfErr};
+ghost use Rattle.std.specs.Prelude.{◌≡◌, ◌≢◌, ◌⊎◌, ◌<◌, true, false, None, IfOk, IfErr};
 ghost use Rattle.flow_operators.specs.Asking.{IsFinal};
 ghost use Rattle.flow_operators.specs.Results.{AsksScanned, KeepsResult, ResultGives};
 ghost use Rattle.flow_operators.specs.Results.{initial_of, is_over, last_of, most_results, scanned};
@@ -49,6 +49,9 @@ impl<C: Cold, U: FlowValue> Results<C, U> {
         ensures pends { IfErr result (λ asked. IsFinal asked
             ⊎ most_results C.most_asks self.new < most_results C.most_asks self.old) }
         ensures over { IfErr result (λ asked. IsFinal asked → is_over self.new ≡ true) }
+        ensures given { C.IsGiven (scanned self.old) → U.IsAlwaysCopied
+            → IfErr result (λ asked. asked ≢ Asked.Fault ChainFault.OutOfMemory) }
+        ensures lasting { C.IsGiven (scanned self.old) → C.IsGiven (scanned self.new) }
         ensures behind { (¬ (is_over self.old ≡ true)) →
             (m : C.Reading) → C.Reads (scanned self.old) m
             → WithAnswer result (λ asked. AsksScanned (λ c. C.rest c m) self.old asked self.new) }
@@ -78,6 +81,8 @@ impl<C: Cold, U: FlowValue> Results<C, U> {
         ensures keeps { KeepsResult made result self.new }
         ensures chain { scanned self.new ≡ scanned self.old }
         ensures initial { initial_of self.new ≡ initial_of self.old }
+        ensures given { U.IsAlwaysCopied → made ≢ Err ChainFault.OutOfMemory
+            → result ≢ Asked.Fault ChainFault.OutOfMemory }
         ensures over { IsFinal result → is_over self.new ≡ true }
     {
         match made {
@@ -95,6 +100,7 @@ impl<C: Cold, U: FlowValue> Results<C, U> {
     pub(crate) fn rewind(&mut self)
         requires { C.CanAsk (scanned self.old) }
         ensures callable { C.CanAsk (scanned self.new) }
+        ensures lasting { C.IsGiven (scanned self.old) → C.IsGiven (scanned self.new) }
         ensures reads { (m : C.Reading)
             → C.Reads (scanned self.old) m → C.Reads (scanned self.new) m }
         ensures whole { (m : C.Reading)

@@ -3,7 +3,7 @@ ghost use Rattle.std.specs.Prelude.{◌≡◌, true, None, Result};
 ghost use Rattle.flow_law.specs.declared.chain.ChainFault.{ChainFault};
 ghost use Rattle.flow_law.specs.Chain.{running_reduce_meaning, meaning_of};
 ghost use Rattle.flow_law.specs.OperatorRuns.{running_reduce_run};
-ghost use Rattle.flow_operators.specs.Closures.{ComputesPairs};
+ghost use Rattle.flow_operators.specs.Closures.{ComputesPairs, NeverRefusesPairs};
 ghost use Rattle.flow_operators.specs.Upstreams.{AsksUpstream, chain_of, is_ended, left_of};
 
 use crate::cold::{Asked, Cold};
@@ -46,6 +46,9 @@ where
 
     ghost IsOver = { λ s. is_ended s.upstream ≡ true };
 
+    ghost IsGiven = { λ s. C.IsGiven (chain_of s.upstream)
+        × NeverRefusesPairs (F.post s.closure) × C.Item.IsAlwaysCopied };
+
     ghost AsksBehind = { λ old m result new.
         AsksUpstream (λ c. C.rest c m.0) old.upstream result new.upstream };
 
@@ -85,6 +88,8 @@ where
             C.Reads upstream m
             → ComputesPairs (F.post closure) f →
             ⟦<RunningReduce<C, F> as Cold>⟧.Reads result (m, f) }
+        ensures given { C.IsGiven upstream → NeverRefusesPairs (F.post closure) → C.Item.IsAlwaysCopied
+            → ⟦<RunningReduce<C, F> as Cold>⟧.IsGiven result }
         ensures whole { (m : C.Reading) (f : C.Item × C.Item → Result C.Item ChainFault)
             → ⟦<RunningReduce<C, F> as Cold>⟧.whole result (m, f) ≡
             running_reduce_run f None (C.whole upstream m) }

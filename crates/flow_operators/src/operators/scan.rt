@@ -4,7 +4,7 @@ ghost use Rattle.flow_law.specs.declared.chain.ChainFault.{ChainFault};
 ghost use Rattle.flow_law.specs.ChainRun.{gives};
 ghost use Rattle.flow_law.specs.Chain.{scan_meaning, meaning_of};
 ghost use Rattle.flow_law.specs.OperatorRuns.{scan_run};
-ghost use Rattle.flow_operators.specs.Closures.{ComputesPairs};
+ghost use Rattle.flow_operators.specs.Closures.{ComputesPairs, NeverRefusesPairs};
 ghost use Rattle.flow_operators.specs.Results.{AsksScanned, initial_of, is_over, most_results, results_rest, scanned};
 ghost use Rattle.std.proofs.Common.{arith};
 ghost use Rattle.std.proofs.lemmas.Grind.{common_steps};
@@ -47,6 +47,9 @@ where
 
     ghost IsOver = { λ s. is_over s.results ≡ true };
 
+    ghost IsGiven = { λ s. C.IsGiven (scanned s.results)
+        × NeverRefusesPairs (F.post s.closure) × U.IsAlwaysCopied };
+
     ghost AsksBehind = { λ old m result new.
         AsksScanned (λ c. C.rest c m.0) old.results result new.results };
 
@@ -80,6 +83,8 @@ where
         ensures callable { ⟦<Scan<C, U, F> as Cold>⟧.CanAsk result }
         ensures reads { (m : C.Reading) (f : U × C.Item → Result U ChainFault) → C.Reads upstream m
             → ComputesPairs (F.post closure) f → ⟦<Scan<C, U, F> as Cold>⟧.Reads result (m, f) }
+        ensures given { C.IsGiven upstream → NeverRefusesPairs (F.post closure) → U.IsAlwaysCopied
+            → ⟦<Scan<C, U, F> as Cold>⟧.IsGiven result }
         ensures whole { (m : C.Reading) (f : U × C.Item → Result U ChainFault)
             → ⟦<Scan<C, U, F> as Cold>⟧.whole result (m, f) ≡
             gives initial (scan_run f initial (C.whole upstream m)) }

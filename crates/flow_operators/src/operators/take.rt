@@ -1,5 +1,5 @@
 //! `take`: the first items.
-ghost use Rattle.std.specs.Prelude.{◌≡◌, ◌⊎◌, ◌<◌, ◌↔◌, true, IfOk, IfErr};
+ghost use Rattle.std.specs.Prelude.{◌≡◌, ◌≢◌, ◌⊎◌, ◌<◌, ◌↔◌, true, IfOk, IfErr};
 ghost use Rattle.flow_law.specs.Chain.{take_meaning, meaning_of};
 ghost use Rattle.flow_operators.specs.Asking.{AskGives, IsFinal, OnEnd};
 ghost use Rattle.flow_operators.specs.Taking.{items_left, left_after};
@@ -25,6 +25,8 @@ impl<C: Cold> Take<C> {
         ensures callable { IfOk result ⟦<Take<C> as Cold>⟧.CanAsk }
         ensures reads { IfOk result (λ t.
             (m : C.Reading) → C.Reads upstream m → ⟦<Take<C> as Cold>⟧.Reads t m) }
+        ensures given { IfOk result (λ t.
+            C.IsGiven upstream → ⟦<Take<C> as Cold>⟧.IsGiven t) }
         ensures whole { IfOk result (λ t. (m : C.Reading) →
             ⟦<Take<C> as Cold>⟧.whole t m ≡ take_run count (C.whole upstream m)) }
         ensures meaning { IfOk result (λ t. (m : C.Reading) →
@@ -68,6 +70,8 @@ impl<C: Cold> Cold for Take<C> {
 
     ghost IsOver = { λ s. (s.left ≡ 0) ⊎ (is_ended s.upstream ≡ true) };
 
+    ghost IsGiven = { λ s. C.IsGiven (chain_of s.upstream) };
+
     ghost AsksBehind = { λ old m result new.
         AsksUpstream (λ c. C.rest c m) old.upstream result new.upstream };
 
@@ -89,6 +93,10 @@ impl<C: Cold> Cold for Take<C> {
         ensures behind { (¬ ⟦<Take<C> as Cold>⟧.IsOver self.old) → (m : C.Reading)
             → ⟦<Take<C> as Cold>⟧.Reads self.old m →
             ⟦<Take<C> as Cold>⟧.AsksBehind self.old m result self.new }
+        ensures given { ⟦<Take<C> as Cold>⟧.IsGiven self.old
+            → result ≢ Asked.Fault ChainFault.OutOfMemory }
+        ensures lasting { ⟦<Take<C> as Cold>⟧.IsGiven self.old →
+            ⟦<Take<C> as Cold>⟧.IsGiven self.new }
         ensures end { ⟦<Take<C> as Cold>⟧.IsOver self.old →
             (result ≡ Asked.End) × self.new ≡ self.old }
         ensures left { items_left self.new ≡ left_after result (items_left self.old) }

@@ -39,6 +39,8 @@ impl<C: Cold, F: Fn(&C::Item) -> bool> Cold for TakeWhile<C, F> {
 
     ghost IsOver = { λ s. is_ended s.upstream ≡ true };
 
+    ghost IsGiven = { λ s. C.IsGiven (chain_of s.upstream) };
+
     ghost AsksBehind = { λ old m result new. AsksUpstream
         (λ c. C.rest c m.0) old.upstream result new.upstream };
 
@@ -66,6 +68,8 @@ impl<C: Cold, F: Fn(&C::Item) -> bool> TakeWhile<C, F> {
         ensures reads { (m : C.Reading) (p : C.Item → Bool) → C.Reads upstream m
             → Decides (λ x b. FnReturnsAt F.Fn test x b) p →
             ⟦<TakeWhile<C, F> as Cold>⟧.Reads result (m, p) }
+        ensures given { C.IsGiven upstream
+            → ⟦<TakeWhile<C, F> as Cold>⟧.IsGiven result }
         ensures whole { (m : C.Reading) (p : C.Item → Bool)
             → ⟦<TakeWhile<C, F> as Cold>⟧.whole result (m, p) ≡
             take_while_run p (C.whole upstream m) }

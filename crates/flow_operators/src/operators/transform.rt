@@ -1,11 +1,11 @@
 //! `transform`: any number of items for each item.
-ghost use Rattle.std.specs.Prelude.{◌≡◌, ◌∷◌, ◌+◌, ◌*◌, ◌^◌, true, None, [], List, Result, MatchOption, length};
+ghost use Rattle.std.specs.Prelude.{◌≡◌, ◌≢◌, ◌∷◌, ◌+◌, ◌*◌, ◌^◌, true, None, [], List, Result, MatchOption, length};
 ghost use Rattle.flow_law.specs.Chain.{transform_meaning, meaning_of};
 ghost use Rattle.flow_law.specs.OperatorRuns.{prepended, transform_run};
 ghost use Rattle.flow_operators.specs.Behind.{Leaves, after_transform, unless_empty};
 ghost use Rattle.flow_operators.specs.Kept.{unless_ended, images_left};
 ghost use Rattle.flow_operators.specs.Upstreams.{chain_of, is_ended};
-ghost use Rattle.flow_operators.specs.Closures.{ComputesBy, FollowsBy};
+ghost use Rattle.flow_operators.specs.Closures.{ComputesBy, FollowsBy, NeverRefuses};
 ghost use Rattle.std.proofs.Common.{arith};
 ghost use Rattle.std.proofs.lemmas.Grind.{common_steps};
 
@@ -53,6 +53,8 @@ where
     ghost limit = { C.limit * 2 ^ 64 + 2 ^ 64 };
 
     ghost IsOver = { λ s. is_ended s.upstream ≡ true };
+
+    ghost IsGiven = { λ s. C.IsGiven (chain_of s.upstream) × NeverRefuses (F.post s.closure) };
 
     ghost AsksBehind = { λ old m result new.
         Leaves (unless_empty (images_left (λ v. v.items) old.images)
@@ -113,7 +115,8 @@ where
     U: FlowValue,
     F: Fn(A) -> Result<Vec<U>, ChainFault>,
     requires { F.IsAlwaysCallable closure.now }
-    ensures { (f : A → Result (List U) ChainFault) →
+    ensures given { NeverRefuses (F.post closure.now) → result ≢ Err ChainFault.OutOfMemory }
+    ensures computes { (f : A → Result (List U) ChainFault) →
         ComputesBy (λ v. v.items) (F.post closure.now) f
         → FollowsBy (λ v. v.items) (f item) result }
 {
@@ -137,6 +140,8 @@ where
             C.Reads upstream m
             → ComputesBy (λ v. v.items) (F.post closure) f →
             ⟦<Transform<C, U, F> as Cold>⟧.Reads result (m, f) }
+        ensures given { C.IsGiven upstream → NeverRefuses (F.post closure)
+            → ⟦<Transform<C, U, F> as Cold>⟧.IsGiven result }
         ensures whole { (m : C.Reading) (f : C.Item → Result (List U) ChainFault)
             → ⟦<Transform<C, U, F> as Cold>⟧.whole result (m, f) ≡
             transform_run f (C.whole upstream m) }

@@ -3,7 +3,7 @@ ghost use Rattle.std.specs.Prelude.{◌≡◌, ◌+◌, true, Result};
 ghost use Rattle.flow_law.specs.declared.chain.ChainFault.{ChainFault};
 ghost use Rattle.flow_law.specs.Chain.{zip_meaning, meaning_of};
 ghost use Rattle.flow_law.specs.OperatorRuns.{zip_run};
-ghost use Rattle.flow_operators.specs.Closures.{ComputesPairs};
+ghost use Rattle.flow_operators.specs.Closures.{ComputesPairs, NeverRefusesPairs};
 ghost use Rattle.flow_operators.specs.Pairs.{AsksSides, is_over, left_chain, most_pairs, pairs_rest, right_chain};
 ghost use Rattle.std.proofs.Common.{arith};
 
@@ -55,6 +55,9 @@ where
 
     ghost IsOver = { λ s. is_over s.pairs ≡ true };
 
+    ghost IsGiven = { λ s. L.IsGiven (left_chain s.pairs)
+        × R.IsGiven (right_chain s.pairs) × NeverRefusesPairs (F.post s.closure) };
+
     ghost AsksBehind = { λ old m result new.
         AsksSides (λ c. L.rest c m.0.0) (λ c. R.rest c m.0.1) old.pairs result new.pairs };
 
@@ -94,6 +97,8 @@ where
             (f : L.Item × R.Item → Result U ChainFault) → L.Reads left m
             → R.Reads right n → ComputesPairs (F.post closure) f →
             ⟦<Zip<L, R, F> as Cold>⟧.Reads result ((m, n), f) }
+        ensures given { L.IsGiven left → R.IsGiven right → NeverRefusesPairs (F.post closure)
+            → ⟦<Zip<L, R, F> as Cold>⟧.IsGiven result }
         ensures whole { (m : L.Reading) (n : R.Reading) (f : L.Item × R.Item → Result U ChainFault)
             → ⟦<Zip<L, R, F> as Cold>⟧.whole result ((m, n), f) ≡
             zip_run f (L.whole left m) (R.whole right n) }

@@ -25,6 +25,7 @@ impl<T: FlowValue, A: Allocator> OfList<T, A> {
     pub fn new(items: Vec<T, A>) -> Self
         ensures callable { ⟦<OfList<T, A> as Cold>⟧.CanAsk result }
         ensures reads { ⟦<OfList<T, A> as Cold>⟧.Reads result tt }
+        ensures given { T.IsAlwaysCopied → ⟦<OfList<T, A> as Cold>⟧.IsGiven result }
         ensures whole { ⟦<OfList<T, A> as Cold>⟧.whole result tt ≡ list_run items.items }
         ensures rest { ⟦<OfList<T, A> as Cold>⟧.rest result tt ≡ list_run items.items }
     {
@@ -52,6 +53,8 @@ impl<T: FlowValue, A: Allocator> Cold for OfList<T, A> {
     ghost limit = { 2 ^ 64 };
 
     ghost IsOver = { λ s. length s.items.items ≤ s.at };
+
+    ghost IsGiven = { λ _. T.IsAlwaysCopied };
 
     ghost AsksBehind = { λ _ _ _ _. ⊤ };
 

@@ -20,6 +20,7 @@ impl OfRange {
     pub fn new(first: i64, last: i64) -> Self
         ensures callable { ⟦<OfRange as Cold>⟧.CanAsk result }
         ensures reads { ⟦<OfRange as Cold>⟧.Reads result tt }
+        ensures given { ⟦<OfRange as Cold>⟧.IsGiven result }
         ensures whole { ⟦<OfRange as Cold>⟧.whole result tt ≡ range_run first last }
         ensures rest { ⟦<OfRange as Cold>⟧.rest result tt ≡ range_run first last }
     {
@@ -53,6 +54,8 @@ impl Cold for OfRange {
     ghost limit = { 2 ^ 64 };
 
     ghost IsOver = { λ s. range_left s ≡ 0 };
+
+    ghost IsGiven = { λ _. ⊤ };
 
     ghost AsksBehind = { λ _ _ _ _. ⊤ };
 

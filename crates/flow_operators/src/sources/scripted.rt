@@ -30,6 +30,7 @@ impl<T: FlowValue, A: Allocator> Scripted<T, A> {
     pub fn new(entries: Vec<Entry<T>, A>) -> Self
         ensures callable { ⟦<Scripted<T, A> as Cold>⟧.CanAsk result }
         ensures reads { ⟦<Scripted<T, A> as Cold>⟧.Reads result tt }
+        ensures given { T.IsAlwaysCopied → ⟦<Scripted<T, A> as Cold>⟧.IsGiven result }
         ensures whole { ⟦<Scripted<T, A> as Cold>⟧.whole result tt ≡ scripted_run entries.items }
         ensures rest { ⟦<Scripted<T, A> as Cold>⟧.rest result tt ≡ scripted_run entries.items }
     {
@@ -59,6 +60,8 @@ impl<T: FlowValue, A: Allocator> Cold for Scripted<T, A> {
     ghost limit = { 2 ^ 64 };
 
     ghost IsOver = { λ s. length s.entries.items ≤ s.at };
+
+    ghost IsGiven = { λ _. T.IsAlwaysCopied };
 
     ghost AsksBehind = { λ _ _ _ _. ⊤ };
 

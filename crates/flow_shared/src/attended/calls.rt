@@ -1,8 +1,9 @@
 //! The calls of a core whose caller may sleep, and those that watchers make.
-ghost use Rattle.std.specs.Prelude.{◌≡◌, ◌+◌, ◌≤◌, Ok, IsOk};
+ghost use Rattle.std.specs.Prelude.{◌≡◌, ◌+◌, ◌≤◌, ◌⊎◌, Ok, IsOk, [], true, Contains};
 ghost use Rattle.std.specs.Vec.{vec_len, vec_capacity};
 ghost use Rattle.flow_law.specs.Draining.{DrainsBy};
 ghost use Rattle.flow_law.specs.declared.outcome.Drained.TheVariants.{Most};
+ghost use Rattle.flow_law.specs.declared.outcome.Next.TheVariants.{Empty};
 ghost use Rattle.flow_law.specs.History.{replied};
 ghost use Rattle.flow_law.specs.Standing.{Documents};
 ghost use Rattle.flow_core.specs.SubId.{number_of};
@@ -31,6 +32,8 @@ impl<S: ReaderCalls, A: Allocator + Copy> Attended<S, A> {
         ensures given { S.Item.IsAlwaysCopied → IsOk result }
         ensures armed { IsWait result → W.is_armed waiter.new }
         ensures kept { W.keeps waiter.old waiter.new }
+        ensures listed { (result ≡ Ok Empty)
+            → (W.asks_again waiter.new) ⊎ (Contains self.new.readers (number_of id)) }
     {
         match self.call(TakeNext { id }) {
             Ok(Next::Value(value)) => Ok(Next::Value(value)),
@@ -63,6 +66,7 @@ impl<S: ReaderCalls, A: Allocator + Copy> Attended<S, A> {
             self.old S.kind.count (S.kind.counted result) self.new }
         ensures armed { W.is_armed waiter.new }
         ensures kept { W.keeps waiter.old waiter.new }
+        ensures listed { (W.asks_again waiter.new) ⊎ (Contains self.new.watchers number) }
     {
         let count = self.count();
         self.watched = self.core.signs().subscribers;
@@ -82,8 +86,10 @@ impl<S: ReaderCalls, A: Allocator + Copy> Attended<S, A> {
 
     /// Counts the subscribers, and removes all watchers; they are woken later.
     pub(crate) fn count_and_wake(&mut self) -> u64
-        ensures { Documents S.kind (AttendedAs S.sleeping S.stands_as)
+        ensures documented { Documents S.kind (AttendedAs S.sleeping S.stands_as)
             self.old S.kind.count (S.kind.counted result) self.new }
+        ensures watchers { self.new.watchers ≡ [] }
+        ensures any { self.new.to_wake.any ≡ true }
     {
         let count = self.count();
         self.wake_watchers();

@@ -1,7 +1,9 @@
 //! The next change of a state flow, as a future that is woken.
-ghost use Rattle.std.specs.Prelude.{◌≡◌, Some};
+ghost use Rattle.std.specs.Prelude.{◌≡◌, ⊤, Some};
+ghost use Rattle.futures.specs.Task.{Covers, Keeps};
+ghost use Rattle.futures.specs.Poll.{IfReady, OnPending};
 ghost use Rattle.flow_law.specs.StateFlow.{state_flow};
-ghost use Rattle.flow_shared.specs.Polling.{GivesChanged};
+ghost use Rattle.flow_shared.specs.Polling.{GivesChanged, PollsChange};
 
 use super::reader::StateReader;
 use flow_law::{FlowValue, OutOfMemory};
@@ -66,7 +68,16 @@ impl<'a, T: FlowValue, A: Allocator + Copy> Future for StateChangedFuture<'a, T,
     fn poll(
         &mut self,
         cx: &mut Context<'_>,
-    ) -> Poll<(StateReader<'a, T, A>, Result<T, OutOfMemory>)> {
+    ) -> Poll<(StateReader<'a, T, A>, Result<T, OutOfMemory>)>
+        ensures polls { PollsChange state_flow self.old result self.new }
+        // The clauses of the trait. A pending poll has left its waker, or asked to be polled again (`registered`).
+        ensures value { IfReady result (GivesChanged state_flow self.old) }
+        ensures again { OnPending result ⊤ }
+        ensures same { OnPending result ((x : _)
+            → GivesChanged state_flow self.new x → GivesChanged state_flow self.old x) }
+        ensures registered { OnPending result (Covers cx.new (λ _. ⊥)) }
+        ensures kept { Keeps cx.old cx.new }
+    {
         let mut reader = match self.reader.take() {
             Some(reader) => reader,
             None => return cx.yield_now(),

@@ -1,8 +1,9 @@
 //! The values of a reader, as a stream that is woken.
-ghost use Rattle.std.specs.Prelude.{◌≡◌, List, Option};
-ghost use Rattle.futures.specs.Poll.{OnPending};
-ghost use Rattle.futures.specs.Task.{IsArmed, Keeps};
-ghost use Rattle.flow_shared.specs.Polling.{PollsNext, Yields, polled_by};
+ghost use Rattle.std.specs.Prelude.{◌≡◌, ⊤, List, [], Option, IfSome, OnSome};
+ghost use Rattle.futures.specs.Poll.{IfReady, OnPending};
+ghost use Rattle.futures.specs.Runs.{After, Within};
+ghost use Rattle.futures.specs.Task.{Covers, IsArmed, Keeps};
+ghost use Rattle.flow_shared.specs.Polling.{PollsItem, PollsNext, Yields, polled_by};
 
 use super::reader::FlowReader;
 use flow_core::ReaderCalls;
@@ -98,7 +99,23 @@ impl<'a, S: ReaderCalls + Drop, A: Allocator + Copy> Stream for FlowValues<'a, S
 
     ghost yields = { λ s xs next. Yields S.kind s.flow s.subscription xs next };
 
-    fn poll_next(&mut self, cx: &mut Context<'_>) -> Poll<Option<Result<S::Item, OutOfMemory>>> {
+    fn poll_next(&mut self, cx: &mut Context<'_>) -> Poll<Option<Result<S::Item, OutOfMemory>>>
+        ensures flow { self.new.flow ≡ self.old.flow }
+        ensures polls { PollsItem S.kind self.old.flow
+            self.old.subscription result self.new.subscription }
+        // The clauses of the trait. A pending poll has left its waker, or asked to be polled again (`registered`).
+        ensures value { IfReady result (Yields S.kind self.old.flow self.old.subscription []) }
+        ensures rest { IfReady result (λ o. IfSome o (λ x.
+            After (Yields S.kind self.old.flow self.old.subscription) x
+            (Yields S.kind self.new.flow self.new.subscription))) }
+        ensures goes { IfReady result (λ o. OnSome o ⊤) }
+        ensures again { OnPending result ⊤ }
+        ensures same { OnPending result (Within
+            (Yields S.kind self.old.flow self.old.subscription)
+            (Yields S.kind self.new.flow self.new.subscription)) }
+        ensures registered { OnPending result (Covers cx.new (λ _. ⊥)) }
+        ensures kept { Keeps cx.old cx.new }
+    {
         match self.advance(cx) {
             Poll::Ready(received) => Poll::Ready(Some(received)),
             Poll::Pending => Poll::Pending,

@@ -1,5 +1,5 @@
 //! Emissions whose callers sleep while they wait.
-ghost use Rattle.std.specs.Prelude.{◌≡◌, ℕ, List, true, IfErr};
+ghost use Rattle.std.specs.Prelude.{◌≡◌, ◌⊎◌, ℕ, List, true, IfErr, Contains};
 ghost use Rattle.flow_law.specs.declared.call.SharedCall.TheVariants as call;
 ghost use Rattle.flow_law.specs.declared.call.SharedReply.TheVariants as reply;
 ghost use Rattle.flow_law.specs.SharedHistory.{shared_flow};
@@ -34,6 +34,7 @@ impl<T: FlowValue, A: Allocator + Copy> Attended<SharedCore<T, A>, A> {
             self.old.core number self.old.emitters self.new.emitters }
         ensures armed { W.is_armed waiter.new }
         ensures kept { W.keeps waiter.old waiter.new }
+        ensures listed { (W.asks_again waiter.new) ⊎ (Contains self.new.emitters number) }
     {
         if self.core.poll(number) {
             let _asleep: Poll<()> = self.emitters.sleep(waiter, number);

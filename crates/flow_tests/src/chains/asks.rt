@@ -4,8 +4,9 @@ ghost use Rattle.std.specs.Prelude.{⊤};
 use crate::chains::gives::{COLLECTIONS, begins_with};
 use crate::chains::inner::sum;
 use crate::compare::compare;
-use flow_cold::{Asked, Chain, Cold, OfRange, law_asks_left};
+use flow_cold::{Asked, Chain, ChainFault, Cold, OfRange, Terminal, law_asks_left};
 use std::cell::Cell;
+use std::process::Abort;
 
 /// A chain that counts how often it is asked.
 #[derive(Drop)]
@@ -72,6 +73,53 @@ fn a_scan_asks_once_less_than_it_gives(rt: HostRuntime) {
     let scanned = one_to_five(&asks).scan(0, sum);
     begins_with(&rt, rt.alloc(), 0, scanned, 3, &[0, 1, 3]);
     compare(&rt, 0, asks.get(), 2 * COLLECTIONS);
+}
+
+/// Compares the number of asks, and counts anew.
+fn asked(rt: &impl Abort, place: usize, asks: &Cell<u32>, wanted: u32) {
+    compare(rt, place, asks.get(), wanted);
+    asks.set(0);
+}
+
+/// `firstOrNull`, `any`, `all` and `singleOrNull` ask for nothing after the item that settles their answer.
+#[test]
+fn an_answer_ends_the_asks(rt: HostRuntime) {
+    let asks = Cell::new(0);
+    let mut chain = one_to_five(&asks);
+    compare(&rt, 0, chain.first(), Ok(Some(1)));
+    asked(&rt, 0, &asks, 1);
+    compare(&rt, 1, chain.first_where(|x| *x == 2), Ok(Some(2)));
+    asked(&rt, 1, &asks, 2);
+    compare(&rt, 2, chain.any(|x| *x == 3), Ok(true));
+    asked(&rt, 2, &asks, 3);
+    compare(&rt, 3, chain.all(|x| *x < 4), Ok(false));
+    asked(&rt, 3, &asks, 4);
+    compare(&rt, 4, chain.single(), Ok(None));
+    asked(&rt, 4, &asks, 2);
+}
+
+/// Returns the item, or a fault in place of 3.
+fn below_three(x: i64) -> Result<i64, ChainFault> {
+    if x == 3 {
+        Err(ChainFault::Source(9))
+    } else {
+        Ok(x)
+    }
+}
+
+#[test]
+fn a_fault_of_a_closure_ends_the_asks(rt: HostRuntime) {
+    let asks = Cell::new(0);
+    let mut chain = one_to_five(&asks);
+    let folded = chain.fold(0, |_, x| below_three(x));
+    compare(&rt, 0, folded, Err(ChainFault::Source(9)));
+    asked(&rt, 0, &asks, 3);
+    let reduced = chain.reduce(|_, x| below_three(x));
+    compare(&rt, 1, reduced, Err(ChainFault::Source(9)));
+    asked(&rt, 1, &asks, 3);
+    let visited = chain.for_each(|x| below_three(x).map(|_| ()));
+    compare(&rt, 2, visited, Err(ChainFault::Source(9)));
+    asked(&rt, 2, &asks, 3);
 }
 
 #[test]

@@ -1,8 +1,11 @@
 //! Operators whose items become lists or chains.
 
-use crate::chains::gives::gives;
+use crate::chains::gives::{gives, list};
 use flow_cold::{Chain, ChainFault, End, OfRange};
 use std::alloc::Global;
+
+/// Twice this number is out of range.
+const LARGE: i64 = 5_000_000_000_000_000_000;
 
 /// Returns the sum, or the fault `Overflow` if it is out of range.
 pub fn sum(x: i64, y: i64) -> Result<i64, ChainFault> {
@@ -55,4 +58,15 @@ fn items_become_chains_with_closures(rt: HostRuntime) {
         &[1, 2, 4, 3, 6, 9],
         End::Completed,
     );
+}
+
+/// The second product of the second item is out of range, so nothing comes of the third one.
+#[test]
+fn a_closure_of_an_inner_chain_fails(rt: HostRuntime) {
+    let alloc = rt.alloc();
+    let chain = list(&rt, alloc, &[1, LARGE, 3]).flat_map_concat(|x| {
+        Ok(OfRange::new(1, 2).map(move |y| x.checked_mul(y).ok_or(ChainFault::Overflow)))
+    });
+    let end = End::Failed(ChainFault::Overflow);
+    gives(&rt, alloc, 0, chain, &[1, 2, LARGE], end);
 }

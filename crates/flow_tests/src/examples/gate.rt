@@ -120,3 +120,12 @@ fn two_seats_meet_and_go_on(rt: HostRuntime) {
     meet_and_go_on(&rt, &gate, seat, other);
     had(&rt, gate.close(), 3);
 }
+
+/// A gate that no caller has entered gives its state to `close`, and to `close_with`.
+#[test]
+fn a_gate_that_was_never_entered_is_closed_in_two_ways(rt: HostRuntime) {
+    let (gate, _seat) = new_gate(&rt, rt.alloc());
+    had(&rt, gate.close(), 0);
+    let (gate, seat) = new_gate(&rt, rt.alloc());
+    had(&rt, gate.close_with(seat), 0);
+}

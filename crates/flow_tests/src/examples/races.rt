@@ -3,12 +3,11 @@ use crate::compare::compare;
 use crate::flows::{new_flow, new_reader};
 use crate::handle_calls::{next, try_emit};
 use crate::handles::emissions::{cancel, emission_of};
-use crate::start::Start;
 use flow_law::Config;
 use flow_shared::{BoundEmission, Emitter, Reader};
 use std::alloc::Global;
 use std::process::Abort;
-use std::sync::Wait;
+use std::sync::{Barrier, Wait};
 use std::thread::{Threads, join, yield_now};
 
 /// The least number of races.
@@ -19,8 +18,8 @@ const LEAST_RACES: u32 = 100;
 const MOST_RACES: u32 = 10_000;
 
 /// Waits until the other thread has begun. In every fourth run it then yields, so that the other thread can be first.
-fn begin(start: &Start, run: u32) {
-    start.wait();
+fn begin<R: Wait>(rt: &R, start: &Barrier, run: u32) {
+    let _order = start.wait(rt);
     if run % 4 == 0 {
         for _ in 0..20 {
             yield_now();
@@ -29,14 +28,14 @@ fn begin(start: &Start, run: u32) {
 }
 
 /// Reads once. Returns the value that the reader receives, if any.
-fn read<R: Wait>(rt: &R, start: &Start, run: u32, reader: &mut Reader<'_, i64>) -> Option<i64> {
-    begin(start, run);
+fn read<R: Wait>(rt: &R, start: &Barrier, run: u32, reader: &mut Reader<'_, i64>) -> Option<i64> {
+    begin(rt, start, run);
     next(rt, reader).unwrap_or(None)
 }
 
 /// Cancels the emission. Returns whether it waited until then.
-fn waited<R: Wait>(rt: &R, start: &Start, run: u32, emission: BoundEmission<'_, i64>) -> bool {
-    begin(start, run);
+fn waited<R: Wait>(rt: &R, start: &Barrier, run: u32, emission: BoundEmission<'_, i64>) -> bool {
+    begin(rt, start, run);
     cancel(rt, emission)
 }
 
@@ -49,7 +48,7 @@ fn read_beside_cancel<R: Threads + Wait + Abort + Sync>(
     value: i64,
 ) -> (Option<i64>, bool) {
     let emission = emission_of(rt, emitter, value);
-    let start = Start::new(2);
+    let start = Barrier::new(2);
     join(
         rt,
         || read(rt, &start, run, reader),

@@ -2,10 +2,12 @@
 ghost use Rattle.std.specs.Prelude.{◌≡◌};
 
 use crate::compare::compare;
+use crate::examples::subscribed::new_subscription;
 use crate::flows::{new_flow, new_state_flow};
 use crate::reading::set_and_read;
-use flow_law::Config;
-use flow_shared::{Seat, SharedFlow, StateFlow, StateSeat};
+use flow_law::Next::{Empty, Value};
+use flow_law::{Config, Next};
+use flow_shared::{Seat, SharedFlow, StateFlow, StateSeat, Subscription};
 use std::process::Abort;
 use std::sync::Wait;
 use std::thread::{Threads, join};
@@ -85,4 +87,38 @@ fn a_seat_goes_to_two_threads_in_turn(rt: HostRuntime) {
     let cache = core.replay_cache().expect(&rt, "memory");
     compare(&rt, 3, cache.as_slice(), [1, 2].as_slice());
     compare(&rt, 4, (core.subscription_count(), core.held()), (0, 2));
+}
+
+/// Lets the seat and the subscription meet, and takes the next two values.
+fn meet_and_read<R: Wait + Abort>(
+    rt: &R,
+    flow: &SharedFlow<i64>,
+    seat: Seat<i64>,
+    subscription: &mut Subscription<i64>,
+) -> [Next<i64>; 2]
+    requires seat { seat.table_id ≡ flow.now.table_id }
+    requires subscription { subscription.old.token.table_id ≡ flow.now.table_id }
+{
+    let mut seat = seat;
+    flow.meet_subscription(subscription, &mut seat);
+    let first = flow.next(rt, subscription).expect(rt, "memory");
+    [first, flow.next(rt, subscription).expect(rt, "memory")]
+}
+
+/// A thread emits 8 and ends. Its seat meets a subscription, which then receives 8.
+#[test]
+fn a_subscriber_that_met_a_thread_receives_its_value(rt: HostRuntime) {
+    let (flow, mut seat) = new_flow(&rt, rt.alloc(), Config::new().extra(4));
+    let mut subscription = new_subscription(&rt, &flow, &mut seat);
+    let seat = emit_on_a_thread(&rt, &flow, seat, 8);
+    let read = meet_and_read(&rt, &flow, seat, &mut subscription);
+    compare(&rt, 5, read, [Value(8), Empty]);
+}
+
+/// A state flow that no caller has changed gives its first value to `close`.
+#[test]
+fn a_closed_state_flow_has_its_first_value(rt: HostRuntime) {
+    let (flow, seat) = new_state_flow(&rt, rt.alloc(), 5, u64::MAX);
+    let core = flow.close(seat).expect(&rt, "no caller is inside");
+    compare(&rt, 6, core.value(), Ok(5));
 }

@@ -1,13 +1,12 @@
 //! Several threads on one flow.
 use crate::compare::compare;
-use crate::start::Start;
 use crate::word::caller::{Caller, Task};
 use crate::word::signals::Signals;
 use flow_law::FlowFault;
 use flow_word::WordState;
 use std::alloc::Global;
 use std::process::Abort;
-use std::sync::Wait;
+use std::sync::{Barrier, Wait};
 use std::thread::{Threads, for_each_mut};
 
 /// The number of numbers that the flow issues.
@@ -38,17 +37,16 @@ fn run<R: Abort + Threads + Wait + Sync>(
         maker.another(third),
         maker.another(fourth),
     ];
-    let start = Start::new(4);
+    let start = Barrier::new(4);
     for_each_mut(
         rt,
         &mut callers,
         4,
         &|_, caller| {
-            start.wait();
+            let _order = start.wait(rt);
             caller.run(rt, signals)
         },
     );
-    compare(rt, 100, start.is_kept(), true);
     let mut subscribed = 0u32;
     for caller in &callers {
         subscribed = subscribed.saturating_add(caller.subscribed);

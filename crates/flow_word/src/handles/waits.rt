@@ -3,15 +3,22 @@ ghost use Rattle.std.specs.Prelude.{◌≡◌, true, false, None};
 ghost use Rattle.std.specs.Fn.{FnReturnsAt};
 ghost use Rattle.futures.specs.Task.{IsArmed, Keeps};
 ghost use Rattle.flow_law.specs.StateFlow.{state_flow};
-ghost use Rattle.flow_word.specs.Receiving.{Receives, ReceivesInTime};
+ghost use Rattle.flow_word.specs.Handles.{ReaderOfWord};
+ghost use Rattle.flow_word.specs.Receiving.{FindsNone, Receives, ReceivesInTime};
 ghost use Rattle.flow_word.specs.WaitingFor.{Looks, ReceivesIf, ReceivesIfInTime};
 
 use super::reader::WordReader;
+use crate::sleepers::Sleeper;
 use flow_law::Packed;
 use flow_sleepers::Limit;
 use futures::task::Context;
 use std::sync::Wait;
 use std::time::{Clock, Duration};
+
+impl<'a, T: Packed> Sleeper for WordReader<'a, T> {
+    ghost has_looked = { λ before now. FindsNone state_flow
+        before.flow.first before.subscription now.subscription };
+}
 
 impl<'a, T: Packed> WordReader<'a, T> {
     /// Takes the value if it has changed.
@@ -31,14 +38,27 @@ impl<'a, T: Packed> WordReader<'a, T> {
             self.old.subscription result self.new.subscription }
     {
         let flow = self.flow;
-        let announced = flow.announce();
+        let announced = flow.readers.announce_caller(&*self);
         match self.look() {
             Some(value) => Some(value),
             None => {
-                announced.sleep(rt, most);
+                announced.sleep(rt, self, most);
                 None
             }
         }
+    }
+
+    /// Leaves the waker of the polled task, to be woken when the value changes. The task may sleep only if a further look
+    /// finds nothing.
+    fn leave_waker(&mut self, cx: &mut Context<'_>)
+        ensures same { self.new ≡ self.old }
+        ensures armed { (now : ReaderOfWord T) → FindsNone state_flow self.old.flow.first
+            self.old.subscription now.subscription → IsArmed cx.new }
+        ensures kept { Keeps cx.old cx.new }
+    {
+        let flow = self.flow;
+        let number = self.subscription.note_waker();
+        flow.readers.leave_waker(cx, number, &*self);
     }
 
     /// Takes the value if it has changed. If it has not, leaves the waker of the polled task, and looks once more.
@@ -53,8 +73,7 @@ impl<'a, T: Packed> WordReader<'a, T> {
             Some(value) => return Some(value),
             None => {}
         }
-        let flow = self.flow;
-        flow.leave_waker(cx, &self.subscription);
+        self.leave_waker(cx);
         self.look()
     }
 

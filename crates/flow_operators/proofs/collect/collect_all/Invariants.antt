@@ -4,6 +4,7 @@ use Rattle.flow_operators.proofs.collect.collect_all.Given as goal
 
 abbrev pub invariant-loop-item : goal.invariant-loop-item
 invariant-loop-item g l = record {
+  lasting : g.C.Cold.IsGiven l.fn.chain → g.C.Cold.IsGiven l.chain;
   callable : g.C.Cold.CanAsk l.chain;
   reads : (m : _) → g.C.Cold.Reads l.fn.chain m → g.C.Cold.Reads l.chain m;
   whole : (m : _) → g.C.Cold.whole l.chain m ≡ g.C.Cold.whole l.fn.chain m;

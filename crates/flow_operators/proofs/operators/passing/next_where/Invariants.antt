@@ -8,6 +8,7 @@ use Rattle.flow_operators.proofs.operators.passing.next_where.Given as goal
 
 abbrev pub invariant-loop-item : goal.invariant-loop-item
 invariant-loop-item g l = record {
+  lasting : g.C.Cold.IsGiven (chain_of l.fn.upstream) → g.C.Cold.IsGiven (chain_of l.upstream);
   callable : g.C.Cold.CanAsk (chain_of l.upstream);
   ended : is_ended l.upstream ≡ is_ended l.fn.upstream;
   over : is_ended l.fn.upstream ≡ true → l.upstream ≡ l.fn.upstream;

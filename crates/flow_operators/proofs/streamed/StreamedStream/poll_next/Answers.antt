@@ -21,5 +21,12 @@ returns-in-Fault g c = record {
   same = grind (arith, common_steps);
   registered = grind (arith, common_steps);
   kept = grind (arith, common_steps);
+  reads = grind (arith, common_steps);
+  gives = grind (arith, common_steps);
+  lasting = grind (arith, common_steps);
+  given = grind (arith, common_steps);
+  fewer = grind (arith, common_steps);
+  over = grind (arith, common_steps);
+  end = grind (arith, common_steps);
   answered = grind (arith, common_steps);
 }

@@ -1,10 +1,12 @@
-use Rattle.std.proofs.Common.{arith, ◌∙◌}
+use Rattle.std.proofs.Common.{◌≡◌, ◌+◌, ◌^◌, arith, inr, ◌∙◌}
 use Rattle.std.proofs.lemmas.Grind.{common_steps}
+use Rattle.flow_operators.proofs.StoppingLemmas.{overflows}
 use Rattle.flow_operators.proofs.TerminalLemmas.{reaches-next}
 use Rattle.flow_operators.proofs.terminal.Terminal.count.Goals as goal
 
 pub loop-next-preserved-in-Some-checked_add : goal.loop-next-preserved-in-Some-checked_add
 loop-next-preserved-in-Some-checked_add g c = record {
+  lasting = λ given. c.next_item.ensures.lasting (c.loop-next.invariant.lasting given);
   callable = c.next_item.ensures.callable;
   reads = λ m r. c.next_item.ensures.reads m (c.loop-next.invariant.reads m r);
   whole = λ m. c.next_item.ensures.whole m ∙ c.loop-next.invariant.whole m;
@@ -23,7 +25,21 @@ pub returns-in_err-next_item : goal.returns-in_err-next_item
 returns-in_err-next_item g c = grind (arith, common_steps)
 
 pub returns-in-None-checked_add : goal.returns-in-None-checked_add
-returns-in-None-checked_add g c = grind (arith, common_steps)
+returns-in-None-checked_add g c = record {
+  lasting = grind (arith, common_steps);
+  given = grind (arith, common_steps);
+  callable = grind (arith, common_steps);
+  reads = grind (arith, common_steps);
+  whole = grind (arith, common_steps);
+  counts = grind (arith, common_steps);
+  over = grind (arith, common_steps);
+  stands = inr (λ m r.
+      let full : c.loop-next.count + 1 ≡ 2 ^ 64 = grind (arith, common_steps) in
+      let gives = rw c.in-Some.is at (c.in_ok-next_item.ensures.gives m (c.loop-next.invariant.reads m r)) in
+      overflows c.loop-next.count c.in-Some.field-0 (g.Self.Cold.whole c.args.self.now m) (g.Self.Cold.rest c.loop-next.self m) (g.Self.Cold.rest c.next_item.new.chain m) full
+      (c.loop-next.invariant.count m r) (c.loop-next.invariant.stands m r) gives);
+  answered = grind (arith, common_steps);
+}
 
 pub returns-in-None : goal.returns-in-None
 returns-in-None g c = grind (arith, common_steps)

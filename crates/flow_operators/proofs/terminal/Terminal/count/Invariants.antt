@@ -5,6 +5,7 @@ use Rattle.flow_operators.proofs.terminal.Terminal.count.Given as goal
 
 abbrev pub invariant-loop-next : goal.invariant-loop-next
 invariant-loop-next g l = record {
+  lasting : g.Self.Cold.IsGiven l.fn.self → g.Self.Cold.IsGiven l.self;
   callable : g.Self.Cold.CanAsk l.self;
   reads : (m : _) → g.Self.Cold.Reads l.fn.self m → g.Self.Cold.Reads l.self m;
   whole : (m : _) → g.Self.Cold.whole l.self m ≡ g.Self.Cold.whole l.fn.self m;

@@ -1,19 +1,22 @@
 use Rattle.std.proofs.Common.{◌≡◌}
 use denote.Param.Always.{always_mut}
+use Rattle.flow_law.specs.declared.chain.ChainFault.{ChainFault}
 use Rattle.flow_law.specs.ChainRun.{items, ending}
-use Rattle.flow_operators.specs.Collecting.{Reaches}
+use Rattle.flow_operators.specs.Stopping.{StandsAfterVisited}
 use Rattle.flow_operators.specs.Terminal.{Visits}
 use Rattle.flow_operators.proofs.terminal.Terminal.for_each.Given as goal
 
 abbrev pub invariant-loop-item : goal.invariant-loop-item
 invariant-loop-item g l = record {
+  lasting : g.Self.Cold.IsGiven l.fn.self → g.Self.Cold.IsGiven l.self;
   callable : g.Self.Cold.CanAsk l.self;
   reads : (m : _) → g.Self.Cold.Reads l.fn.self m → g.Self.Cold.Reads l.self m;
   whole : (m : _) → g.Self.Cold.whole l.self m ≡ g.Self.Cold.whole l.fn.self m;
   visiting : always_mut g.F.FnMut l.visit;
   visits : (m : _) → g.Self.Cold.Reads l.fn.self m → (r : _) → Visits (λ f x r h. goal.F-step g f x r h) l.visit (items (g.Self.Cold.rest l.self m)) (ending (g.Self.Cold.rest l.self m)) r
       → Visits (λ f x r h. goal.F-step g f x r h) l.fn.visit (items (g.Self.Cold.whole l.fn.self m)) (ending (g.Self.Cold.whole l.fn.self m)) r;
-  stands : (m : _) → g.Self.Cold.Reads l.fn.self m → Reaches (g.Self.Cold.whole l.fn.self m) (g.Self.Cold.rest l.self m);
+  stands : (m : _) → g.Self.Cold.Reads l.fn.self m → (fault : ChainFault) (after : _) → StandsAfterVisited (λ f x r h. goal.F-step g f x r h) fault l.visit (g.Self.Cold.rest l.self m) after
+      → StandsAfterVisited (λ f x r h. goal.F-step g f x r h) fault l.fn.visit (g.Self.Cold.whole l.fn.self m) after;
 }
 
 abbrev pub decreases-loop-item : goal.decreases-loop-item

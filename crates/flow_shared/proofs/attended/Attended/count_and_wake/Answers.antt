@@ -3,8 +3,8 @@ use Rattle.std.specs.Prelude.{All}
 use Rattle.flow_law.specs.Sleeping.{FindsNothing}
 use Rattle.flow_shared.proofs.attended.Attended.count_and_wake.Goals as goal
 
-pub returns : goal.returns
-returns g c = λ s at.
+pub returns-clause-documented : goal.returns-clause-documented
+returns-clause-documented g c = λ s at.
     let kind = g.S.FlowCore.kind in
     let sleeping = g.S.FlowCore.sleeping in
     let after = kind.after s kind.count (kind.counted c.count-count.result) in

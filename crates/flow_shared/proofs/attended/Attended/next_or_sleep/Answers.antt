@@ -1,4 +1,5 @@
-use Rattle.std.proofs.Common.{[], subst, Ok}
+use Rattle.std.proofs.Common.{[], ◌⊎◌, subst, Ok}
+use Rattle.std.specs.Prelude.{Contains}
 use Rattle.flow_law.specs.declared.outcome.Next.TheVariants.{Empty}
 use Rattle.flow_law.specs.History.{replied}
 use Rattle.flow_law.specs.Sleeping.{FindsNothing}
@@ -37,3 +38,10 @@ returns-in-Ok-Gone-clause-documented g c =
 
 pub returns-in-Err-clause-documented : goal.returns-in-Err-clause-documented
 returns-in-Err-clause-documented g c = c.in-Err.ensures.documented []
+
+pub returns-in-Ok-Value-clause-listed : goal.returns-in-Ok-Value-clause-listed
+returns-in-Ok-Value-clause-listed g c = λ is. absurd (cc)
+
+pub returns-in-Ok-Empty-clause-listed : goal.returns-in-Ok-Empty-clause-listed
+returns-in-Ok-Empty-clause-listed g c = λ is.
+    subst (λ n. g.W.Waiter.asks_again c.sleep-asleep.new.waiter ⊎ Contains c.sleep-asleep.new.self n) c.number.ensures c.sleep-asleep.ensures.listed

@@ -1,6 +1,6 @@
 use Rattle.std.proofs.Common.{Ok, sym, subst}
-use Rattle.flow_turns.specs.TurnClauses.{TakesTurn}
-use Rattle.flow_turns.proofs.RunLemmas.{run-begins, run-goes_on, run-refused}
+use Rattle.flow_turns.specs.TurnClauses.{TakesTurn, TakesSomeTurn}
+use Rattle.flow_turns.proofs.RunLemmas.{run-begins, run-goes_on, run-refused, run-refused-some}
 use Rattle.flow_turns.proofs.sharing.Sharing.run_to_end.Goals as goal
 
 pub loop-init : goal.loop-init
@@ -12,14 +12,32 @@ loop-preserved g c = (tt, tt, run-goes_on c.in-Ok.report c.loop.invariant.2 c.re
 pub returns-in-Err-clause-turns : goal.returns-in-Err-clause-turns
 returns-in-Err-clause-turns g c = run-refused _ c.loop.invariant.2 c.in-Err.ensures.turn
 
+pub returns-in-Err-clause-any_turns : goal.returns-in-Err-clause-any_turns
+returns-in-Err-clause-any_turns g c = run-refused-some _ c.loop.invariant.2 c.in-Err.ensures.turn
+
 pub returns-in-Completed-clause-turns : goal.returns-in-Completed-clause-turns
 returns-in-Completed-clause-turns g c = λ m r.
-    let told = c.in-Ok.ensures.turn m (c.loop.invariant.2.kept m r) in
+    let told = c.in-Ok.ensures.turn in
     record {
       between = c.loop.self;
       turns = c.loop.invariant.2.turns m r;
-      now = told.0;
+      now = told.now;
+      later = told.later;
       report = c.in-Ok.report;
-      last = subst (TakesTurn (λ x. g.C.Cold.whole x m) (λ x. g.C.Cold.rest x m) g.H.Hub.does g.H.Hub.waits told.0 c.loop.self (Ok c.in-Ok.report)) (sym c.unwatch.ensures) told.1;
+      last = subst (TakesTurn (λ x. g.C.Cold.whole x m) (λ x. g.C.Cold.rest x m) g.H.Hub.does g.H.Hub.waits told.now c.loop.self (Ok c.in-Ok.report)) (sym c.unwatch.ensures)
+          (told.read m (c.loop.invariant.2.kept m r));
+      completed = c.in-Completed.is;
+    }
+
+pub returns-in-Completed-clause-any_turns : goal.returns-in-Completed-clause-any_turns
+returns-in-Completed-clause-any_turns g c =
+    let told = c.in-Ok.ensures.turn in
+    record {
+      between = c.loop.self;
+      turns = c.loop.invariant.2.some;
+      now = told.now;
+      later = told.later;
+      report = c.in-Ok.report;
+      last = subst (TakesSomeTurn g.H.Hub.does g.H.Hub.waits told.now c.loop.self (Ok c.in-Ok.report)) (sym c.unwatch.ensures) told.some;
       completed = c.in-Completed.is;
     }

@@ -2,43 +2,44 @@ use Rattle.std.proofs.Common.{◌≡◌, None, refl, sym, ◌∙◌}
 use Rattle.flow_law.specs.declared.chain.End.TheVariants.{Completed as AtEnd, Failed}
 use Rattle.flow_law.specs.declared.report.Event.TheVariants.{Pending, Completed}
 use Rattle.flow_law.specs.SharingCalls.{item, pending, end}
-use Rattle.flow_turns.specs.SharingViews.{state_of, chain_and_hub}
-use Rattle.flow_turns.proofs.StepLemmas.{same-parts, event-is-no-end, fault-is-no-end, puts-kept, asks-chain}
+use Rattle.flow_turns.specs.SharingViews.{state_of}
+use Rattle.flow_turns.specs.TurnParts.{parts_of}
+use Rattle.flow_turns.proofs.StepLemmas.{event-is-no-end, fault-is-no-end, puts-kept, asks-chain}
 use Rattle.flow_turns.proofs.sharing.Sharing.send.Goals as goal
 
 pub returns-in-Some-clause-steps : goal.returns-in-Some-clause-steps
-returns-in-Some-clause-steps g c = λ m r command seen.
-    puts-kept _ _ _ _ command seen (state_of c.args.self.now) c.in-Some.item (sym c.take.ensures.value ∙ c.in-Some.is) (c.put.ensures.steps m r command seen)
+returns-in-Some-clause-steps g c = λ command seen.
+    puts-kept _ _ _ _ command seen (state_of c.args.self.now) c.in-Some.item (sym c.take.ensures.value ∙ c.in-Some.is) (c.put.ensures.steps command seen)
 
 pub returns-in-Item-clause-steps : goal.returns-in-Item-clause-steps
-returns-in-Item-clause-steps g c = λ m r command seen.
-    asks-chain _ _ _ _ command seen (state_of c.args.self.now) (chain_and_hub (λ x. g.C.Cold.whole x m) (λ x. g.C.Cold.rest x m) (record c.args.self.now { chain = c.ask_chain.new.chain })) (item c.in-Item.item)
+returns-in-Item-clause-steps g c = λ command seen.
+    asks-chain _ _ _ _ command seen (state_of c.args.self.now) (parts_of (record c.args.self.now { chain = c.ask_chain.new.chain })) (item c.in-Item.item)
     (sym c.take.ensures.value ∙ c.in_default.is)
-    (c.in-Item.ensures.gives m r, same-parts _ _ _ _ _ (c.in-Item.ensures.whole m) refl)
-    (c.put-in-Item.ensures.steps m (c.ask_chain.ensures.reads m r) command seen)
+    ((λ m r. ((c.ask_chain.ensures.reads m r, c.in-Item.ensures.whole m), c.in-Item.ensures.gives m r)), refl)
+    (c.put-in-Item.ensures.steps command seen)
 
 pub returns-in-Pending-clause-steps : goal.returns-in-Pending-clause-steps
-returns-in-Pending-clause-steps g c = λ m r command seen.
+returns-in-Pending-clause-steps g c = λ command seen.
     let none : c.args.self.now.kept ≡ None = sym c.take.ensures.value ∙ c.in_default.is in
-    asks-chain _ _ _ _ command seen (state_of c.args.self.now) (chain_and_hub (λ x. g.C.Cold.whole x m) (λ x. g.C.Cold.rest x m) (record c.args.self.now { chain = c.ask_chain.new.chain })) pending
+    asks-chain _ _ _ _ command seen (state_of c.args.self.now) (parts_of (record c.args.self.now { chain = c.ask_chain.new.chain })) pending
     none
-    (c.in-Pending.ensures.gives m r, same-parts _ _ _ _ _ (c.in-Pending.ensures.whole m) refl)
+    ((λ m r. ((c.ask_chain.ensures.reads m r, c.in-Pending.ensures.whole m), c.in-Pending.ensures.gives m r)), refl)
     (rw (c.take.ensures.after, none) refl, refl)
 
 pub returns-in-End-clause-steps : goal.returns-in-End-clause-steps
-returns-in-End-clause-steps g c = λ m r command seen.
+returns-in-End-clause-steps g c = λ command seen.
     let none : c.args.self.now.kept ≡ None = sym c.take.ensures.value ∙ c.in_default.is in
-    asks-chain _ _ _ _ command seen (state_of c.args.self.now) (chain_and_hub (λ x. g.C.Cold.whole x m) (λ x. g.C.Cold.rest x m) (record c.args.self.now { chain = c.ask_chain.new.chain })) (end AtEnd)
+    asks-chain _ _ _ _ command seen (state_of c.args.self.now) (parts_of (record c.args.self.now { chain = c.ask_chain.new.chain })) (end AtEnd)
     none
-    (c.in-End.ensures.gives m r, same-parts _ _ _ _ _ (c.in-End.ensures.whole m) refl)
+    ((λ m r. ((c.ask_chain.ensures.reads m r, c.in-End.ensures.whole m), c.in-End.ensures.gives m r)), refl)
     (rw (c.take.ensures.after, none) refl, refl)
 
 pub returns-in-Fault-clause-steps : goal.returns-in-Fault-clause-steps
-returns-in-Fault-clause-steps g c = λ m r command seen.
+returns-in-Fault-clause-steps g c = λ command seen.
     let none : c.args.self.now.kept ≡ None = sym c.take.ensures.value ∙ c.in_default.is in
-    asks-chain _ _ _ _ command seen (state_of c.args.self.now) (chain_and_hub (λ x. g.C.Cold.whole x m) (λ x. g.C.Cold.rest x m) (record c.args.self.now { chain = c.ask_chain.new.chain })) (end (Failed c.in-Fault.fault))
+    asks-chain _ _ _ _ command seen (state_of c.args.self.now) (parts_of (record c.args.self.now { chain = c.ask_chain.new.chain })) (end (Failed c.in-Fault.fault))
     none
-    (c.in-Fault.ensures.gives m r, same-parts _ _ _ _ _ (c.in-Fault.ensures.whole m) refl)
+    ((λ m r. ((c.ask_chain.ensures.reads m r, c.in-Fault.ensures.whole m), c.in-Fault.ensures.gives m r)), refl)
     (rw (c.take.ensures.after, none) refl, refl)
 
 pub returns-in-Some-clause-not_ended : goal.returns-in-Some-clause-not_ended

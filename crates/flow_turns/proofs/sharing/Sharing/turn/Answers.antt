@@ -1,74 +1,63 @@
-use Rattle.std.proofs.Common.{◌≡◌, [], ◌∷◌, List, Result, Ok, Err, inl, inr, refl, sym, ap, ◌∙◌, subst}
+use Rattle.std.proofs.Common.{◌≡◌, [], ◌∷◌, Result, Err, inl, inr, refl, sym, ap, ◌∙◌, subst}
 use Rattle.flow_law.specs.declared.sharing.Command.{Command}
 use Rattle.flow_law.specs.declared.sharing.Command.TheVariants.{Keep}
 use Rattle.flow_law.specs.declared.sharing.SharingObservation.{SharingObservation}
 use Rattle.flow_law.specs.declared.report.Report.{Report}
 use Rattle.flow_law.specs.declared.report.ShareFault.{ShareFault}
 use Rattle.flow_law.specs.declared.report.ShareFault.TheVariants.{Backwards, Ended}
-use Rattle.flow_law.specs.Sharing.{newest_command}
-use Rattle.flow_law.specs.Steps.{Takes}
-use Rattle.flow_law.specs.SharingCalls.{CallDoes, HubStep}
-use Rattle.flow_law.specs.SharingTurn.{SharingState, Turned, refusal, reported, begin}
+use Rattle.flow_law.specs.SharingCalls.{HubStep}
+use Rattle.flow_law.specs.SharingTurn.{SharingState, Turned, refusal, reported}
 use Rattle.flow_law.specs.TurnMeaning.{TurnResets}
 use Rattle.flow_law.proofs.TurnMeaningLemmas.{turn-means}
 use Rattle.flow_law.proofs.TurnResetLemmas.{uncounted-resets, uncalled-resets, unobserved-resets, begun-resets}
 use Rattle.flow_law.proofs.TurnQuietLemmas.{turn-quiet}
 use Rattle.flow_turns.specs.Policy.{HasSeen}
-use Rattle.flow_turns.specs.SharingViews.{state_of, chain_and_hub}
+use Rattle.flow_turns.specs.SharingViews.{state_of}
 use Rattle.flow_turns.specs.TurnClauses.{WasCommanded}
-use Rattle.flow_turns.proofs.StepLemmas.{if-true, same-end, counts-hub, observes-count, goes-back, refused-answered, report-answered}
+use Rattle.flow_turns.specs.TurnParts.{parts_of}
+use Rattle.flow_turns.proofs.StepLemmas.{ended-turn, uncounted-turn, backwards-turn, observed-turn, refused-answered, report-answered}
+use Rattle.flow_turns.proofs.ReadLemmas.{read-turn, unread-turn, unread-begin}
 use Rattle.flow_turns.proofs.sharing.Sharing.turn.Goals as goal
 
 pub returns-then-self-clause-turn : goal.returns-then-self-clause-turn
-returns-then-self-clause-turn g c = λ m r started seen stands.
-    let s = state_of c.args.self.now in
-    let both = chain_and_hub (λ x. g.C.Cold.whole x m) (λ x. g.C.Cold.rest x m) c.args.self.now in
-    let r : Turned g.row.C-Item.Denot = record { answer = Err Ended; seen = seen; state = s } in
-    (seen, stands, if-true (λ steps. Takes (CallDoes (HubStep g.H.Hub.does g.H.Hub.waits)) steps both r both) s.ended _ _ c.if-self.true (refl, refl))
+returns-then-self-clause-turn g c =
+    read-turn g.C.Cold.Reads g.C.Cold.whole g.C.Cold.rest g.H.Hub.does g.H.Hub.waits c.args.now (Err Ended) c.args.self.now c.args.self.now
+    (ended-turn _ c.args.now c.args.self.now c.if-self.true)
+
+pub returns-then-self-clause-any_turn : goal.returns-then-self-clause-any_turn
+returns-then-self-clause-any_turn g c =
+    unread-turn g.C.Cold.Reads g.C.Cold.whole g.C.Cold.rest g.H.Hub.does g.H.Hub.waits c.args.now (Err Ended) c.args.self.now c.args.self.now
+    (ended-turn _ c.args.now c.args.self.now c.if-self.true)
 
 pub returns-in-Err-clause-turn : goal.returns-in-Err-clause-turn
-returns-in-Err-clause-turn g c = λ m r started seen stands. (
-  seen,
-  rw c.counted.ensures.policy stands,
-  counts-hub _ _ _ _ started c.args.now seen (state_of c.args.self.now) (chain_and_hub (λ x. g.C.Cold.whole x m) (λ x. g.C.Cold.rest x m) c.counted.new.self) (Err c.in-Err.fault)
-      c.if-self.false (c.in-Err.ensures.counts m)
-      (same-end seen _ _ _ _ (c.report_of.ensures ∙ ap (reported Keep) c.refusal_of.ensures) c.in-Err.ensures.state, refl),
-)
+returns-in-Err-clause-turn g c =
+    read-turn g.C.Cold.Reads g.C.Cold.whole g.C.Cold.rest g.H.Hub.does g.H.Hub.waits c.args.now c.report_of.result c.args.self.now c.counted.new.self
+    (uncounted-turn _ c.args.now c.args.self.now c.counted.new.self c.if-self.false c.counted.ensures.policy c.in-Err.ensures.state c.in-Err.fault c.report_of.result c.in-Err.ensures.counts (c.report_of.ensures ∙ ap (reported Keep) c.refusal_of.ensures))
+
+pub returns-in-Err-clause-any_turn : goal.returns-in-Err-clause-any_turn
+returns-in-Err-clause-any_turn g c =
+    unread-turn g.C.Cold.Reads g.C.Cold.whole g.C.Cold.rest g.H.Hub.does g.H.Hub.waits c.args.now c.report_of.result c.args.self.now c.counted.new.self
+    (uncounted-turn _ c.args.now c.args.self.now c.counted.new.self c.if-self.false c.counted.ensures.policy c.in-Err.ensures.state c.in-Err.fault c.report_of.result c.in-Err.ensures.counts (c.report_of.ensures ∙ ap (reported Keep) c.refusal_of.ensures))
 
 pub returns-in-Err-observe-clause-turn : goal.returns-in-Err-observe-clause-turn
-returns-in-Err-observe-clause-turn g c = λ m r started seen stands.
-    let held : HasSeen started c.counted.new.self.policy seen = rw c.counted.ensures.policy stands in
-    let told = c.in-Err-observe.ensures.observes started seen held in
-    let mid = chain_and_hub (λ x. g.C.Cold.whole x m) (λ x. g.C.Cold.rest x m) c.counted.new.self in (
-      seen,
-      rw c.in-Err-observe.ensures.unchanged held,
-      counts-hub _ _ _ _ started c.args.now seen (state_of c.args.self.now) mid (Ok c.in-Ok.count)
-          c.if-self.false (c.in-Ok.ensures.counts m)
-          (goes-back _ mid mid _ started c.args.now seen (state_of c.args.self.now) c.in-Ok.count told.0
-          (same-end seen _ _ _ _ (ap (λ last. Err (Backwards last)) told.1) (rw c.in-Err-observe.ensures.unchanged c.in-Ok.ensures.state)) refl),
-    )
+returns-in-Err-observe-clause-turn g c =
+    read-turn g.C.Cold.Reads g.C.Cold.whole g.C.Cold.rest g.H.Hub.does g.H.Hub.waits c.args.now (Err (Backwards c.in-Err-observe.backwards.last)) c.args.self.now (record c.counted.new.self { policy = c.observe.new.self })
+    (backwards-turn _ c.args.now c.args.self.now c.counted.new.self c.if-self.false c.counted.ensures.policy c.in-Ok.ensures.state c.in-Ok.count c.in-Err-observe.backwards c.observe.new.self c.in-Ok.ensures.counts c.in-Err-observe.ensures.observes c.in-Err-observe.ensures.unchanged)
+
+pub returns-in-Err-observe-clause-any_turn : goal.returns-in-Err-observe-clause-any_turn
+returns-in-Err-observe-clause-any_turn g c =
+    unread-turn g.C.Cold.Reads g.C.Cold.whole g.C.Cold.rest g.H.Hub.does g.H.Hub.waits c.args.now (Err (Backwards c.in-Err-observe.backwards.last)) c.args.self.now (record c.counted.new.self { policy = c.observe.new.self })
+    (backwards-turn _ c.args.now c.args.self.now c.counted.new.self c.if-self.false c.counted.ensures.policy c.in-Ok.ensures.state c.in-Ok.count c.in-Err-observe.backwards c.observe.new.self c.in-Ok.ensures.counts c.in-Err-observe.ensures.observes c.in-Err-observe.ensures.unchanged)
 
 pub returns-clause-turn : goal.returns-clause-turn
-returns-clause-turn g c = λ m r started seen stands.
-    let held : HasSeen started c.counted.new.self.policy seen = rw c.counted.ensures.policy stands in
-    let told = c.in-Ok-observe.ensures.observes started seen held in
-    let all : List SharingObservation = record { moment = c.args.now; count = c.in-Ok.count } ∷ seen in
-    let mid = chain_and_hub (λ x. g.C.Cold.whole x m) (λ x. g.C.Cold.rest x m) c.counted.new.self in
-    let last = chain_and_hub (λ x. g.C.Cold.whole x m) (λ x. g.C.Cold.rest x m) c.carry_out-outcome.new.self in
-    let D = CallDoes (HubStep g.H.Hub.does g.H.Hub.waits) in
-    let P : SharingState g.row.C-Item.Denot → Type 0 = λ s.
-    Takes D (begin all c.in-Ok-observe.command s) mid (record { answer = reported c.in-Ok-observe.command c.carry_out-outcome.result; seen = all; state = state_of c.carry_out-outcome.new.self }) last in
-    let Q : Command → Type 0 = λ command.
-    Takes D (begin all command (state_of c.args.self.now)) mid (record { answer = reported c.in-Ok-observe.command c.carry_out-outcome.result; seen = all; state = state_of c.carry_out-outcome.new.self }) last in
-    let R : Turned g.row.C-Item.Denot → Type 0 = λ r. Takes D (begin all (newest_command started all) (state_of c.args.self.now)) mid r last in
-    let begun : P (state_of c.counted.new.self) = c.carry_out-outcome.ensures.steps m (c.counted.ensures.reads m r) all c.counted.new.self.policy.running c.in-Ok-observe.ensures.runs in (
-      all,
-      rw c.carry_out-outcome.ensures.policy told.2,
-      counts-hub _ _ _ _ started c.args.now seen (state_of c.args.self.now) mid (Ok c.in-Ok.count)
-          c.if-self.false (c.in-Ok.ensures.counts m)
-          (observes-count D mid last _ started c.args.now seen (state_of c.args.self.now) c.in-Ok.count told.0
-          (subst R (sym (same-end all _ _ _ _ c.report_of-2.ensures refl)) (subst Q told.1 (subst P c.in-Ok.ensures.state begun)))),
-    )
+returns-clause-turn g c =
+    read-turn g.C.Cold.Reads g.C.Cold.whole g.C.Cold.rest g.H.Hub.does g.H.Hub.waits c.args.now c.report_of-2.result c.args.self.now c.carry_out-outcome.new.self
+    (observed-turn _ c.args.now c.args.self.now c.counted.new.self c.if-self.false c.counted.ensures.policy c.in-Ok.ensures.state c.in-Ok.count c.in-Ok-observe.command c.observe.new.self c.carry_out-outcome.result c.report_of-2.result c.carry_out-outcome.new.self c.in-Ok.ensures.counts c.in-Ok-observe.ensures.observes c.in-Ok-observe.ensures.runs c.carry_out-outcome.ensures.steps c.carry_out-outcome.ensures.policy c.report_of-2.ensures)
+
+pub returns-clause-any_turn : goal.returns-clause-any_turn
+returns-clause-any_turn g c =
+    unread-turn g.C.Cold.Reads g.C.Cold.whole g.C.Cold.rest g.H.Hub.does g.H.Hub.waits c.args.now c.report_of-2.result c.args.self.now c.carry_out-outcome.new.self
+    (observed-turn _ c.args.now c.args.self.now c.counted.new.self c.if-self.false c.counted.ensures.policy c.in-Ok.ensures.state c.in-Ok.count c.in-Ok-observe.command c.observe.new.self c.carry_out-outcome.result c.report_of-2.result c.carry_out-outcome.new.self c.in-Ok.ensures.counts c.in-Ok-observe.ensures.observes c.in-Ok-observe.ensures.runs c.carry_out-outcome.ensures.steps c.carry_out-outcome.ensures.policy c.report_of-2.ensures)
 
 pub returns-clause-means : goal.returns-clause-means
 returns-clause-means g c = λ m r started seen accepted stands between held.
@@ -84,11 +73,12 @@ pub returns-clause-quiet : goal.returns-clause-quiet
 returns-clause-quiet g c = λ m r started seen stands quiet.
     let turn = returns-clause-turn g c m r started seen stands in turn-quiet g.H.Hub.does g.H.Hub.waits started c.args.now seen _ _ _ _ quiet turn.2
 
-pub returns-clause-resets : goal.returns-clause-resets
-returns-clause-resets g c = λ m r.
+pub returns-clause-any_resets : goal.returns-clause-any_resets
+returns-clause-any_resets g c =
     let D = HubStep g.H.Hub.does g.H.Hub.waits in
-    let mid = chain_and_hub (λ x. g.C.Cold.whole x m) (λ x. g.C.Cold.rest x m) c.counted.new.self in
-    let last = chain_and_hub (λ x. g.C.Cold.whole x m) (λ x. g.C.Cold.rest x m) c.carry_out-outcome.new.self in
+    let turned : Turned g.row.C-Item.Denot = record { answer = reported c.in-Ok-observe.command c.carry_out-outcome.result; seen = []; state = state_of c.carry_out-outcome.new.self } in
+    let over = unread-begin g.C.Cold.Reads g.C.Cold.whole g.C.Cold.rest g.H.Hub.does g.H.Hub.waits [] c.in-Ok-observe.command (state_of c.counted.new.self)
+    (parts_of c.counted.new.self) (parts_of c.carry_out-outcome.new.self) turned (c.carry_out-outcome.ensures.steps [] c.counted.new.self.policy.running c.in-Ok-observe.ensures.runs) in
     let Is : Command → Type 0 = WasCommanded c.args.self.now c.carry_out-outcome.new.self in
     let is : Is c.in-Ok-observe.command = λ started seen stands.
     let held : HasSeen started c.counted.new.self.policy seen = rw c.counted.ensures.policy stands in
@@ -100,10 +90,10 @@ returns-clause-resets g c = λ m r.
     let Q : Result Report ShareFault → Type 0 = λ answer.
     TurnResets D Is (state_of c.args.self.now) c.args.self.now.hub answer (state_of c.carry_out-outcome.new.self) c.carry_out-outcome.new.self.hub in
     subst Q (sym c.report_of-2.ensures) (subst P c.in-Ok.ensures.state
-    (begun-resets D c.args.self.now.hub (state_of c.counted.new.self) Is [] c.in-Ok-observe.command mid last
-    (record { answer = reported c.in-Ok-observe.command c.carry_out-outcome.result; seen = []; state = state_of c.carry_out-outcome.new.self })
-    is (c.in-Ok.count, (c.in-Ok.ensures.counts m).0)
-    (c.carry_out-outcome.ensures.steps m (c.counted.ensures.reads m r) [] c.counted.new.self.policy.running c.in-Ok-observe.ensures.runs)))
+    (begun-resets D c.args.self.now.hub (state_of c.counted.new.self) Is [] c.in-Ok-observe.command
+    (record { whole = over.whole; rest = over.before; hub = c.counted.new.self.hub })
+    (record { whole = over.whole; rest = over.after; hub = c.carry_out-outcome.new.self.hub })
+    turned is (c.in-Ok.count, c.in-Ok.ensures.counts.0) over.takes))
 
 pub returns-then-self-clause-means : goal.returns-then-self-clause-means
 returns-then-self-clause-means g c = λ m r started seen accepted stands between held. (c.if-self.true, refl, refl)
@@ -143,13 +133,13 @@ pub returns-in-Err-observe-clause-quiet : goal.returns-in-Err-observe-clause-qui
 returns-in-Err-observe-clause-quiet g c = λ m r started seen stands quiet.
     let turn = returns-in-Err-observe-clause-turn g c m r started seen stands in turn-quiet g.H.Hub.does g.H.Hub.waits started c.args.now seen _ _ _ _ quiet turn.2
 
-pub returns-then-self-clause-resets : goal.returns-then-self-clause-resets
-returns-then-self-clause-resets g c = λ m r.
+pub returns-then-self-clause-any_resets : goal.returns-then-self-clause-any_resets
+returns-then-self-clause-any_resets g c =
     uncalled-resets (HubStep g.H.Hub.does g.H.Hub.waits) c.args.self.now.hub (state_of c.args.self.now) (WasCommanded c.args.self.now c.args.self.now) (Err Ended)
     (λ started seen stands. (seen, stands, inl (refl, refl))) tt tt
 
-pub returns-in-Err-clause-resets : goal.returns-in-Err-clause-resets
-returns-in-Err-clause-resets g c = λ m r.
+pub returns-in-Err-clause-any_resets : goal.returns-in-Err-clause-any_resets
+returns-in-Err-clause-any_resets g c =
     let D = HubStep g.H.Hub.does g.H.Hub.waits in
     let Is : Command → Type 0 = WasCommanded c.args.self.now c.counted.new.self in
     let keeps : Is Keep = λ started seen stands. (seen, rw c.counted.ensures.policy stands, inl (refl, refl)) in
@@ -159,10 +149,10 @@ returns-in-Err-clause-resets g c = λ m r.
     TurnResets D Is (state_of c.args.self.now) c.args.self.now.hub answer (state_of c.counted.new.self) c.counted.new.self.hub in
     subst Q (sym (c.report_of.ensures ∙ ap (reported Keep) c.refusal_of.ensures))
     (subst P (sym c.in-Err.ensures.state)
-    (uncounted-resets D c.args.self.now.hub (state_of c.args.self.now) Is c.in-Err.fault c.counted.new.self.hub keeps (c.in-Err.ensures.counts m).0))
+    (uncounted-resets D c.args.self.now.hub (state_of c.args.self.now) Is c.in-Err.fault c.counted.new.self.hub keeps c.in-Err.ensures.counts.0))
 
-pub returns-in-Err-observe-clause-resets : goal.returns-in-Err-observe-clause-resets
-returns-in-Err-observe-clause-resets g c = λ m r.
+pub returns-in-Err-observe-clause-any_resets : goal.returns-in-Err-observe-clause-any_resets
+returns-in-Err-observe-clause-any_resets g c =
     let D = HubStep g.H.Hub.does g.H.Hub.waits in
     let new = record c.counted.new.self { policy = c.observe.new.self } in
     let Is : Command → Type 0 = WasCommanded c.args.self.now new in
@@ -173,10 +163,22 @@ returns-in-Err-observe-clause-resets g c = λ m r.
     let P : SharingState g.row.C-Item.Denot → Type 0 = λ s.
     TurnResets D Is (state_of c.args.self.now) c.args.self.now.hub (Err (Backwards c.in-Err-observe.backwards.last)) s c.counted.new.self.hub in
     subst P (sym same)
-    (unobserved-resets D c.args.self.now.hub (state_of c.args.self.now) Is (Err (Backwards c.in-Err-observe.backwards.last)) c.in-Ok.count c.counted.new.self.hub keeps (c.in-Ok.ensures.counts m).0 tt tt)
+    (unobserved-resets D c.args.self.now.hub (state_of c.args.self.now) Is (Err (Backwards c.in-Err-observe.backwards.last)) c.in-Ok.count c.counted.new.self.hub keeps c.in-Ok.ensures.counts.0 tt tt)
 
 pub returns-in-Err-clause-answered : goal.returns-in-Err-clause-answered
 returns-in-Err-clause-answered g c = report-answered _ Keep c.refusal_of.result _ c.report_of.ensures (refused-answered _ c.refusal_of.result c.in-Err.fault c.refusal_of.ensures)
 
 pub returns-clause-answered : goal.returns-clause-answered
 returns-clause-answered g c = report-answered _ c.in-Ok-observe.command c.carry_out-outcome.result _ c.report_of-2.ensures c.carry_out-outcome.ensures.answered
+
+pub returns-then-self-clause-resets : goal.returns-then-self-clause-resets
+returns-then-self-clause-resets g c = λ m r. returns-then-self-clause-any_resets g c
+
+pub returns-in-Err-clause-resets : goal.returns-in-Err-clause-resets
+returns-in-Err-clause-resets g c = λ m r. returns-in-Err-clause-any_resets g c
+
+pub returns-in-Err-observe-clause-resets : goal.returns-in-Err-observe-clause-resets
+returns-in-Err-observe-clause-resets g c = λ m r. returns-in-Err-observe-clause-any_resets g c
+
+pub returns-clause-resets : goal.returns-clause-resets
+returns-clause-resets g c = λ m r. returns-clause-any_resets g c

@@ -6,6 +6,7 @@ use Rattle.flow_operators.proofs.operators.distinct.DistinctCold.ask.Given as go
 
 abbrev pub invariant-loop-item : goal.invariant-loop-item
 invariant-loop-item g l = record {
+  lasting : g.C.Cold.IsGiven (chain_of l.fn.self.upstream) → g.C.Cold.IsGiven (chain_of l.self.upstream);
   callable : g.C.Cold.CanAsk (chain_of l.self.upstream);
   ended : is_ended l.self.upstream ≡ is_ended l.fn.self.upstream;
   over : is_ended l.fn.self.upstream ≡ true → l.self ≡ l.fn.self;

@@ -19,6 +19,8 @@ returns-in-Ok g c = record {
   behind = λ running m r.
       let gives = c.in-Ok.ensures.behind running m.0 m.1 r.0 r.1 in
       inl (sym (filter-after m.1 (g.C.Cold.rest (chain_of c.args.self.now.upstream) m.0) ∙ ap after_ask gives));
+  given = grind (arith, common_steps);
+  lasting = grind (arith, common_steps);
   end = grind (arith, common_steps);
 }
 
@@ -35,5 +37,7 @@ returns-in-Err g c = record {
   answered = grind (arith, common_steps);
   behind = λ running m r.
       rw (filter-after m.1 (g.C.Cold.rest (chain_of c.args.self.now.upstream) m.0)) (passed-leaves _ _ c.in-Err.asked (c.in-Err.ensures.behind running m.0 m.1 r.0 r.1));
+  given = grind (arith, common_steps);
+  lasting = grind (arith, common_steps);
   end = grind (arith, common_steps);
 }

@@ -13,6 +13,8 @@ returns-in-Item g c = record {
   over = grind (arith, common_steps);
   answered = grind (arith, common_steps);
   behind = λ running m r. grind (arith, common_steps, c.loop-item.invariant.behind m.0.0 m.0.1 m.1 r.0.0 r.0.1 r.1, c.in-Item.ensures.gives m.0.1 (c.loop-item.invariant.inner_reads m.0.1 m.1 r.0.1 r.1));
+  given = λ never. absurd never;
+  lasting = λ never. absurd never;
   end = grind (arith, common_steps);
 }
 
@@ -35,6 +37,8 @@ returns-in-Fault g c = record {
   over = grind (arith, common_steps);
   answered = grind (arith, common_steps);
   behind = λ running m r. grind (arith, common_steps, c.loop-item.invariant.behind m.0.0 m.0.1 m.1 r.0.0 r.0.1 r.1, c.in-Fault.ensures.gives m.0.1 (c.loop-item.invariant.inner_reads m.0.1 m.1 r.0.1 r.1));
+  given = λ never. absurd never;
+  lasting = λ never. absurd never;
   end = grind (arith, common_steps);
 }
 
@@ -47,7 +51,7 @@ loop-item-preserved g c = record {
   computes = c.loop-item.invariant.computes;
   runs = c.in-Ok.ensures.runs.1;
   fewer =
-      let most = opened-fewer _ _ g.D.Cold.limit _ c.in-Ok.ensures.fewer (g.met.D.Cold.limited (search rules) c.in-Ok-open.inner) in
+      let most = opened-fewer _ _ g.D.Cold.limit _ c.in-Ok.ensures.fewer (g.met.D.Cold.limited (search rules) c.in-Ok-open.inner.chain) in
       grind (arith, common_steps);
   reads = λ m r. c.in-Ok.ensures.reads m (c.loop-item.invariant.reads m r);
   inner_reads = λ n f i o. (c.in-Ok-open.ensures.opens n f (c.loop-item.invariant.computes n f o)).0;
@@ -76,6 +80,8 @@ returns-in-Err-open g c = record {
   over = grind (arith, common_steps);
   answered = grind (arith, common_steps);
   behind = λ running m r. grind (arith, common_steps, c.loop-item.invariant.behind m.0.0 m.0.1 m.1 r.0.0 r.0.1 r.1, c.in-End.ensures.gives m.0.1 (c.loop-item.invariant.inner_reads m.0.1 m.1 r.0.1 r.1), c.in-Ok.ensures.behind (λ e. grind (arith, common_steps)) m.0.0 (c.loop-item.invariant.reads m.0.0 r.0.0), c.in-Err-open.ensures.opens m.0.1 m.1 (c.loop-item.invariant.computes m.0.1 m.1 r.1));
+  given = λ never. absurd never;
+  lasting = λ never. absurd never;
   end = grind (arith, common_steps);
 }
 
@@ -92,6 +98,8 @@ returns-in-Err g c = record {
   over = grind (arith, common_steps);
   answered = grind (arith, common_steps);
   behind = λ running m r. grind (arith, common_steps, c.loop-item.invariant.behind m.0.0 m.0.1 m.1 r.0.0 r.0.1 r.1, c.in-End.ensures.gives m.0.1 (c.loop-item.invariant.inner_reads m.0.1 m.1 r.0.1 r.1), c.in-Err.ensures.behind (λ e. grind (arith, common_steps)) m.0.0 (c.loop-item.invariant.reads m.0.0 r.0.0));
+  given = λ never. absurd never;
+  lasting = λ never. absurd never;
   end = grind (arith, common_steps);
 }
 

@@ -11,13 +11,15 @@ returns-in-Ok g c = record {
   reads = grind (arith, common_steps);
   whole = grind (arith, common_steps);
   gives = λ m r.
-      let passes = c.passes.ensures m.1 r.1 in
+      let passes = c.passes.ensures.decides m.1 r.1 in
       let gives = c.in-Ok.ensures.gives m.0 r.0 in
       grind (arith, common_steps);
   fewer = grind (arith, common_steps);
   over = grind (arith, common_steps);
   answered = grind (arith, common_steps);
   behind = grind (arith, common_steps);
+  given = grind (arith, common_steps);
+  lasting = grind (arith, common_steps);
   end = grind (arith, common_steps);
 }
 
@@ -27,12 +29,14 @@ returns-in-Ok-2 g c = record {
   reads = grind (arith, common_steps);
   whole = grind (arith, common_steps);
   gives = λ m r.
-      let passes = c.passes.ensures m.1 r.1 in
+      let passes = c.passes.ensures.decides m.1 r.1 in
       let gives = c.in-Ok-2.ensures.gives m.0 r.0 in
       grind (arith, common_steps);
   fewer = grind (arith, common_steps);
   over = grind (arith, common_steps);
   answered = grind (arith, common_steps);
   behind = grind (arith, common_steps);
+  given = grind (arith, common_steps);
+  lasting = grind (arith, common_steps);
   end = grind (arith, common_steps);
 }

@@ -9,6 +9,7 @@ use Rattle.flow_operators.proofs.operators.transform.TransformCold.ask.Given as 
 
 abbrev pub invariant-loop-item : goal.invariant-loop-item
 invariant-loop-item g l = record {
+  lasting : g.C.Cold.IsGiven (chain_of l.fn.self.upstream) → g.C.Cold.IsGiven (chain_of l.self.upstream);
   callable : g.C.Cold.CanAsk (chain_of l.self.upstream);
   closure : l.self.closure ≡ l.fn.self.closure;
   computes : (f : _ → Result (List _) ChainFault) → ComputesBy (λ v. v.items) (goal.F-post g l.fn.self.closure) f → ComputesBy (λ v. v.items) (goal.F-post g l.self.closure) f;

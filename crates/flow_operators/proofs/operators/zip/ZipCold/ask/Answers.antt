@@ -12,6 +12,8 @@ returns-in-Ok g c = record {
   over = grind (arith, common_steps);
   answered = grind (arith, common_steps);
   behind = λ running m r. let behind = c.in-Ok.ensures.behind running m.0.0 m.0.1 r.0.0 r.0.1 c.answer.result in grind (arith, common_steps);
+  given = grind (arith, common_steps);
+  lasting = grind (arith, common_steps);
   end = grind (arith, common_steps);
 }
 

@@ -12,6 +12,8 @@ returns-then-item-self c = record {
   over = grind (arith, common_steps);
   answered = grind (arith, common_steps);
   behind = λ running m r. tt;
+  given = grind (arith, common_steps);
+  lasting = grind (arith, common_steps);
   end = grind (arith, common_steps);
 }
 

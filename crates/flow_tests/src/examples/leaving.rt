@@ -1,0 +1,99 @@
+//! Three threads whose emissions wait for room while the only subscriber unsubscribes: all three emissions end.
+use crate::compare::compare;
+use crate::flows::{new_flow, new_reader};
+use crate::handle_calls::{send, try_emit};
+use crate::handles::answers::pause;
+use flow_law::Config;
+use flow_shared::{Emitter, Reader};
+use std::alloc::Global;
+use std::process::Abort;
+use std::sync::{Barrier, Wait};
+use std::thread::{Threads, join};
+use std::time::Clock;
+
+const TIMES: u32 = 20;
+
+/// Sends a value. Returns whether the emission ended.
+fn is_sent<R: Wait>(rt: &R, start: &Barrier, emitter: &mut Emitter<'_, i64>, value: i64) -> bool {
+    let _order = start.wait(rt);
+    send(rt, emitter, value).is_ok()
+}
+
+/// Unsubscribes. In every second run the emitters have fallen asleep before.
+fn leave<R: Wait + Clock>(rt: &R, start: &Barrier, run: u32, reader: Reader<'_, i64>) {
+    let _order = start.wait(rt);
+    if run % 2 == 0 {
+        pause(rt);
+    }
+    let _emitter = reader.unsubscribe(rt);
+}
+
+/// Sends 2 and 3 from two threads. Returns how many of the emissions ended.
+fn send_two<R: Threads + Wait + Sync>(
+    rt: &R,
+    start: &Barrier,
+    second: &mut Emitter<'_, i64>,
+    third: &mut Emitter<'_, i64>,
+) -> u32 {
+    let (two, three) = join(
+        rt,
+        || is_sent(rt, start, second, 2),
+        || is_sent(rt, start, third, 3),
+    );
+    u32::from(two).saturating_add(u32::from(three))
+}
+
+/// Sends 4 from one thread, and unsubscribes in another one. Returns how many emissions ended.
+fn send_and_leave<R: Threads + Wait + Clock + Sync>(
+    rt: &R,
+    start: &Barrier,
+    run: u32,
+    fourth: &mut Emitter<'_, i64>,
+    reader: Reader<'_, i64>,
+) -> u32 {
+    let (four, ()) = join(
+        rt,
+        || is_sent(rt, start, fourth, 4),
+        || leave(rt, start, run, reader),
+    );
+    u32::from(four)
+}
+
+/// Sends 2, 3 and 4 while the subscriber leaves. Returns how many of the emissions ended.
+fn send_beside_leaving<R: Threads + Wait + Clock + Sync>(
+    rt: &R,
+    run: u32,
+    emitter: &mut Emitter<'_, i64>,
+    reader: Reader<'_, i64>,
+) -> u32 {
+    let start = Barrier::new(4);
+    let (mut second, mut third) = (emitter.another(), emitter.another());
+    let (two_and_three, four) = join(
+        rt,
+        || send_two(rt, &start, &mut second, &mut third),
+        || send_and_leave(rt, &start, run, emitter, reader),
+    );
+    two_and_three.saturating_add(four)
+}
+
+/// The subscriber has not received 1, so that there is no room. After it has left, the cache has one of the three
+/// values that waited.
+fn leave_once<R: Threads + Wait + Clock + Abort + Sync>(rt: &R, alloc: Global, run: u32) {
+    let (flow, seat) = new_flow(rt, alloc, Config::new().replay(1));
+    let mut emitter = flow.emitter(seat);
+    let reader = new_reader(rt, &mut emitter);
+    compare(rt, 0, try_emit(rt, &mut emitter, 1), Ok(true));
+    let ended = send_beside_leaving(rt, run, &mut emitter, reader);
+    compare(rt, 1, ended, 3);
+    compare(rt, 2, emitter.subscription_count(rt), 0);
+    let cache = emitter.replay_cache(rt).expect(rt, "memory");
+    let is_one = matches!(cache.as_slice(), [2] | [3] | [4]);
+    compare(rt, 3, is_one, true);
+}
+
+#[test]
+fn waiting_emissions_end_when_the_subscriber_leaves(rt: HostRuntime) {
+    for run in 0..TIMES {
+        leave_once(&rt, rt.alloc(), run);
+    }
+}

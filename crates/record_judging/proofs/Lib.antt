@@ -1,0 +1,3 @@
+pub mod Outcomes
+pub mod Rows
+pub mod Telling

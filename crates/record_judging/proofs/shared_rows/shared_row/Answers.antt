@@ -1,0 +1,9 @@
+use Rattle.std.proofs.Common.{arith}
+use Rattle.std.proofs.lemmas.Grind.{common_steps}
+use Rattle.record_judging.proofs.shared_rows.shared_row.Goals as goal
+
+pub loop-first-preserved : goal.loop-first-preserved
+loop-first-preserved c = grind (arith, common_steps)
+
+pub returns : goal.returns
+returns c = grind (arith, common_steps)

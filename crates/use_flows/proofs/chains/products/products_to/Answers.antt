@@ -1,0 +1,24 @@
+use Rattle.std.proofs.Common.{◌≡◌, ◌<◌, ◌^◌, ℤ, pos, ◌*ℤ◌, Ok, sym, ap, ◌∙◌, subst, arith, rules}
+use Rattle.std.proofs.lemmas.Grind.{common_steps}
+use Rattle.flow_law.specs.ChainRun.{Collects}
+use Rattle.flow_law.specs.OperatorRuns.{flat_map_run, map_run}
+use Rattle.flow_operators.specs.Numbers.{ranged}
+use Rattle.flow_operators.specs.Sources.{range_run}
+use Rattle.use_flows.proofs.ProductsLemmas.{multiples_run, products_run, readings}
+use Rattle.use_flows.proofs.chains.products.products_to.Goals as goal
+
+-- of what the outer closure answers at x, `range` and `inner` are its calls of `OfRange::new` and `map`
+pub returns-clause-collects : goal.returns-clause-collects
+returns-clause-collects c =
+    let small : c.args.last < 2 ^ 32 = omega (arith, c.ranges.last.fits) in
+    let numbers : range_run c.new.result.first c.new.result.last ≡ range_run (pos 1) (pos c.args.last) = grind (arith, common_steps, c.new.ensures.whole, c.from.ensures) in
+    let whole = c.flat_map_concat-chain.ensures.whole tt readings multiples_run in
+    let reads = c.flat_map_concat-chain.ensures.reads tt readings multiples_run c.new.ensures.reads (λ x r p.
+    let range = p.said-raw.1.1.0 in
+    let inner = p.said-raw.1.1.1.0 in
+    let f = λ (y : ℤ). ranged (x *ℤ y) in
+    let reads_so = inner.ensures.1.0 tt f range.ensures.1.0 (λ y s q. search rules) in
+    let runs_so = inner.ensures.1.1.1.0 tt f ∙ ap (map_run f) range.ensures.1.1.1.0 in
+    rw p.said-raw.1.1.1.1 (reads_so, sym (ap Ok runs_so))) in
+    let collected = c.in_ok-collect_all.field-0 in
+    subst (λ w. Collects w collected.items.items collected.end) (whole ∙ ap (flat_map_run multiples_run) numbers ∙ products_run c.args.last small) (c.in_ok-collect_all.ensures.collects ((tt, readings), multiples_run) reads)
