@@ -39,9 +39,9 @@ OpensTo reads view meant (Err fault) = (meant ≡ Err fault) ⊎ (fault ≡ OutO
 abbrev pub Opens : {A S R P : Type 0} → (S → R → Type 0) → (S → R → P) → (A → Result S ChainFault → Type 0) → (A → R) → (A → Result P ChainFault) → Type 0
 Opens {A} {S} reads view post readings f = (x : A) (r : Result S ChainFault) → post x r → OpensTo (λ s. reads s (readings x)) (λ s. view s (readings x)) (f x) r
 
--- each chain that the closure opens can be asked
-abbrev pub OpensCallable : {A S : Type 0} → (S → Type 0) → (A → Result S ChainFault → Type 0) → Type 0
-OpensCallable {A} {S} callable post = (x : A) (s : S) → post x (Ok s) → callable s
+-- each chain that the closure opens satisfies P
+abbrev pub OpensOnly : {A S : Type 0} → (S → Type 0) → (A → Result S ChainFault → Type 0) → Type 0
+OpensOnly {A} {S} P post = (x : A) (s : S) → post x (Ok s) → P s
 
 -- no call of the closure answers out of memory
 abbrev pub NeverRefuses : {A B : Type 0} → (A → Result B ChainFault → Type 0) → Type 0

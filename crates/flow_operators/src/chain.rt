@@ -8,7 +8,7 @@ ghost use Rattle.flow_law.specs.ChainRun.{ChainRun, gives};
 ghost use Rattle.flow_law.specs.Chain as means;
 ghost use Rattle.flow_law.specs.Chain.{meaning_of};
 ghost use Rattle.flow_law.specs.OperatorRuns as runs;
-ghost use Rattle.flow_operators.specs.Closures.{Computes, ComputesBy, ComputesPairs, Decides, Makes, NeverRefuses, NeverRefusesPairs, Opens, OpensCallable};
+ghost use Rattle.flow_operators.specs.Closures.{Computes, ComputesBy, ComputesPairs, Decides, Makes, NeverRefuses, NeverRefusesPairs, Opens, OpensOnly};
 ghost use Rattle.flow_operators.specs.Taking.{items_left};
 
 use crate::cold::Cold;
@@ -307,13 +307,16 @@ pub trait Chain: Cold {
         F: Fn(Self::Item) -> Result<D, ChainFault>,
         requires upstream { Self.CanAsk self }
         requires callable { F.IsAlwaysCallable closure }
-        requires opens { OpensCallable D.CanAsk (F.post closure) }
+        requires opens { OpensOnly D.CanAsk (F.post closure) }
         requires limited { D.IsLimited }
         ensures callable { ⟦<FlatMapConcat<Self, D, F> as Cold>⟧.CanAsk result }
         ensures reads { (m : Self.Reading) (n : Self.Item → D.Reading)
             (f : Self.Item → Result (ChainRun D.Item) ChainFault)
             → Self.Reads self m → Opens D.Reads D.whole (F.post closure) n f
             → ⟦<FlatMapConcat<Self, D, F> as Cold>⟧.Reads result ((m, n), f) }
+        ensures given { Self.IsGiven self
+            → NeverRefuses (F.post closure) → OpensOnly D.IsGiven (F.post closure)
+            → ⟦<FlatMapConcat<Self, D, F> as Cold>⟧.IsGiven result }
         ensures whole { (m : Self.Reading) (n : Self.Item → D.Reading)
             (f : Self.Item → Result (ChainRun D.Item) ChainFault)
             → ⟦<FlatMapConcat<Self, D, F> as Cold>⟧.whole result ((m, n), f)

@@ -1,5 +1,5 @@
 //! `flatMapConcat`: inner chains, one after the other.
-ghost use Rattle.std.specs.Prelude.{◌≡◌, ◌⊎◌, ◌<◌, ◌+◌, ◌*◌, true, None, Result, IfOk, IfSome};
+ghost use Rattle.std.specs.Prelude.{◌≡◌, ◌≢◌, ◌⊎◌, ◌<◌, ◌+◌, ◌*◌, true, None, Result, IfOk, IfSome};
 ghost use Rattle.flow_law.specs.Chain.{flat_map_meaning, meaning_of};
 ghost use Rattle.flow_law.specs.ChainRun.{ChainRun};
 ghost use Rattle.flow_law.specs.OperatorRuns.{flat_map_run, followed};
@@ -7,7 +7,7 @@ ghost use Rattle.flow_operators.specs.Behind.{Leaves, after_flat_map, unless_com
 ghost use Rattle.flow_operators.specs.Kept.{inner_left, most_inner, unless_ended};
 ghost use Rattle.flow_operators.specs.Upstreams.{chain_of, is_ended};
 ghost use Rattle.flow_operators.specs.Asking.{AskGives, IsFinal};
-ghost use Rattle.flow_operators.specs.Closures.{Opens, OpensCallable, OpensTo};
+ghost use Rattle.flow_operators.specs.Closures.{NeverRefuses, Opens, OpensOnly, OpensTo};
 ghost use Rattle.flow_operators.specs.InnerChains.{ReadsByItem, inner_chain, rest_by_item};
 ghost use Rattle.std.proofs.Common.{arith};
 ghost use Rattle.std.proofs.lemmas.Grind.{common_steps};
@@ -50,7 +50,7 @@ where
 
     ghost CanAsk = { λ s. C.CanAsk (chain_of s.upstream)
         × IfSome s.inner (λ inner. D.CanAsk (inner_chain inner))
-        × F.IsAlwaysCallable s.closure × OpensCallable D.CanAsk (F.post s.closure) × D.IsLimited };
+        × F.IsAlwaysCallable s.closure × OpensOnly D.CanAsk (F.post s.closure) × D.IsLimited };
 
     ghost Reads = { λ s m.
         (C.Reads (chain_of s.upstream) m.0.0 × IfSome s.inner (ReadsByItem D.Reads m.0.1))
@@ -70,6 +70,11 @@ where
     ghost limit = { C.limit * (D.limit + 1) + D.limit };
 
     ghost IsOver = { λ s. is_ended s.upstream ≡ true };
+
+    // The open inner chain is never refused memory, and neither is each chain that the closure opens.
+    ghost IsGiven = { λ s. C.IsGiven (chain_of s.upstream)
+        × IfSome s.inner (λ inner. D.IsGiven (inner_chain inner))
+        × NeverRefuses (F.post s.closure) × OpensOnly D.IsGiven (F.post s.closure) };
 
     ghost AsksBehind = { λ old m result new.
         Leaves (unless_completed (inner_left (rest_by_item D.rest m.0.1) old.inner)
@@ -120,6 +125,10 @@ fn ask_inner<A, D: Cold>(inner: &mut Option<InnerChain<A, D>>) -> Asked<D::Item>
         most_inner (λ opened. D.most_asks (inner_chain opened)) inner.new
         < most_inner (λ opened. D.most_asks (inner_chain opened)) inner.old }
     ensures closed { IsFinal result → inner.new ≡ None }
+    ensures given { IfSome inner.old (λ opened. D.IsGiven (inner_chain opened))
+        → result ≢ Asked.Fault ChainFault.OutOfMemory }
+    ensures lasting { IfSome inner.old (λ opened. D.IsGiven (inner_chain opened))
+        → IfSome inner.new (λ opened. D.IsGiven (inner_chain opened)) }
 {
     let Some(mut open) = inner.take() else {
         return Asked::End;
@@ -144,11 +153,14 @@ where
     D: Cold,
     F: Fn(A) -> Result<D, ChainFault>,
     requires callable { F.IsAlwaysCallable closure.now }
-    requires opens { OpensCallable D.CanAsk (F.post closure.now) }
+    requires opens { OpensOnly D.CanAsk (F.post closure.now) }
     ensures callable { IfOk result (λ opened. D.CanAsk (inner_chain opened)) }
     ensures opens { (n : A → D.Reading) (f : A → Result (ChainRun D.Item) ChainFault)
         → Opens D.Reads D.whole (F.post closure.now) n f
         → OpensTo (ReadsByItem D.Reads n) (rest_by_item D.rest n) (f item) result }
+    ensures given { NeverRefuses (F.post closure.now) → result ≢ Err ChainFault.OutOfMemory }
+    ensures lasting { OpensOnly D.IsGiven (F.post closure.now)
+        → IfOk result (λ opened. D.IsGiven (inner_chain opened)) }
 {
     let made_of = Snapshot::of(&item);
     match closure(item) {
@@ -177,13 +189,16 @@ where
     pub fn new(upstream: C, closure: F) -> Self
         requires upstream { C.CanAsk upstream }
         requires callable { F.IsAlwaysCallable closure }
-        requires opens { OpensCallable D.CanAsk (F.post closure) }
+        requires opens { OpensOnly D.CanAsk (F.post closure) }
         requires limited { D.IsLimited }
         ensures callable { ⟦<FlatMapConcat<C, D, F> as Cold>⟧.CanAsk result }
         ensures reads { (m : C.Reading) (n : C.Item → D.Reading)
             (f : C.Item → Result (ChainRun D.Item) ChainFault)
             → C.Reads upstream m → Opens D.Reads D.whole (F.post closure) n f
             → ⟦<FlatMapConcat<C, D, F> as Cold>⟧.Reads result ((m, n), f) }
+        ensures given { C.IsGiven upstream
+            → NeverRefuses (F.post closure) → OpensOnly D.IsGiven (F.post closure)
+            → ⟦<FlatMapConcat<C, D, F> as Cold>⟧.IsGiven result }
         ensures whole { (m : C.Reading) (n : C.Item → D.Reading)
             (f : C.Item → Result (ChainRun D.Item) ChainFault)
             → ⟦<FlatMapConcat<C, D, F> as Cold>⟧.whole result ((m, n), f) ≡

@@ -13,8 +13,8 @@ returns-in-Item g c = record {
   over = grind (arith, common_steps);
   answered = grind (arith, common_steps);
   behind = λ running m r. grind (arith, common_steps, c.loop-item.invariant.behind m.0.0 m.0.1 m.1 r.0.0 r.0.1 r.1, c.in-Item.ensures.gives m.0.1 (c.loop-item.invariant.inner_reads m.0.1 m.1 r.0.1 r.1));
-  given = λ never. absurd never;
-  lasting = λ never. absurd never;
+  given = grind (arith, common_steps);
+  lasting = grind (arith, common_steps);
   end = grind (arith, common_steps);
 }
 
@@ -37,13 +37,15 @@ returns-in-Fault g c = record {
   over = grind (arith, common_steps);
   answered = grind (arith, common_steps);
   behind = λ running m r. grind (arith, common_steps, c.loop-item.invariant.behind m.0.0 m.0.1 m.1 r.0.0 r.0.1 r.1, c.in-Fault.ensures.gives m.0.1 (c.loop-item.invariant.inner_reads m.0.1 m.1 r.0.1 r.1));
-  given = λ never. absurd never;
-  lasting = λ never. absurd never;
+  given = grind (arith, common_steps);
+  lasting = grind (arith, common_steps);
   end = grind (arith, common_steps);
 }
 
 pub loop-item-preserved : goal.loop-item-preserved
 loop-item-preserved g c = record {
+  lasting = λ given. c.in-Ok.ensures.lasting (c.loop-item.invariant.lasting given);
+  inner_lasting = grind (arith, common_steps);
   callable = c.in-Ok.ensures.callable;
   inner = c.in-Ok-open.ensures.callable;
   closure = c.loop-item.invariant.closure;
@@ -80,8 +82,8 @@ returns-in-Err-open g c = record {
   over = grind (arith, common_steps);
   answered = grind (arith, common_steps);
   behind = λ running m r. grind (arith, common_steps, c.loop-item.invariant.behind m.0.0 m.0.1 m.1 r.0.0 r.0.1 r.1, c.in-End.ensures.gives m.0.1 (c.loop-item.invariant.inner_reads m.0.1 m.1 r.0.1 r.1), c.in-Ok.ensures.behind (λ e. grind (arith, common_steps)) m.0.0 (c.loop-item.invariant.reads m.0.0 r.0.0), c.in-Err-open.ensures.opens m.0.1 m.1 (c.loop-item.invariant.computes m.0.1 m.1 r.1));
-  given = λ never. absurd never;
-  lasting = λ never. absurd never;
+  given = grind (arith, common_steps);
+  lasting = grind (arith, common_steps);
   end = grind (arith, common_steps);
 }
 
@@ -98,8 +100,8 @@ returns-in-Err g c = record {
   over = grind (arith, common_steps);
   answered = grind (arith, common_steps);
   behind = λ running m r. grind (arith, common_steps, c.loop-item.invariant.behind m.0.0 m.0.1 m.1 r.0.0 r.0.1 r.1, c.in-End.ensures.gives m.0.1 (c.loop-item.invariant.inner_reads m.0.1 m.1 r.0.1 r.1), c.in-Err.ensures.behind (λ e. grind (arith, common_steps)) m.0.0 (c.loop-item.invariant.reads m.0.0 r.0.0));
-  given = λ never. absurd never;
-  lasting = λ never. absurd never;
+  given = grind (arith, common_steps);
+  lasting = grind (arith, common_steps);
   end = grind (arith, common_steps);
 }
 

@@ -4,7 +4,7 @@ use Rattle.flow_law.specs.declared.chain.ChainFault.{ChainFault}
 use Rattle.flow_law.specs.ChainRun.{ChainRun}
 use Rattle.flow_law.specs.OperatorRuns.{flat_map_run, followed}
 use Rattle.flow_operators.specs.Behind.{after_flat_map, unless_completed}
-use Rattle.flow_operators.specs.Closures.{Opens, OpensCallable}
+use Rattle.flow_operators.specs.Closures.{Opens, OpensOnly}
 use Rattle.flow_operators.specs.InnerChains.{ReadsByItem, inner_chain, rest_by_item}
 use Rattle.flow_operators.specs.Kept.{inner_left, most_inner}
 use Rattle.flow_operators.specs.Upstreams.{chain_of, is_ended}
@@ -12,10 +12,13 @@ use Rattle.flow_operators.proofs.operators.flat_map_concat.FlatMapConcatCold.ask
 
 abbrev pub invariant-loop-item : goal.invariant-loop-item
 invariant-loop-item g l = record {
+  lasting : g.C.Cold.IsGiven (chain_of l.fn.self.upstream) → g.C.Cold.IsGiven (chain_of l.self.upstream);
+  inner_lasting : IfSome l.fn.self.inner (λ inner. g.D.Cold.IsGiven (inner_chain inner)) → OpensOnly g.D.Cold.IsGiven (goal.F-post g l.fn.self.closure)
+      → IfSome l.self.inner (λ inner. g.D.Cold.IsGiven (inner_chain inner));
   callable : g.C.Cold.CanAsk (chain_of l.self.upstream);
   inner : IfSome l.self.inner (λ inner. g.D.Cold.CanAsk (inner_chain inner));
   closure : l.self.closure ≡ l.fn.self.closure;
-  opens : OpensCallable g.D.Cold.CanAsk (goal.F-post g l.self.closure);
+  opens : OpensOnly g.D.Cold.CanAsk (goal.F-post g l.self.closure);
   computes : (n : _) (f : _ → Result (ChainRun _) ChainFault) → Opens g.D.Cold.Reads g.D.Cold.whole (goal.F-post g l.fn.self.closure) n f
       → Opens g.D.Cold.Reads g.D.Cold.whole (goal.F-post g l.self.closure) n f;
   runs : is_ended l.self.upstream ≡ false;
