@@ -122,6 +122,7 @@ impl ScriptChain {
 
     /// Makes a chain of a source.
     pub fn source(source: Source) -> ScriptChain
+        ensures given { ⟦<ScriptChain as Cold>⟧.IsGiven result }
         ensures whole { ⟦<ScriptChain as Cold>⟧.whole result tt ≡ source_whole source }
         ensures rest { ⟦<ScriptChain as Cold>⟧.rest result tt ≡ source_rest source }
         ensures depth { depth_of result ≡ 1 }
@@ -139,6 +140,7 @@ impl ScriptChain {
     /// and the operator are dropped.
     #[tactic(auto, using(crate::proofs::OpLemmas::op_means))]
     pub fn then(self, alloc: Global, op: Op) -> Result<ScriptChain, ChainFault>
+        ensures given { IfOk result (λ chain. ⟦<ScriptChain as Cold>⟧.IsGiven chain) }
         ensures whole { IfOk result (λ chain. ⟦<ScriptChain as Cold>⟧.whole chain tt
             ≡ op_whole op (⟦<ScriptChain as Cold>⟧.whole self tt)) }
         ensures meaning { IfOk result (λ chain. meaning_of (⟦<ScriptChain as Cold>⟧.whole chain tt)
@@ -178,6 +180,9 @@ impl Cold for ScriptChain {
     ghost limit = { 0 };
 
     ghost IsOver = { λ s. IsNodeOver s.node };
+
+    // Its items are numbers, and its nodes take no memory while it is asked.
+    ghost IsGiven = { λ _. ⊤ };
 
     ghost AsksBehind = { λ old _ result new. NodeAsksBehind old.node result new.node };
 

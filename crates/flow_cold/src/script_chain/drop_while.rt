@@ -1,5 +1,6 @@
 //! `dropWhile` of whole numbers.
-ghost use Rattle.std.specs.Prelude.{◌≡◌, ℤ};
+ghost use Rattle.std.specs.Prelude.{◌≡◌, ◌≢◌, ℤ};
+ghost use Rattle.flow_law.specs.declared.chain.ChainFault.{ChainFault};
 ghost use Rattle.flow_law.specs.ChainRun.{ChainRun, gives};
 ghost use Rattle.flow_operators.specs.Behind.{after_drop_while};
 ghost use Rattle.flow_operators.specs.Kept.{drop_while_rest};
@@ -30,6 +31,7 @@ impl DroppingWhile {
             (after_drop_while (passes self.old.test) self.old.dropping (gives item r)) result r
             (after_drop_while (passes self.new.test) self.new.dropping r) }
         ensures held { (r q : ChainRun ℤ) → after_step result r q ≡ q }
+        ensures given { result ≢ Step.Fault ChainFault.OutOfMemory }
     {
         self.dropping = self.dropping && self.test.passes(item);
         if self.dropping {

@@ -1,5 +1,5 @@
 //! The inner numbers that a `flat_map` has not emitted yet.
-ghost use Rattle.std.specs.Prelude.{◌≡◌, ℤ};
+ghost use Rattle.std.specs.Prelude.{◌≡◌, ◌≢◌, ℤ, Some, Err};
 ghost use Rattle.flow_law.specs.ChainRun.{ChainRun, gives};
 ghost use Rattle.flow_law.specs.OperatorRuns.{flat_map_run};
 ghost use Rattle.flow_operators.specs.Behind.{after_flat_map};
@@ -42,6 +42,7 @@ impl Following {
             (flat_map_run (spread_run spread.Range self.new.count) r)) }
         ensures behind { (r : ChainRun ℤ) → HeldLeaves (after_following self.old r) result r
             (after_flat_map (spread_run spread.Range self.new.count) r) }
+        ensures given { result ≢ Some (Err ChainFault.OutOfMemory) }
     {
         if self.closed {
             return None;
@@ -72,6 +73,7 @@ impl Following {
             (after_flat_map (spread_run spread.Range self.old.count) (gives item r)) result r
             (after_step result (after_following self.new r)
             (after_flat_map (spread_run spread.Range self.new.count) r)) }
+        ensures given { result ≢ Step.Fault ChainFault.OutOfMemory }
     {
         if self.count == 0 {
             return Step::Nothing;
@@ -105,6 +107,7 @@ impl Repeating {
             (flat_map_run (spread_run spread.Repeat self.new.count) r)) }
         ensures behind { (r : ChainRun ℤ) → HeldLeaves (after_repeating self.old r) result r
             (after_flat_map (spread_run spread.Repeat self.new.count) r) }
+        ensures given { result ≢ Some (Err ChainFault.OutOfMemory) }
     {
         if self.left == 0 {
             return None;
@@ -125,6 +128,7 @@ impl Repeating {
             (after_flat_map (spread_run spread.Repeat self.old.count) (gives item r)) result r
             (after_repeating self.new r) }
         ensures held { (r q : ChainRun ℤ) → after_step result r q ≡ r }
+        ensures given { result ≢ Step.Fault ChainFault.OutOfMemory }
     {
         self.item = item;
         self.left = self.count;

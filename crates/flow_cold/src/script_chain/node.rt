@@ -1,8 +1,10 @@
 //! A chain of whole numbers as a tree, with sources as its leaves and operators above them.
 ghost use Rattle.std.specs.Prelude.{◌≡◌, ◌≢◌, ◌≤◌, ℤ, true, false};
+ghost use Rattle.flow_law.specs.declared.chain.ChainFault.{ChainFault};
 ghost use Rattle.flow_law.specs.ChainRun.{ChainRun, gives};
 ghost use Rattle.flow_law.specs.OperatorRuns.{zip_run};
 ghost use Rattle.flow_cold.specs.declared.script_chain.node.Node.{size-Node};
+ghost use Rattle.flow_operators.specs.declared.cold.Asked.{Asked};
 ghost use Rattle.flow_operators.specs.Asking.{AskGives, IsFinal};
 ghost use Rattle.flow_operators.specs.Behind.{AsksLeft, AsksOnce, AsksRight, Leaves};
 ghost use Rattle.flow_operators.specs.Kept.{with_kept};
@@ -58,6 +60,7 @@ pub fn ask_node(node: &mut Node) -> Answer
     ensures end { IsNodeOver node.old → (result ≡ Answer.End) × node.new ≡ node.old }
     ensures depth { node_depth node.new ≡ node_depth node.old }
     ensures size { size-Node node.new ≤ size-Node node.old }
+    ensures given { asked_of result ≢ Asked.Fault ChainFault.OutOfMemory }
 {
     match node {
         Node::Source(source) => source.ask(),
@@ -82,6 +85,7 @@ fn ask_stage(upstream: &mut Box<Node>, stage: &mut Stage) -> Answer
     ensures end { IsStageOver stage.old
         → (result ≡ Answer.End) × upstream.new ≡ upstream.old × stage.new ≡ stage.old }
     ensures size { size-Node upstream.new.value ≤ size-Node upstream.old.value }
+    ensures given { asked_of result ≢ Asked.Fault ChainFault.OutOfMemory }
 {
     loop {
         if let Some(answer) = stage.next_alone() {
@@ -118,6 +122,7 @@ fn ask_pair(left: &mut Node, right: &mut Node, pairing: &mut Pairing) -> Answer
     ensures right_depth { node_depth right.new ≡ node_depth right.old }
     ensures left_size { size-Node left.new ≤ size-Node left.old }
     ensures right_size { size-Node right.new ≤ size-Node right.old }
+    ensures given { asked_of result ≢ Asked.Fault ChainFault.OutOfMemory }
 {
     if pairing.ended {
         return Answer::End;
@@ -145,6 +150,7 @@ fn ask_right(right: &mut Node, pairing: &mut Pairing, first: i64) -> Answer
     ensures behind { AsksOnce (node_rest right.old) (asked_of result) (node_rest right.new) }
     ensures depth { node_depth right.new ≡ node_depth right.old }
     ensures size { size-Node right.new ≤ size-Node right.old }
+    ensures given { asked_of result ≢ Asked.Fault ChainFault.OutOfMemory }
 {
     let asked = ask_node(right);
     pairing.on_right(first, asked)

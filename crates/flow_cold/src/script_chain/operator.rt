@@ -1,5 +1,5 @@
 //! The operators with one upstream: what each makes of an item.
-ghost use Rattle.std.specs.Prelude.{◌≡◌, ℤ};
+ghost use Rattle.std.specs.Prelude.{◌≡◌, ◌≢◌, ℤ, Some, Err};
 ghost use Rattle.flow_law.specs.ChainRun.{ChainRun, gives};
 ghost use Rattle.flow_cold.specs.OperatorAsks.{HeldLeaves, StepLeaves, after_held, after_ready};
 ghost use Rattle.flow_cold.specs.Operators.{HeldGives, StepGives, after_number, after_step, first_phase, held_rest, operator_whole, ready_rest, rest_in};
@@ -61,6 +61,7 @@ impl Operator {
             (after_number result (held_rest self.new r) (ready_rest self.new r)) }
         ensures behind { (r : ChainRun ℤ)
             → HeldLeaves (after_held self.old r) result r (after_ready self.new r) }
+        ensures given { result ≢ Some (Err ChainFault.OutOfMemory) }
     {
         match self {
             Operator::Transform(state) => state.next_held(),
@@ -80,6 +81,7 @@ impl Operator {
         ensures behind { (r : ChainRun ℤ)
             → StepLeaves (after_ready self.old (gives item r)) result r
             (after_step result (after_held self.new r) (after_ready self.new r)) }
+        ensures given { result ≢ Step.Fault ChainFault.OutOfMemory }
     {
         match self {
             Operator::Filter(test) => {

@@ -1,7 +1,9 @@
 //! The two sides of a zip.
-ghost use Rattle.std.specs.Prelude.{◌≡◌, ℤ, true, false, None};
+ghost use Rattle.std.specs.Prelude.{◌≡◌, ◌≢◌, ℤ, true, false, None};
+ghost use Rattle.flow_law.specs.declared.chain.ChainFault.{ChainFault};
 ghost use Rattle.flow_law.specs.ChainRun.{ChainRun, gives};
 ghost use Rattle.flow_law.specs.OperatorRuns.{zip_run};
+ghost use Rattle.flow_operators.specs.declared.cold.Asked.{Asked};
 ghost use Rattle.flow_operators.specs.Asking.{AskGives, IsFinal, IsItem};
 ghost use Rattle.flow_operators.specs.Behind.{AsksOnce, AsksRight};
 ghost use Rattle.flow_cold.specs.Answers.{asked_of};
@@ -44,6 +46,8 @@ impl Pairing {
             → AskGives before (asked_of answer) after → AsksOnce before (asked_of result) after
             × AsksRight before right (asked_of result) right }
         ensures over { IsFinal (asked_of result) → self.new.ended ≡ true }
+        ensures given { asked_of answer ≢ Asked.Fault ChainFault.OutOfMemory
+            → asked_of result ≢ Asked.Fault ChainFault.OutOfMemory }
     {
         self.ended = answer.is_final();
         answer
@@ -59,6 +63,8 @@ impl Pairing {
         ensures behind { (before after : ChainRun ℤ)
             → AskGives before (asked_of answer) after → AsksOnce before (asked_of result) after }
         ensures over { IsFinal (asked_of result) → self.new.ended ≡ true }
+        ensures given { asked_of answer ≢ Asked.Fault ChainFault.OutOfMemory
+            → asked_of result ≢ Asked.Fault ChainFault.OutOfMemory }
     {
         self.kept = None;
         match answer {

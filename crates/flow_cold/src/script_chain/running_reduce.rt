@@ -1,5 +1,6 @@
 //! `runningReduce` of whole numbers.
-ghost use Rattle.std.specs.Prelude.{◌≡◌, ℤ};
+ghost use Rattle.std.specs.Prelude.{◌≡◌, ◌≢◌, ℤ};
+ghost use Rattle.flow_law.specs.declared.chain.ChainFault.{ChainFault};
 ghost use Rattle.flow_law.specs.ChainRun.{ChainRun, gives};
 ghost use Rattle.flow_law.specs.OperatorRuns.{running_reduce_run};
 ghost use Rattle.flow_cold.specs.Numbers.{computed};
@@ -26,6 +27,7 @@ impl Reducing {
             (running_reduce_run (computed self.new.by) self.new.last r) }
         ensures leaves { (r further : ChainRun ℤ) → StepLeaves r result r further }
         ensures held { (r q : ChainRun ℤ) → after_step result r q ≡ q }
+        ensures given { result ≢ Step.Fault ChainFault.OutOfMemory }
     {
         let made = match self.last {
             Some(last) => self.by.compute(last, item),

@@ -1,5 +1,7 @@
 //! The sources of chains.
-ghost use Rattle.std.specs.Prelude.{◌≡◌};
+ghost use Rattle.std.specs.Prelude.{◌≡◌, ◌≢◌};
+ghost use Rattle.flow_law.specs.declared.chain.ChainFault.{ChainFault};
+ghost use Rattle.flow_operators.specs.declared.cold.Asked.{Asked};
 ghost use Rattle.flow_operators.specs.Asking.{AskGives, IsFinal};
 ghost use Rattle.flow_cold.specs.Answers.{asked_of};
 ghost use Rattle.flow_cold.specs.Sources.{IsSourceOver, source_rest, source_whole};
@@ -15,6 +17,7 @@ impl Source {
         ensures gives { AskGives (source_rest self.old) (asked_of result) (source_rest self.new) }
         ensures over { IsFinal (asked_of result) → IsSourceOver self.new }
         ensures end { IsSourceOver self.old → (result ≡ Answer.End) × self.new ≡ self.old }
+        ensures given { asked_of result ≢ Asked.Fault ChainFault.OutOfMemory }
     {
         match self {
             Source::List(list) => Answer::of(list.ask()),

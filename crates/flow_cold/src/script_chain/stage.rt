@@ -1,6 +1,8 @@
 //! An operator with one upstream, in a chain.
-ghost use Rattle.std.specs.Prelude.{◌≡◌, ℤ, Some, None, MatchOption, IfSome};
+ghost use Rattle.std.specs.Prelude.{◌≡◌, ◌≢◌, ℤ, Some, None, MatchOption, IfSome};
+ghost use Rattle.flow_law.specs.declared.chain.ChainFault.{ChainFault};
 ghost use Rattle.flow_law.specs.ChainRun.{ChainRun};
+ghost use Rattle.flow_operators.specs.declared.cold.Asked.{Asked};
 ghost use Rattle.flow_operators.specs.Asking.{AskGives, IsFinal, IsItem};
 ghost use Rattle.flow_operators.specs.Behind.{Leaves};
 ghost use Rattle.flow_cold.specs.Answers.{asked_of};
@@ -34,6 +36,7 @@ impl Stage {
         ensures ready { result ≡ None → self.new.phase ≡ Phase.Ready }
         ensures over { IfSome result (λ given. IsFinal (asked_of given) → IsStageOver self.new) }
         ensures end { IsStageOver self.old → (result ≡ Some Answer.End) × self.new ≡ self.old }
+        ensures given { IfSome result (λ given. asked_of given ≢ Asked.Fault ChainFault.OutOfMemory) }
     {
         match self.phase {
             Phase::Ready => return None,
@@ -68,6 +71,8 @@ impl Stage {
         ensures runs { result ≡ None → ¬ IsStageOver self.new }
         ensures again { result ≡ None → IsItem (asked_of answer) }
         ensures over { IfSome result (λ given. IsFinal (asked_of given) → IsStageOver self.new) }
+        ensures given { asked_of answer ≢ Asked.Fault ChainFault.OutOfMemory
+            → IfSome result (λ given. asked_of given ≢ Asked.Fault ChainFault.OutOfMemory) }
     {
         match answer {
             Answer::Item(item) => {
@@ -112,6 +117,8 @@ impl Stage {
             → MatchOption result (due ≡ after_stage self.new after) (λ _. due ≡ r) }
         ensures runs { result ≡ None → ¬ IsStageOver self.new }
         ensures over { IfSome result (λ given. IsFinal (asked_of given) → IsStageOver self.new) }
+        ensures given { step ≢ Step.Fault ChainFault.OutOfMemory
+            → IfSome result (λ given. asked_of given ≢ Asked.Fault ChainFault.OutOfMemory) }
     {
         match step {
             Step::Item(item) => Some(Answer::Item(item)),

@@ -1,6 +1,6 @@
 //! The states of the operators with one upstream, and their steps.
 ghost use Rattle.std.specs.Ordering.{int_eq};
-ghost use Rattle.std.specs.Prelude.{◌≡◌, ◌≢◌, suc, ℤ};
+ghost use Rattle.std.specs.Prelude.{◌≡◌, ◌≢◌, suc, ℤ, Some, Err};
 ghost use Rattle.flow_law.specs.ChainRun.{ChainRun, gives};
 ghost use Rattle.flow_law.specs.OperatorRuns.{distinct_run, drop_run, scan_run, take_run, transform_run};
 ghost use Rattle.flow_operators.specs.Behind.{after_ask, after_distinct, after_drop, after_scan, after_transform};
@@ -46,6 +46,7 @@ impl Taking {
             (take_run (suc self.new.left) r) }
         ensures leaves { (r further : ChainRun ℤ) → StepLeaves r result r further }
         ensures held { (r q : ChainRun ℤ) → after_step result r q ≡ q }
+        ensures given { result ≢ Step.Fault ChainFault.OutOfMemory }
     {
         if self.left == 0 {
             return Step::Last(item);
@@ -72,6 +73,7 @@ impl Dropping {
             → StepLeaves (after_drop (gives item r) self.old.left) result r
             (after_drop r self.new.left) }
         ensures held { (r q : ChainRun ℤ) → after_step result r q ≡ q }
+        ensures given { result ≢ Step.Fault ChainFault.OutOfMemory }
     {
         if self.left == 0 {
             return Step::Item(item);
@@ -110,6 +112,7 @@ impl Adding {
         ensures behind { (r : ChainRun ℤ)
             → HeldLeaves (after_adding self.old r) result r
             (after_transform (sums self.new.entries.items) r) }
+        ensures given { result ≢ Some (Err ChainFault.OutOfMemory) }
     {
         if self.at >= self.entries.len() {
             return None;
@@ -133,6 +136,7 @@ impl Adding {
             → StepLeaves (after_transform (sums self.old.entries.items) (gives item r)) result r
             (after_step result (after_adding self.new r)
             (after_transform (sums self.new.entries.items) r)) }
+        ensures given { result ≢ Step.Fault ChainFault.OutOfMemory }
     {
         if !all_sums_fit(&self.entries, item) {
             return Step::Fault(ChainFault::Overflow);
@@ -162,6 +166,7 @@ impl Scanning {
             (scan_run (computed self.new.by) self.new.last r)) }
         ensures behind { (r : ChainRun ℤ) →
             HeldLeaves (after_scan self.old.begun r) result r (after_ask r) }
+        ensures given { result ≢ Some (Err ChainFault.OutOfMemory) }
     {
         if self.begun {
             return None;
@@ -180,6 +185,7 @@ impl Scanning {
             (scan_run (computed self.new.by) self.new.last r) }
         ensures leaves { (r further : ChainRun ℤ) → StepLeaves r result r further }
         ensures held { (r q : ChainRun ℤ) → after_step result r q ≡ q }
+        ensures given { result ≢ Step.Fault ChainFault.OutOfMemory }
     {
         match self.by.compute(self.last, item) {
             Ok(result) => {
@@ -207,6 +213,7 @@ impl Comparing {
             → StepLeaves (after_distinct int_eq self.old.last (gives item r)) result r
             (after_distinct int_eq self.new.last r) }
         ensures held { (r q : ChainRun ℤ) → after_step result r q ≡ q }
+        ensures given { result ≢ Step.Fault ChainFault.OutOfMemory }
     {
         if self.last == Some(item) {
             return Step::Nothing;
