@@ -1,5 +1,6 @@
 //! A chain whose inner chains capture the outer item, with a contract that says which list it gives.
-ghost use Rattle.std.specs.Prelude.{◌≡◌, IfOk, IfErr};
+ghost use Rattle.std.specs.Prelude.{◌≡◌, ◌≢◌, IfOk, IfErr};
+ghost use Rattle.flow_law.specs.declared.chain.End.{End};
 ghost use Rattle.flow_law.specs.ChainRun.{Collects, list_run};
 ghost use Rattle.use_flows.specs.Products.{products};
 
@@ -10,6 +11,8 @@ use std::alloc::Global;
 /// Returns 1, 2 and 3 times x, for each x from 1 to `last`.
 fn products_to(alloc: Global, last: u32) -> Result<Collected<i64>, ChainFault>
     ensures collects { IfOk result (λ r. Collects (list_run (products last)) r.items.items r.end) }
+    // The chain is never refused memory; only the list of its items may be.
+    ensures given { IfOk result (λ r. r.end ≢ End.Failed ChainFault.OutOfMemory) }
     ensures memory { IfErr result (λ fault. fault ≡ ChainFault.OutOfMemory) }
 {
     let mut chain = OfRange::new(1, i64::from(last)).flat_map_concat(|x| {

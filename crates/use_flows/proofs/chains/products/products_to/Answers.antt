@@ -22,3 +22,16 @@ returns-clause-collects c =
     rw p.said-raw.1.1.1.1 (reads_so, sym (ap Ok runs_so))) in
     let collected = c.in_ok-collect_all.field-0 in
     subst (λ w. Collects w collected.items.items collected.end) (whole ∙ ap (flat_map_run multiples_run) numbers ∙ products_run c.args.last small) (c.in_ok-collect_all.ensures.collects ((tt, readings), multiples_run) reads)
+
+-- neither closure answers out of memory, and each inner chain is one of numbers
+pub returns-clause-given : goal.returns-clause-given
+returns-clause-given c =
+    let given = c.flat_map_concat-chain.ensures.given tt
+    (λ x r p. rw p.said-raw.1.1.1.1 (λ e. grind (arith, common_steps)))
+    (λ x s p.
+    let range = p.said-raw.1.1.0 in
+    let inner = p.said-raw.1.1.1.0 in
+    let inner_given = inner.ensures.1.1.0 range.ensures.1.1.0 (λ y r q. search rules) in
+    let same : s ≡ inner.result = grind (arith, common_steps, p.said-raw.1.1.1.1) in
+    rw same inner_given) in
+    c.in_ok-collect_all.ensures.given given
