@@ -1,11 +1,14 @@
 -- The words on a record, and the status that belongs to them. Begin with `Tells`; `TellsVerdict` says only that they belong together.
-use Rattle.std.specs.Prelude.{◌≡◌, ◌⊎◌, ◌++◌, ℕ, Bool, true, false, List, [], ◌∷◌, map, slice_get, Option, Some, None, codes, decimal, string_bytes}
+use Rattle.std.specs.Prelude.{◌≡◌, ◌⊎◌, ◌++◌, ℕ, Bool, true, false, List, [], ◌∷◌, map, take, slice_get, Option, Some, None, IsSome, codes, decimal, string_bytes}
 use Rattle.flow_check.specs.declared.verdict.Verdict.{Verdict}
 use Rattle.flow_check.specs.declared.verdict.Verdict.TheVariants.{Legal, Illegal, GaveUp}
+use Rattle.flow_check.specs.Orders.{turns_of}
 use Rattle.record_judging.specs.declared.written.Sheet.{Sheet}
+use Rattle.record_judging.specs.declared.written.WrittenCall.{WrittenCall}
 use Rattle.record_judging.specs.declared.written.WrittenFlow.{WrittenFlow}
 use Rattle.record_judging.specs.StateRows.{Rows}
 use Rattle.record_judging.specs.Judged.{JudgesCalls, GoesWrongAt}
+use Rattle.record_judging.specs.NextCalls.{call_of_turn}
 
 -- ---- statuses
 
@@ -71,20 +74,34 @@ named (Some name) = name
 abbrev pub name_of : List (List ℕ) → ℕ → List ℕ
 name_of names caller = named (slice_get names caller)
 
--- the line of a turn begins with a number and the name of the caller
-abbrev pub IsLineOf : List ℕ → List ℕ → Type 0
-IsLineOf name line = (number : ℕ) × BeginsWith (codes "  " ++ (decimal number ++ (codes "  " ++ (name ++ codes " ")))) line
+-- the call that the caller's next turn is, after these turns of an order
+abbrev pub next_call : Read → List ℕ → ℕ → Option WrittenCall
+next_call read before caller = call_of_turn read.flow read.lists (slice_get read.rows caller) (turns_of caller before)
 
--- the lines are those of the turns of the order, one line for each turn, one after another
-abbrev pub AreLinesOf : List (List ℕ) → List ℕ → List ℕ → Type 0
-AreLinesOf names [] lines = lines ≡ []
-AreLinesOf names (caller ∷ order) lines =
-    (line : List ℕ) × ((rest : List ℕ) × (lines ≡ line ++ rest) × IsLineOf (name_of names caller) line × AreLinesOf names order rest)
+-- the number of a call in the record, or 0 if there is none
+abbrev pub number_of : Option WrittenCall → ℕ
+number_of None = 0
+number_of (Some call) = call.number
+
+-- the line of a turn begins with the number of a call and the name of the caller
+abbrev pub IsLineOf : ℕ → List ℕ → List ℕ → Type 0
+IsLineOf number name line = BeginsWith (codes "  " ++ (decimal number ++ (codes "  " ++ (name ++ codes " ")))) line
+
+-- the line of this caller's turn, which comes after the turns `before`, is that of the caller's next call
+abbrev pub IsLineOfTurn : Read → List ℕ → ℕ → List ℕ → Type 0
+IsLineOfTurn read before caller line = IsLineOf (number_of (next_call read before caller)) (name_of read.names caller) line
+
+-- after the turns `before`, the lines are those of the turns of the order, one line for each turn, one after another
+abbrev pub AreLinesAfter : Read → List ℕ → List ℕ → List ℕ → Type 0
+AreLinesAfter read before [] lines = lines ≡ []
+AreLinesAfter read before (caller ∷ order) lines =
+    (line : List ℕ) × ((rest : List ℕ) × (lines ≡ line ++ rest) × IsLineOfTurn read before caller line
+    × AreLinesAfter read (before ++ caller ∷ []) order rest)
 
 -- the lines are those of the order if it is asked for, and else there are none
-abbrev pub TellsOrder : Bool → List (List ℕ) → List ℕ → List ℕ → Type 0
-TellsOrder true names order lines = AreLinesOf names order lines
-TellsOrder false names order lines = lines ≡ []
+abbrev pub TellsOrder : Bool → Read → List ℕ → List ℕ → Type 0
+TellsOrder true read order lines = AreLinesAfter read [] order lines
+TellsOrder false read order lines = lines ≡ []
 
 -- the lines begin with this moment
 abbrev pub TellsMoment : ℕ → List ℕ → Type 0
@@ -102,15 +119,21 @@ status_of GaveUp = gave_up
 
 -- the words are those of this verdict on the record: its name, and then the order or the moment
 abbrev pub TellsOf : Bool → Read → Verdict → List ℕ → Type 0
-TellsOf with_order read (Legal order) words = (lines : List ℕ) × (words ≡ codes "legal\n" ++ lines) × TellsOrder with_order read.names order.items lines
+TellsOf with_order read (Legal order) words = (lines : List ℕ) × (words ≡ codes "legal\n" ++ lines) × TellsOrder with_order read order.items lines
 TellsOf with_order read Illegal words = (lines : List ℕ) × (words ≡ codes "illegal\n" ++ lines) × TellsConflict read lines
 TellsOf with_order read GaveUp words = words ≡ codes "gave up\n"
+
+-- each turn of a legal order has a call
+abbrev pub HasCalls : Read → Verdict → Type 0
+HasCalls read (Legal order) = (n caller : ℕ) → slice_get order.items n ≡ Some caller → IsSome (next_call read (take n order.items) caller)
+HasCalls read _ = Unit {0}
 
 -- the words and the status are those of a verdict that is right about a record
 pub record TellsRead (with_order : Bool) (status : ℕ) (words : List ℕ) : Type 0 where
   pub read : Read
   pub verdict : Verdict
   pub judges : JudgesRead read verdict
+  pub has_calls : HasCalls read verdict
   pub has_status : status ≡ status_of verdict
   pub tells : TellsOf with_order read verdict words
 

@@ -1,7 +1,8 @@
 //! Judges a record that was read.
-ghost use Rattle.std.specs.Prelude.{IfOk, IfSome};
+ghost use Rattle.std.specs.Prelude.{◌≡◌, ℕ, List, IfOk, IfSome};
 ghost use Rattle.record_judging.specs.declared.written.WrittenFlow.TheVariants.{State, Shared};
 ghost use Rattle.record_judging.specs.Judged.{JudgesRows, GoesWrongAt};
+ghost use Rattle.record_judging.specs.NextCalls.{part_count};
 
 use crate::shared_rows::shared_callers;
 use crate::state_rows::state_callers;
@@ -31,10 +32,12 @@ fn turns(calls: usize) -> u64 {
 }
 
 /// Returns how many parts a call has.
-pub fn parts_of(call: WrittenCall, is_state: bool) -> usize {
-    match call.call {
-        CallWord::First => 3,
-        CallWord::Emit if !is_state && call.answer.is_some() => 2,
+pub fn parts_of(call: WrittenCall, flow: WrittenFlow) -> usize
+    ensures { (lists : List ℕ) → result ≡ part_count flow lists call }
+{
+    match (call.call, flow, call.answer) {
+        (CallWord::First, _, _) => 3,
+        (CallWord::Emit, WrittenFlow::Shared(_), Some(_)) => 2,
         _ => 1,
     }
 }
@@ -46,7 +49,7 @@ fn number_of(sheet: &Sheet, fault: Fault) -> usize {
     };
     let mut before: usize = 0;
     for call in row.as_slice() {
-        before = before.saturating_add(parts_of(*call, sheet.flow.is_state()));
+        before = before.saturating_add(parts_of(*call, sheet.flow));
         if fault.index < before {
             return call.number;
         }

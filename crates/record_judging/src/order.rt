@@ -1,10 +1,15 @@
 //! Writes an order of calls in words.
-ghost use Rattle.std.specs.Prelude.{◌≡◌, ◌++◌, List, ℕ, IfOk, OnOk, map, string_bytes};
-ghost use Rattle.record_judging.specs.Verdicts.{name_of, IsLineOf, AreLinesOf};
+ghost use Rattle.std.specs.Prelude.{◌≡◌, ◌+◌, ◌<◌, ◌++◌, [], ◌∷◌, ℕ, List};
+ghost use Rattle.std.specs.Prelude.{IfOk, OnOk, slice_get, string_bytes};
+ghost use Rattle.std.specs.Option.{option_map};
+ghost use Rattle.record_judging.specs.NextCalls.{calls_of_parts};
+ghost use Rattle.record_judging.specs.Verdicts.{read_of, name_of, next_call, number_of};
+ghost use Rattle.record_judging.specs.Verdicts.{AreLinesAfter};
+ghost use Rattle.record_judging.specs.Cursors.{IsAt, AreAt, AddsLine};
 
 use crate::judging::parts_of;
 use crate::words::CallWord;
-use crate::written::{Sheet, WrittenAnswer, WrittenCall};
+use crate::written::{Sheet, WrittenAnswer, WrittenCall, WrittenFlow};
 use std::alloc::{AllocError, Global};
 
 /// The number in the line of a turn that has no call. The calls of a record have numbers from 1.
@@ -18,19 +23,30 @@ struct Cursor {
 }
 
 impl Cursor {
-    /// Returns the caller's call at this position.
-    fn call_in(self, sheet: &Sheet, caller: usize) -> Option<WrittenCall> {
-        let calls = sheet.rows.get(caller)?;
-        calls.get(self.call).copied()
-    }
-
-    /// Passes a part of a call that has this many parts.
-    fn pass(&mut self, parts: usize) {
+    /// Passes a part of a call that has this many parts, of a caller that has this many calls.
+    fn pass(&mut self, parts: usize, calls: usize)
+        ensures within { self.old.part + 1 < parts
+            → self.new ≡ record self.old { part = self.old.part + 1 } }
+        ensures last { self.old.part + 1 ≡ parts → self.old.call < calls
+            → self.new ≡ record { call = self.old.call + 1; part = 0 } }
+    {
         self.part = self.part.saturating_add(1);
-        if self.part >= parts {
-            self.call = self.call.saturating_add(1);
+        if self.part >= parts && self.call < calls {
+            self.call += 1;
             self.part = 0;
         }
+    }
+
+    /// Returns the next part of a caller's calls, and passes it.
+    fn next(&mut self, calls: &[WrittenCall], flow: WrittenFlow) -> Option<(WrittenCall, usize)>
+        ensures { (lists : List ℕ) (turns : ℕ) → IsAt flow lists calls.now turns self.old
+            → (option_map (λ next. next.0) result ≡ slice_get (calls_of_parts flow lists calls.now) turns)
+            × IsAt flow lists calls.now (turns + 1) self.new }
+    {
+        let call = *calls.get(self.call)?;
+        let part = self.part;
+        self.pass(parts_of(call, flow), calls.len());
+        Some((call, part))
     }
 }
 
@@ -116,17 +132,21 @@ fn part_words(call: WrittenCall, part: usize) -> &'static str {
     }
 }
 
-/// The caller's next part in an order, by the cursors of all callers. Moves the caller's cursor on.
+/// Returns the caller's next part in an order, by the cursors of all callers. Moves the caller's cursor on.
 fn next_part(
     cursors: &mut Vec<Cursor>,
     sheet: &Sheet,
     caller: usize,
-) -> Option<(WrittenCall, usize)> {
-    let cursor = cursors.get_mut(caller)?;
-    let call = cursor.call_in(sheet, caller)?;
-    let part = cursor.part;
-    cursor.pass(parts_of(call, sheet.flow.is_state()));
-    Some((call, part))
+) -> Option<(WrittenCall, usize)>
+    ensures { (before : List ℕ) → AreAt (read_of sheet.now) before cursors.old.items
+        → (option_map (λ next. next.0) result ≡ next_call (read_of sheet.now) before caller)
+        × AreAt (read_of sheet.now) (before ++ caller ∷ []) cursors.new.items }
+{
+    let calls = sheet.rows.get(caller)?;
+    let mut cursor = *cursors.get(caller)?;
+    let next = cursor.next(calls.as_slice(), sheet.flow);
+    cursors[caller] = cursor;
+    next
 }
 
 /// Writes the line of a turn: the number of a call, the caller, and these words.
@@ -137,8 +157,8 @@ fn write_named(
     number: usize,
     words: &str,
 ) -> Result<(), AllocError>
-    ensures { OnOk result ((line : List ℕ) × (string_bytes out.new ≡ string_bytes out.old ++ line)
-        × IsLineOf (name_of (map string_bytes sheet.now.names.items) caller) line) }
+    ensures { OnOk result (AddsLine number
+        (name_of (read_of sheet.now).names caller) (string_bytes out.old) (string_bytes out.new)) }
 {
     writeln!(out, "  {number}  {} {words}", sheet.name(caller))?;
     Ok(())
@@ -153,8 +173,8 @@ fn write_part(
     call: WrittenCall,
     part: usize,
 ) -> Result<(), AllocError>
-    ensures { OnOk result ((line : List ℕ) × (string_bytes out.new ≡ string_bytes out.old ++ line)
-        × IsLineOf (name_of (map string_bytes sheet.now.names.items) caller) line) }
+    ensures { OnOk result (AddsLine call.number
+        (name_of (read_of sheet.now).names caller) (string_bytes out.old) (string_bytes out.new)) }
 {
     words.clear();
     write_call(words, sheet, call)?;
@@ -170,8 +190,8 @@ fn write_turn(
     caller: usize,
     next: Option<(WrittenCall, usize)>,
 ) -> Result<(), AllocError>
-    ensures { OnOk result ((line : List ℕ) × (string_bytes out.new ≡ string_bytes out.old ++ line)
-        × IsLineOf (name_of (map string_bytes sheet.now.names.items) caller) line) }
+    ensures { OnOk result (AddsLine (number_of (option_map (λ part. part.0) next))
+        (name_of (read_of sheet.now).names caller) (string_bytes out.old) (string_bytes out.new)) }
 {
     match next {
         Some((call, part)) => write_part(out, words, sheet, caller, call, part),
@@ -182,9 +202,9 @@ fn write_turn(
 /// Returns a line for each turn of an order.
 pub fn order_lines(alloc: Global, sheet: &Sheet, order: &[usize]) -> Result<String, AllocError>
     ensures { IfOk result (λ lines.
-        AreLinesOf (map string_bytes sheet.now.names.items) order.now (string_bytes lines)) }
+        AreLinesAfter (read_of sheet.now) [] order.now (string_bytes lines)) }
 {
-    let mut cursors = vec![in alloc; Cursor { call: 0, part: 0 }; sheet.names.len()]?;
+    let mut cursors = vec![in alloc; Cursor { call: 0, part: 0 }; sheet.rows.len()]?;
     let mut words = String::new(alloc);
     let mut lines = String::new(alloc);
     for caller in order {

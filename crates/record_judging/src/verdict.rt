@@ -1,5 +1,5 @@
 //! The verdict on a record, in words and as a status.
-ghost use Rattle.std.specs.Prelude.{◌≡◌, ◌++◌, IfOk, List, map, codes, string_bytes, ℕ};
+ghost use Rattle.std.specs.Prelude.{◌≡◌, ◌++◌, IfOk, List, codes, string_bytes, ℕ};
 ghost use Rattle.std.specs.Io.KnownBytes.{Appends};
 ghost use Rattle.record_judging.specs.Verdicts.{TellsVerdict, Tells, TellsOf, TellsOrder, IsStatus};
 ghost use Rattle.record_judging.specs.Verdicts.{TellsConflict, JudgesRead, read_of, status_of, refused};
@@ -96,7 +96,7 @@ fn legal_lines(
     with_order: bool,
 ) -> Result<String, AllocError>
     ensures { IfOk result (λ lines. TellsOrder
-        with_order (map string_bytes sheet.now.names.items) order.now (string_bytes lines)) }
+        with_order (read_of sheet.now) order.now (string_bytes lines)) }
 {
     if with_order {
         order_lines(alloc, sheet, order)
