@@ -4,7 +4,7 @@ use Rattle.script_chain_format.specs.declared.reading.fault.ScriptFault.{ScriptF
 use Rattle.script_chain_format.specs.declared.reading.fault.ScriptFault.TheVariants.{OutOfMemory, ReadFailed, WriteFailed, NotJson, BadVersion, BadShape, UnknownName, DuplicateName, TooLarge}
 use Rattle.script_chain_format.specs.Results.{Gives}
 use Rattle.flow_script.specs.Telling.{IsRefusal, fault_line, fault_status}
-use Rattle.flow_calls.specs.Calls.{Answers, Fills, IsScriptFault}
+use Rattle.flow_calls.specs.Calls.{AnswersText, Fills, IsScriptFault}
 
 -- a script is refused only by a script's fault
 pub script-fault : {A : Type 0} (meant : Result A ScriptFault) (fault : ScriptFault) → Gives meant (Err fault) → IsScriptFault fault
@@ -34,7 +34,7 @@ refusal-status _ is = refl
 
 -- a text that is the line of a refusal, given with status 2, answers it
 pub tells-refusal : (fault : ScriptFault) (text old new : List ℕ) (status needed answered : ℕ) → IsRefusal fault → text ≡ fault_line fault → status ≡ 2
-    → Fills text status old new needed answered → Answers (Err fault) old new needed answered
+    → Fills text status old new needed answered → AnswersText (Err fault) old new needed answered
 tells-refusal fault text old new status needed answered is line two fills = (
   fault,
   inl refl,

@@ -1,4 +1,4 @@
--- What a call gives its caller. Begin with `Fills` and `Answers`; `PlaysInto` is the whole of `wumsnair_play`.
+-- What a call gives its caller. Begin with `Fills` and `AnswersText`; `PlaysInto` is the whole of `wumsnair_play`.
 use Rattle.std.specs.Prelude.{◌≡◌, ◌⊎◌, ◌≤◌, ◌<◌, ◌==◌, ◌++◌, if◌then◌else◌, not, ℕ, List, [], length, drop, Result, Ok, Err, String}
 use Rattle.std.specs.declared.alloc.Global.{Global}
 use Rattle.script_chain_format.specs.declared.reading.fault.ScriptFault.{ScriptFault}
@@ -38,34 +38,34 @@ ToldAs fault told = (told ≡ fault) ⊎ (IsRefusal fault × (told ≡ OutOfMemo
 -- ---- results
 
 -- A text is given with status 0. A fault is given as its line, with its status, as the programs print it.
-abbrev pub Answers : Result (List ℕ) ScriptFault → List ℕ → List ℕ → ℕ → ℕ → Type 0
-Answers (Ok text) old new needed answered = Fills text 0 old new needed answered
-Answers (Err fault) old new needed answered =
+abbrev pub AnswersText : Result (List ℕ) ScriptFault → List ℕ → List ℕ → ℕ → ℕ → Type 0
+AnswersText (Ok text) old new needed answered = Fills text 0 old new needed answered
+AnswersText (Err fault) old new needed answered =
     (told : ScriptFault) × ToldAs fault told × Fills (fault_line told) (fault_status told) old new needed answered
 
 -- what `wumsnair_play` gives for a script with this meaning: its lines or its refusal
 abbrev pub PlaysInto : Result (List ℕ) ScriptFault → List ℕ → List ℕ → ℕ → ℕ → Type 0
 PlaysInto meant old new needed answered =
-    (given : Result (List ℕ) ScriptFault) × Gives meant given × Answers given old new needed answered
+    (given : Result (List ℕ) ScriptFault) × Gives meant given × AnswersText given old new needed answered
 
 -- what `wumsnair_draw` gives for a script with this meaning: a drawing of its lines, or its refusal
 abbrev pub DrawsInto : Result (List ℕ) ScriptFault → List ℕ → List ℕ → ℕ → ℕ → Type 0
 DrawsInto meant old new needed answered =
-    (drawn : Result (String Global) ScriptFault) × Pictures meant drawn × Answers (text_result drawn) old new needed answered
+    (drawn : Result (String Global) ScriptFault) × Pictures meant drawn × AnswersText (text_result drawn) old new needed answered
 
 -- ---- explanations
 
 -- A script that is not refused gives nothing. A refused one gives some words, with status 2. A call that is out of memory gives nothing,
 -- with status 4.
-abbrev pub Explains : Result (List ℕ) ScriptFault → List ℕ → List ℕ → ℕ → ℕ → Type 0
-Explains (Ok text) old new needed answered = Fills [] 0 old new needed answered
-Explains (Err fault) old new needed answered =
+abbrev pub ExplainsText : Result (List ℕ) ScriptFault → List ℕ → List ℕ → ℕ → ℕ → Type 0
+ExplainsText (Ok text) old new needed answered = Fills [] 0 old new needed answered
+ExplainsText (Err fault) old new needed answered =
     (IsRefusal fault × (words : List ℕ) × Fills words 2 old new needed answered) ⊎ Fills [] 4 old new needed answered
 
 -- what `wumsnair_explain` gives for a script with this meaning: nothing, or an explanation of its refusal
 abbrev pub ExplainsInto : Result (List ℕ) ScriptFault → List ℕ → List ℕ → ℕ → ℕ → Type 0
 ExplainsInto meant old new needed answered =
-    (given : Result (List ℕ) ScriptFault) × Gives meant given × Explains given old new needed answered
+    (given : Result (List ℕ) ScriptFault) × Gives meant given × ExplainsText given old new needed answered
 
 -- ---- records
 

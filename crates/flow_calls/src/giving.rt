@@ -1,7 +1,7 @@
 //! Gives a text to a caller: into a buffer, with the length that it needs.
 ghost use Rattle.std.specs.Prelude.{Err};
 ghost use Rattle.flow_script.specs.Telling.{memory_line};
-ghost use Rattle.flow_calls.specs.Calls.{Answers, Fills, IsScriptFault};
+ghost use Rattle.flow_calls.specs.Calls.{AnswersText, Fills, IsScriptFault};
 
 use flow_script::{OUT_OF_MEMORY, REFUSED, ScriptFault, line_of};
 use std::alloc::Global;
@@ -39,7 +39,7 @@ pub fn give_memory(out: &mut [u8], needed: &mut usize) -> u32
 /// Gives the line of a fault of a script, with its status.
 pub fn give_fault(alloc: Global, fault: ScriptFault, out: &mut [u8], needed: &mut usize) -> u32
     requires { IsScriptFault fault }
-    ensures { Answers (Err fault) out.old out.new needed.new result }
+    ensures { AnswersText (Err fault) out.old out.new needed.new result }
 {
     match fault {
         ScriptFault::OutOfMemory => give_memory(out, needed),

@@ -3,12 +3,12 @@
 //!
 //! Each call takes bytes and a buffer. It fills the buffer from its start, and sets `needed` to the length of what it
 //! gives. If that does not fit, it writes nothing and returns 1 (`Fills`). A refused script, and a call that is out of
-//! memory, give the lines and the statuses of the programs (`Answers`).
+//! memory, give the lines and the statuses of the programs (`AnswersText`).
 #![tactic(auto)]
 
 ghost use Rattle.std.specs.Prelude.{Err};
-ghost use Rattle.flow_script.specs.ScriptMeaning.{meaning};
-ghost use Rattle.flow_calls.specs.Calls.{DrawsInto, Explains, ExplainsInto, IsScriptFault, JudgesInto, PlaysInto};
+ghost use Rattle.flow_script.specs.ScriptMeaning.{script_meaning};
+ghost use Rattle.flow_calls.specs.Calls.{DrawsInto, ExplainsText, ExplainsInto, IsScriptFault, JudgesInto, PlaysInto};
 
 mod giving;
 mod verdict;
@@ -32,7 +32,7 @@ pub extern "C" fn wumsnair_play(
     out: &mut [u8],
     needed: &mut usize,
 ) -> u32
-    ensures { PlaysInto (meaning script.now) out.old out.new needed.new result }
+    ensures { PlaysInto (script_meaning script.now) out.old out.new needed.new result }
 {
     match lines_of(alloc, script) {
         Ok(text) => give(text.as_bytes(), GIVEN, out, needed),
@@ -62,7 +62,7 @@ pub extern "C" fn wumsnair_draw(
     out: &mut [u8],
     needed: &mut usize,
 ) -> u32
-    ensures { DrawsInto (meaning script.now) out.old out.new needed.new result }
+    ensures { DrawsInto (script_meaning script.now) out.old out.new needed.new result }
 {
     match drawing_of(alloc, form_of(form), script) {
         Ok(drawn) => give(drawn.as_bytes(), GIVEN, out, needed),
@@ -79,7 +79,7 @@ fn give_explanation(
     needed: &mut usize,
 ) -> u32
     requires { IsScriptFault fault }
-    ensures { Explains (Err fault) out.old out.new needed.new result }
+    ensures { ExplainsText (Err fault) out.old out.new needed.new result }
 {
     match fault {
         ScriptFault::OutOfMemory => give(&[], u32::from(OUT_OF_MEMORY), out, needed),
@@ -102,7 +102,7 @@ pub extern "C" fn wumsnair_explain(
     out: &mut [u8],
     needed: &mut usize,
 ) -> u32
-    ensures { ExplainsInto (meaning script.now) out.old out.new needed.new result }
+    ensures { ExplainsInto (script_meaning script.now) out.old out.new needed.new result }
 {
     match lines_of(alloc, script) {
         Ok(_) => give(&[], GIVEN, out, needed),

@@ -4,7 +4,7 @@ use Rattle.std.proofs.Common.{ℕ, ◌+◌, ◌<◌, ◌≤◌, Bool, List, [], 
 use Rattle.flow_law.specs.declared.history.HistoryEvent.{HistoryEvent}
 use Rattle.flow_law.specs.declared.history.Said.{Said}
 use Rattle.flow_law.specs.History.{Kind, IsHistory}
-use Rattle.flow_check.specs.Records.{Calls}
+use Rattle.flow_check.specs.Records.{CallsByCaller}
 use Rattle.flow_check.specs.Orders.{turns_of}
 use Rattle.flow_check.specs.Remaining.{placing, IsStep, GoesThrough}
 use Rattle.flow_check.proofs.Parts.{recorded_within, next_within}
@@ -13,7 +13,7 @@ use Rattle.flow_check.proofs.Ordering.{Goes, goes_history}
 
 -- `Stands m k h` says that the state m stands for what the history h led to in k turns
 module _ {M T S X R C : Type 0} (stepped : M → ℕ → C → Option M) (may_skip : C → Bool) (kind : Kind T S X R) (Adds : List (HistoryEvent (Said X R)) → ℕ → C → List (HistoryEvent (Said X R)) → Type 0)
-    (callers : Calls C) (first : S) (Stands : M → ℕ → List (HistoryEvent (Said X R)) → Type 0) where
+    (callers : CallsByCaller C) (first : S) (Stands : M → ℕ → List (HistoryEvent (Said X R)) → Type 0) where
   abbrev Log : Type 0
   Log = List (HistoryEvent (Said X R))
 

@@ -2,14 +2,14 @@
 use Rattle.std.proofs.Common.{◌≡◌, ℕ, suc, zero, ◌+◌, ◌≤◌, Bool, List, [], ◌∷◌, length, Option, Some, refl, sym, subst, inl, inr, arith}
 use Rattle.std.specs.Prelude.{slice_get}
 use Rattle.flow_check.specs.declared.timed.Timed.{Timed}
-use Rattle.flow_check.specs.Records.{Calls, IsWellTimed}
-use Rattle.flow_check.specs.Remaining.{placing, next_of, MayComeNext, OwesNothing, IsStep, GoesThrough}
+use Rattle.flow_check.specs.Records.{CallsByCaller, IsWellTimed}
+use Rattle.flow_check.specs.Remaining.{placing, next_call_of, MayComeNext, OwesNothing, IsStep, GoesThrough}
 use Rattle.flow_check.specs.Looks.{IsKept, OnlyLooks}
-use Rattle.flow_check.specs.Tables.{Reached, IsInTable, IsFollowedAt, IsLookFollowed, IsClosed}
+use Rattle.flow_check.specs.Tables.{Reached, IsInTable, IsFollowedAt, IsLookFollowed, IsClosedTable}
 use Rattle.flow_check.proofs.Leaving.{leave_out, sound_after}
 
 module _ {S C : Type 0} (stepped : S → ℕ → C → Option S) (may_skip is_look : C → Bool) (IsSound : S → Type 0) (kept : IsKept stepped IsSound) (looks : OnlyLooks stepped IsSound is_look)
-    (callers : Calls C) (well : IsWellTimed callers) (nodes : List (Reached S)) (closed : IsClosed stepped may_skip is_look callers nodes) where
+    (callers : CallsByCaller C) (well : IsWellTimed callers) (nodes : List (Reached S)) (closed : IsClosedTable stepped may_skip is_look callers nodes) where
   abbrev Goes : S → List ℕ → List ℕ → Type 0
   Goes = GoesThrough stepped may_skip callers
 
@@ -19,7 +19,7 @@ module _ {S C : Type 0} (stepped : S → ℕ → C → Option S) (may_skip is_lo
   stays_in s placed n caller order is at follows h =
       subst (λ (p : List ℕ). IsInTable nodes h.3.0 (placing caller p)) at (
       follows h.0 h.3.0
-      (subst (λ (p : List ℕ). next_of callers p caller ≡ Some h.0) (sym at) h.1)
+      (subst (λ (p : List ℕ). next_call_of callers p caller ≡ Some h.0) (sym at) h.1)
       (subst (λ (p : List ℕ). MayComeNext callers p h.0) (sym at) h.2)
       (subst (λ (t : S). IsStep stepped may_skip t caller h.0.call h.3.0) (sym is) h.3.1))
 
@@ -29,7 +29,7 @@ module _ {S C : Type 0} (stepped : S → ℕ → C → Option S) (may_skip is_lo
   none_within zero (caller ∷ order) s placed fits sound found h = absurd (omega arith)
   none_within (suc most) (caller ∷ order) s placed fits sound found h = elim (closed found.0 found.1.0 found.1.1).0 [
     | inl look ↦
-        let next = subst (λ (p : List ℕ). next_of callers p look.0 ≡ Some look.1.0) found.1.3 look.1.1 in
+        let next = subst (λ (p : List ℕ). next_call_of callers p look.0 ≡ Some look.1.0) found.1.3 look.1.1 in
         let there = subst (λ (t : S). IsInTable nodes t (placing look.0 placed)) found.1.2 (subst (λ (p : List ℕ). IsInTable nodes found.1.0.state (placing look.0 p)) found.1.3 look.1.4) in
         let less = leave_out stepped may_skip is_look IsSound kept looks callers well look.0 look.1.0 (caller ∷ order) placed s look.1.3 look.1.2 sound next h in
         let count = less.1 in

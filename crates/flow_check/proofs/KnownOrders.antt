@@ -15,7 +15,7 @@ use Rattle.flow_check.specs.declared.moments.Cut.{Cut}
 use Rattle.flow_check.specs.declared.moments.Cut.TheVariants.{Before, By}
 use Rattle.flow_check.specs.declared.verdict.Verdict.{Verdict}
 use Rattle.flow_check.specs.declared.verdict.Verdict.TheVariants.{Legal, Illegal, GaveUp}
-use Rattle.flow_check.specs.Records.{Calls, is_over_before, IsWellTimed}
+use Rattle.flow_check.specs.Records.{CallsByCaller, is_over_before, IsWellTimed}
 use Rattle.flow_check.specs.Verdicts.{Judges}
 use Rattle.flow_check.specs.Orders.{turns_of, Explains}
 use Rattle.flow_check.specs.Moments.{is_past, past_end, known_call, known_row, IsKnown, HasOrder, HasNoOrder, HasOrdersUntil, HasNoOrderFrom, GoesWrong, JudgesKnown, IsCutOff}
@@ -25,7 +25,7 @@ use Rattle.flow_check.proofs.KnownRows.{began, known_row_again, known_at, known_
 
 -- ---- one order
 
-module _ {T S X R C : Type 0} (kind : Kind T S X R) (Adds : List (HistoryEvent (Said X R)) → ℕ → C → List (HistoryEvent (Said X R)) → Type 0) (first : S) (cut : Cut) (callers known : Calls C) (well : IsWellTimed callers) (is : IsKnown cut callers known) where
+module _ {T S X R C : Type 0} (kind : Kind T S X R) (Adds : List (HistoryEvent (Said X R)) → ℕ → C → List (HistoryEvent (Said X R)) → Type 0) (first : S) (cut : Cut) (callers known : CallsByCaller C) (well : IsWellTimed callers) (is : IsKnown cut callers known) where
   -- the turns before the first call that began later
   known_goes : (order p : List ℕ) (h : List (HistoryEvent (Said X R))) → Goes kind Adds callers first p h order → (part : List ℕ) × Goes kind Adds known first p h part
   known_goes [] p h x = (
@@ -75,19 +75,19 @@ module _ {C : Type 0} (cut : Cut) where
   abbrev cut_off : Vec (Timed C) Global → Vec (Timed C) Global
   cut_off row = record row { len = length (known_row cut row.items); items = known_row cut row.items; ok = (refl, cut_fits row) }
 
-  abbrev all_cut_off : Calls C → Calls C
+  abbrev all_cut_off : CallsByCaller C → CallsByCaller C
   all_cut_off callers = map cut_off callers
 
-  cut_is_known : (callers : Calls C) → IsKnown cut callers (all_cut_off callers)
+  cut_is_known : (callers : CallsByCaller C) → IsKnown cut callers (all_cut_off callers)
   cut_is_known callers = map-map (λ row. row.items) cut_off callers
 
-  known_again : (early : Cut) → ((moment : ℕ) → is_past early moment ≡ true → is_past cut moment ≡ true) → (callers known : Calls C) → IsKnown cut callers known
+  known_again : (early : Cut) → ((moment : ℕ) → is_past early moment ≡ true → is_past cut moment ≡ true) → (callers known : CallsByCaller C) → IsKnown cut callers known
       → map (λ row. known_row early row.items) known ≡ map (λ row. known_row early row.items) callers
   known_again early within callers known is =
       sym (map-map (known_row early) (λ row. row.items) known) ∙ ap (map (known_row early)) is ∙ map-map (known_row early) (λ row. known_row cut row.items) callers
       ∙ same_rows callers
     where
-      same_rows : (callers : Calls C) → map (λ row. known_row early (known_row cut row.items)) callers ≡ map (λ row. known_row early row.items) callers
+      same_rows : (callers : CallsByCaller C) → map (λ row. known_row early (known_row cut row.items)) callers ≡ map (λ row. known_row early row.items) callers
       same_rows [] = refl
       same_rows (row ∷ callers) =
           ap (λ (one : List (Timed C)). one ∷ map (λ other. known_row early (known_row cut other.items)) callers) (known_row_again early cut within row.items)
@@ -95,8 +95,8 @@ module _ {C : Type 0} (cut : Cut) where
 
 -- ---- the first moment
 
-module _ {C : Type 0} (explains : Calls C → List ℕ → Type 0) where
-  orders_until : IsCutOff explains → (callers : Calls C) → IsWellTimed callers → (moment : ℕ) → HasOrder explains (Before moment) callers → HasOrdersUntil explains moment callers
+module _ {C : Type 0} (explains : CallsByCaller C → List ℕ → Type 0) where
+  orders_until : IsCutOff explains → (callers : CallsByCaller C) → IsWellTimed callers → (moment : ℕ) → HasOrder explains (Before moment) callers → HasOrdersUntil explains moment callers
   orders_until cuts callers well moment x earlier low =
       let known = x.0 in
       let then = all_cut_off (By earlier) known in (
@@ -105,7 +105,7 @@ module _ {C : Type 0} (explains : Calls C → List ℕ → Type 0) where
         cuts (By earlier) known then (well_known (Before moment) callers known well x.1) (cut_is_known (By earlier) known) x.2.0 x.2.1,
       )
 
-  none_from : IsCutOff explains → (callers : Calls C) → IsWellTimed callers → (moment : ℕ) → HasNoOrder explains (By moment) callers → HasNoOrderFrom explains moment callers
+  none_from : IsCutOff explains → (callers : CallsByCaller C) → IsWellTimed callers → (moment : ℕ) → HasNoOrder explains (By moment) callers → HasNoOrderFrom explains moment callers
   none_from cuts callers well moment x later low =
       let known = all_cut_off (By later) callers in
       let is = cut_is_known (By later) callers in (
@@ -118,7 +118,7 @@ module _ {C : Type 0} (explains : Calls C → List ℕ → Type 0) where
       )
 
   -- if some order explains what was known before a moment, and none what was known by it, the calls go wrong there
-  pub goes_wrong : IsCutOff explains → (callers : Calls C) → IsWellTimed callers → (moment : ℕ) → HasOrder explains (Before moment) callers → HasNoOrder explains (By moment) callers → GoesWrong explains moment callers
+  pub goes_wrong : IsCutOff explains → (callers : CallsByCaller C) → IsWellTimed callers → (moment : ℕ) → HasOrder explains (Before moment) callers → HasNoOrder explains (By moment) callers → GoesWrong explains moment callers
   goes_wrong cuts callers well moment before by = record {
     legal_before = before;
     illegal_by = by;
@@ -127,7 +127,7 @@ module _ {C : Type 0} (explains : Calls C → List ℕ → Type 0) where
   }
 
   -- a verdict on what was known
-  pub known_judged : (cut : Cut) (callers known : Calls C) → IsKnown cut callers known → (verdict : Verdict) → Judges (explains known) verdict → JudgesKnown explains cut callers verdict
+  pub known_judged : (cut : Cut) (callers known : CallsByCaller C) → IsKnown cut callers known → (verdict : Verdict) → Judges (explains known) verdict → JudgesKnown explains cut callers verdict
   known_judged cut callers known is (Legal order) x = (known, is, (order.items, x))
   known_judged cut callers known is Illegal x = (known, is, x)
   known_judged cut callers known is GaveUp x = tt

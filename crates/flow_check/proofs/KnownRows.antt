@@ -10,7 +10,7 @@ use Rattle.flow_check.specs.declared.timed.Timed.{Timed}
 use Rattle.flow_check.specs.declared.moments.Cut.{Cut}
 use Rattle.flow_check.specs.declared.record.FaultKind.{FaultKind}
 use Rattle.flow_check.specs.declared.record.FaultKind.TheVariants.{EndsEarly, BeginsEarly}
-use Rattle.flow_check.specs.Records.{Calls, call_in, recorded, is_over_before, may_follow, IsWellTimed, HasFault}
+use Rattle.flow_check.specs.Records.{CallsByCaller, call_in, recorded, is_over_before, may_follow, IsWellTimed, HasFault}
 use Rattle.flow_check.specs.Moments.{is_past, known_call, known_row, IsKnown}
 use Rattle.flow_check.proofs.Ends.{past_earlier, not_over, past_end_again, begins_later, follows_known}
 
@@ -97,10 +97,10 @@ module _ {C : Type 0} where
   row_called None k = refl
   row_called (Some row) k = refl
 
-  recorded_row : (callers : Calls C) (i k : ℕ) → recorded callers i k ≡ row_call (slice_get (map (λ row. row.items) callers) i) k
+  recorded_row : (callers : CallsByCaller C) (i k : ℕ) → recorded callers i k ≡ row_call (slice_get (map (λ row. row.items) callers) i) k
   recorded_row callers i k = row_called (slice_get callers i) k ∙ sym (ap (λ o. row_call o k) (slice_get-map (λ row. row.items) callers i))
 
-module _ {C : Type 0} (cut : Cut) (callers known : Calls C) (well : IsWellTimed callers) (is : IsKnown cut callers known) where
+module _ {C : Type 0} (cut : Cut) (callers known : CallsByCaller C) (well : IsWellTimed callers) (is : IsKnown cut callers known) where
   recorded_known : (i k : ℕ) → recorded known i k ≡ row_call (option_map (λ row. known_row cut row.items) (slice_get callers i)) k
   recorded_known i k = recorded_row known i k ∙ ap (λ rows. row_call (slice_get rows i) k) is ∙ ap (λ o. row_call o k) (slice_get-map (λ row. known_row cut row.items) callers i)
 
@@ -145,7 +145,7 @@ module _ {C : Type 0} (cut : Cut) (callers known : Calls C) (well : IsWellTimed 
 -- ---- no faults
 
 -- a well-timed record has no fault
-pub no_fault : {C : Type 0} (callers : Calls C) (caller index : ℕ) (kind : FaultKind) → IsWellTimed callers → HasFault callers caller index kind → ⊥
+pub no_fault : {C : Type 0} (callers : CallsByCaller C) (caller index : ℕ) (kind : FaultKind) → IsWellTimed callers → HasFault callers caller index kind → ⊥
 no_fault callers caller index EndsEarly well has = false≢true (sym (well caller index has.0 has.1).0 ∙ has.2)
 no_fault {C} callers caller index BeginsEarly well has =
     let is = has.1.1 in

@@ -7,8 +7,8 @@ use Rattle.std.proofs.lemmas.List.{set_comm, get_or-set_other}
 use Rattle.std.proofs.lemmas.Option.{same_Some, slice_get_within, get_or_from_slice_get}
 use Rattle.flow_law.proofs.Rows.{split}
 use Rattle.flow_check.specs.declared.timed.Timed.{Timed}
-use Rattle.flow_check.specs.Records.{Calls, recorded, is_over_before, IsWellTimed}
-use Rattle.flow_check.specs.Remaining.{placing, next_at, next_of, MayComeNext, IsStep, GoesThrough}
+use Rattle.flow_check.specs.Records.{CallsByCaller, recorded, is_over_before, IsWellTimed}
+use Rattle.flow_check.specs.Remaining.{placing, next_at, next_call_of, MayComeNext, IsStep, GoesThrough}
 use Rattle.flow_check.specs.Looks.{IsKept, OnlyLooks}
 use Rattle.flow_check.proofs.Parts.{placed_at}
 use Rattle.flow_check.proofs.Places.{get-set_same}
@@ -30,12 +30,12 @@ placing_comm i j placed apart =
     ∙ set_comm placed j i (get_or placed j 0 + 1) (get_or placed i 0 + 1) (λ e. apart (sym e))
     ∙ ap (λ (n : ℕ). set (set placed i (get_or placed i 0 + 1)) j (n + 1)) (sym (get_or-set_other placed i j (get_or placed i 0 + 1) 0 (λ e. apart (sym e))))
 
-module _ {C : Type 0} (callers : Calls C) where
-  next_else : (placed : List ℕ) (i j : ℕ) → i ≢ j → next_of callers (placing i placed) j ≡ next_of callers placed j
+module _ {C : Type 0} (callers : CallsByCaller C) where
+  next_else : (placed : List ℕ) (i j : ℕ) → i ≢ j → next_call_of callers (placing i placed) j ≡ next_call_of callers placed j
   next_else placed i j apart = ap (next_at callers j) (get-set_else placed i j (get_or placed i 0 + 1) apart)
 
   -- the next call of a caller is over no later than the one after it
-  not_over_later : IsWellTimed callers → (placed : List ℕ) (i moment : ℕ) (c d : Timed C) → next_of callers placed i ≡ Some c → next_of callers (placing i placed) i ≡ Some d
+  not_over_later : IsWellTimed callers → (placed : List ℕ) (i moment : ℕ) (c d : Timed C) → next_call_of callers placed i ≡ Some c → next_call_of callers (placing i placed) i ≡ Some d
       → is_over_before c.end moment ≡ false → is_over_before d.end moment ≡ false
   not_over_later well placed i moment c d now then free =
       let at = placed_at callers i (slice_get placed i) c now in
@@ -48,9 +48,9 @@ module _ {C : Type 0} (callers : Calls C) where
       (λ _ over. absurd (false≢true (sym free ∙ subst (λ (x : Timed C). is_over_before x.end moment ≡ true) is (before.2.0 moment over)))) (λ _ _. refl) refl
 
   -- a call that may come next may still come next after some caller's next call has happened
-  may_still : IsWellTimed callers → (placed : List ℕ) (i : ℕ) (c d : Timed C) → next_of callers placed i ≡ Some c → MayComeNext callers placed d → MayComeNext callers (placing i placed) d
+  may_still : IsWellTimed callers → (placed : List ℕ) (i : ℕ) (c d : Timed C) → next_call_of callers placed i ≡ Some c → MayComeNext callers placed d → MayComeNext callers (placing i placed) d
   may_still well placed i c d now may = λ other e there. elim (eqb_tells i other) [
-    | inl same ↦ not_over_later well placed i d.begin c e now (subst (λ (j : ℕ). next_of callers (placing i placed) j ≡ Some e) (sym same.1) there) (may i c now)
+    | inl same ↦ not_over_later well placed i d.begin c e now (subst (λ (j : ℕ). next_call_of callers (placing i placed) j ≡ Some e) (sym same.1) there) (may i c now)
     | inr z ↦ may other e (sym (next_else placed i other z.1) ∙ there)
   ]
 
@@ -61,12 +61,12 @@ module _ {S C : Type 0} (stepped : S → ℕ → C → Option S) (may_skip is_lo
   sound_after s after caller c sound (inl step) = kept s after caller c sound step
   sound_after s after caller c sound (inr skip) = subst IsSound (sym skip.1) sound
 
-  module _ (callers : Calls C) (well : IsWellTimed callers) where
+  module _ (callers : CallsByCaller C) (well : IsWellTimed callers) where
     -- an order that is one turn shorter goes through what is left after this caller's next call
     abbrev pub GoesWithout : ℕ → S → List ℕ → List ℕ → Type 0
     GoesWithout i s placed order = (rest : List ℕ) × (length order ≡ length rest + 1) × GoesThrough stepped may_skip callers s (placing i placed) rest
 
-    own_turn : (i : ℕ) (c : Timed C) (order placed : List ℕ) (s : S) → is_look c.call ≡ true → IsSound s → next_of callers placed i ≡ Some c
+    own_turn : (i : ℕ) (c : Timed C) (order placed : List ℕ) (s : S) → is_look c.call ≡ true → IsSound s → next_call_of callers placed i ≡ Some c
         → GoesThrough stepped may_skip callers s placed (i ∷ order) → GoesWithout i s placed (i ∷ order)
     own_turn i c order placed s look sound next h =
         let is : c ≡ h.0 = same_Some c h.0 (sym next ∙ h.1) in
@@ -76,7 +76,7 @@ module _ {S C : Type 0} (stepped : S → ℕ → C → Option S) (may_skip is_lo
         ] in
         (order, omega arith, subst (λ (t : S). GoesThrough stepped may_skip callers t (placing i placed) order) same h.3.2)
 
-    pub leave_out : (i : ℕ) (c : Timed C) (order placed : List ℕ) (s : S) → is_look c.call ≡ true → IsSome c.end → IsSound s → next_of callers placed i ≡ Some c
+    pub leave_out : (i : ℕ) (c : Timed C) (order placed : List ℕ) (s : S) → is_look c.call ≡ true → IsSome c.end → IsSound s → next_call_of callers placed i ≡ Some c
         → GoesThrough stepped may_skip callers s placed order → GoesWithout i s placed order
     leave_out i c [] placed s look ended sound next h = absurd (false≢true (subst (λ (o : Option ℕ). is_some o ≡ true) (h i c next) ended))
     leave_out i c (caller ∷ order) placed s look ended sound next h = elim (eqb_tells i caller) [

@@ -11,12 +11,12 @@ use Rattle.flow_law.specs.History.{Kind, IsHistory}
 use Rattle.flow_law.proofs.Owners.{history_left}
 use Rattle.flow_law.proofs.Rows.{split}
 use Rattle.flow_check.specs.declared.timed.Timed.{Timed}
-use Rattle.flow_check.specs.Records.{Calls, recorded, is_over_before, IsWellTimed}
-use Rattle.flow_check.specs.Orders.{turns_of, all_of, Explains}
+use Rattle.flow_check.specs.Records.{CallsByCaller, recorded, is_over_before, IsWellTimed}
+use Rattle.flow_check.specs.Orders.{turns_of, all_events, Explains}
 use Rattle.flow_check.proofs.Turns.{turns-take, turn_counts, find_turn}
 use Rattle.flow_check.proofs.Timing.{earlier}
 
-module _ {T S X R C : Type 0} (kind : Kind T S X R) (Adds : List (HistoryEvent (Said X R)) → ℕ → C → List (HistoryEvent (Said X R)) → Type 0) (callers : Calls C) (first : S) where
+module _ {T S X R C : Type 0} (kind : Kind T S X R) (Adds : List (HistoryEvent (Said X R)) → ℕ → C → List (HistoryEvent (Said X R)) → Type 0) (callers : CallsByCaller C) (first : S) where
   abbrev Log : Type 0
   Log = List (HistoryEvent (Said X R))
 
@@ -52,9 +52,9 @@ module _ {T S X R C : Type 0} (kind : Kind T S X R) (Adds : List (HistoryEvent (
   -- the same of each turn by its place
   record Turned (p : List ℕ) (h : Log) (order : List ℕ) (parts : List Log) : Type 0 where
     one_each : length parts ≡ length order
-    turns : (n caller : ℕ) → slice_get order n ≡ Some caller → IsTurn (p ++ take n order) (h ++ all_of (take n parts)) caller (slice_get parts n)
+    turns : (n caller : ℕ) → slice_get order n ≡ Some caller → IsTurn (p ++ take n order) (h ++ all_events (take n parts)) caller (slice_get parts n)
     owed : NoneOwed (p ++ order)
-    history : IsHistory kind first (h ++ all_of parts)
+    history : IsHistory kind first (h ++ all_events parts)
 
   -- ---- one after another, and by place
 
@@ -80,18 +80,18 @@ module _ {T S X R C : Type 0} (kind : Kind T S X R) (Adds : List (HistoryEvent (
           one_each = ap suc more.1.one_each;
           turns = turns part more.0 more.1 (x.0, x.1, x.2, (part, refl, x.3.1));
           owed = subst NoneOwed (append_assoc p (caller ∷ []) order) more.1.owed;
-          history = subst (IsHistory kind first) (append_assoc h part (all_of more.0)) more.1.history;
+          history = subst (IsHistory kind first) (append_assoc h part (all_events more.0)) more.1.history;
         },
       )
     where
       turns : (part : Log) (parts : List Log) → Turned (p ++ caller ∷ []) (h ++ part) order parts → IsTurn p h caller (Some part)
-          → (n other : ℕ) → slice_get (caller ∷ order) n ≡ Some other → IsTurn (p ++ take n (caller ∷ order)) (h ++ all_of (take n (part ∷ parts))) other (slice_get (part ∷ parts) n)
+          → (n other : ℕ) → slice_get (caller ∷ order) n ≡ Some other → IsTurn (p ++ take n (caller ∷ order)) (h ++ all_events (take n (part ∷ parts))) other (slice_get (part ∷ parts) n)
       turns part parts more one zero other e =
           subst (λ (i : ℕ). IsTurn (p ++ []) (h ++ []) i (Some part)) (same_Some caller other e)
           (turn_along p (p ++ []) h (h ++ []) caller (Some part) (sym (append-nil p)) (sym (append-nil h)) one)
       turns part parts more one (suc n) other e =
-          turn_along ((p ++ caller ∷ []) ++ take n order) (p ++ caller ∷ take n order) ((h ++ part) ++ all_of (take n parts)) (h ++ (part ++ all_of (take n parts))) other (slice_get parts n)
-          (append_assoc p (caller ∷ []) (take n order)) (append_assoc h part (all_of (take n parts))) (more.turns n other e)
+          turn_along ((p ++ caller ∷ []) ++ take n order) (p ++ caller ∷ take n order) ((h ++ part) ++ all_events (take n parts)) (h ++ (part ++ all_events (take n parts))) other (slice_get parts n)
+          (append_assoc p (caller ∷ []) (take n order)) (append_assoc h part (all_events (take n parts))) (more.turns n other e)
 
   turned_goes : (order p : List ℕ) (h : Log) (parts : List Log) → Turned p h order parts → Goes p h order
   turned_goes [] p h [] x = (subst NoneOwed (append-nil p) x.owed, subst (IsHistory kind first) (append-nil h) x.history)
@@ -107,10 +107,10 @@ module _ {T S X R C : Type 0} (kind : Kind T S X R) (Adds : List (HistoryEvent (
           subst (λ (y : Log). Adds h caller one.0.call y) (sym (same_Some part one.3.0 one.3.1)) one.3.2,
           turned_goes order (p ++ caller ∷ []) (h ++ part) parts (record {
             one_each = let count = x.one_each in omega arith;
-            turns = λ n other e. turn_along (p ++ caller ∷ take n order) ((p ++ caller ∷ []) ++ take n order) (h ++ (part ++ all_of (take n parts))) ((h ++ part) ++ all_of (take n parts)) other (slice_get parts n)
-                (sym (append_assoc p (caller ∷ []) (take n order))) (sym (append_assoc h part (all_of (take n parts)))) (x.turns (suc n) other e);
+            turns = λ n other e. turn_along (p ++ caller ∷ take n order) ((p ++ caller ∷ []) ++ take n order) (h ++ (part ++ all_events (take n parts))) ((h ++ part) ++ all_events (take n parts)) other (slice_get parts n)
+                (sym (append_assoc p (caller ∷ []) (take n order))) (sym (append_assoc h part (all_events (take n parts)))) (x.turns (suc n) other e);
             owed = subst NoneOwed (sym (append_assoc p (caller ∷ []) order)) x.owed;
-            history = subst (IsHistory kind first) (sym (append_assoc h part (all_of parts))) x.history;
+            history = subst (IsHistory kind first) (sym (append_assoc h part (all_events parts))) x.history;
           }),
         ),
       )

@@ -4,7 +4,7 @@ use Rattle.std.specs.Prelude.{slice_get}
 use Rattle.std.specs.Option.{option_map}
 use Rattle.std.proofs.lemmas.List.{length-map, append_assoc, append-nil}
 use Rattle.std.proofs.lemmas.Option.{slice_get-map}
-use Rattle.flow_check.specs.Words.{parts_of}
+use Rattle.flow_check.specs.Words.{parts_in_words}
 use Rattle.flow_check.specs.Tables.{Packed, node_of, nodes_of}
 
 module _ {S : Type 0} (read : S → List ℕ → S) where
@@ -24,26 +24,26 @@ module _ {S : Type 0} (read : S → List ℕ → S) where
   nodes_within table bound upto = let count = length-map table.rows (node_of read table.first table.callers) in omega arith
 
 module _ {A : Type 0} (part : List ℕ → A) (others : List ℕ → List ℕ) where
-  parts_next : (count i : ℕ) (rest : List ℕ) → i < count → parts_of part others (count - i) rest ≡ part rest ∷ parts_of part others (count - (i + 1)) (others rest)
+  parts_next : (count i : ℕ) (rest : List ℕ) → i < count → parts_in_words part others (count - i) rest ≡ part rest ∷ parts_in_words part others (count - (i + 1)) (others rest)
   parts_next count i rest low =
-      let more : count - i ≡ suc (count - (i + 1)) = omega arith in ap (λ (n : ℕ). parts_of part others n rest) more
+      let more : count - i ≡ suc (count - (i + 1)) = omega arith in ap (λ (n : ℕ). parts_in_words part others n rest) more
 
-  pub parts_more : (count i : ℕ) (rest later : List ℕ) (xs ys : List A) (x : A) (all : List A) → i < count → xs ++ parts_of part others (count - i) rest ≡ all
-      → ys ≡ xs ++ x ∷ [] → x ≡ part rest → later ≡ others rest → ys ++ parts_of part others (count - (i + 1)) later ≡ all
+  pub parts_more : (count i : ℕ) (rest later : List ℕ) (xs ys : List A) (x : A) (all : List A) → i < count → xs ++ parts_in_words part others (count - i) rest ≡ all
+      → ys ≡ xs ++ x ∷ [] → x ≡ part rest → later ≡ others rest → ys ++ parts_in_words part others (count - (i + 1)) later ≡ all
   parts_more count i rest later xs ys x all low whole grown read behind =
-      ap (λ (zs : List A). zs ++ parts_of part others (count - (i + 1)) later) grown
-      ∙ append_assoc xs (x ∷ []) (parts_of part others (count - (i + 1)) later)
-      ∙ ap (λ (r : List ℕ). xs ++ x ∷ parts_of part others (count - (i + 1)) r) behind
-      ∙ ap (λ (y : A). xs ++ y ∷ parts_of part others (count - (i + 1)) (others rest)) read
+      ap (λ (zs : List A). zs ++ parts_in_words part others (count - (i + 1)) later) grown
+      ∙ append_assoc xs (x ∷ []) (parts_in_words part others (count - (i + 1)) later)
+      ∙ ap (λ (r : List ℕ). xs ++ x ∷ parts_in_words part others (count - (i + 1)) r) behind
+      ∙ ap (λ (y : A). xs ++ y ∷ parts_in_words part others (count - (i + 1)) (others rest)) read
       ∙ ap (λ (zs : List A). xs ++ zs) (sym (parts_next count i rest low))
       ∙ whole
 
-  pub parts_begun : (count : ℕ) (words : List ℕ) (xs : List A) → xs ≡ [] → xs ++ parts_of part others (count - 0) words ≡ parts_of part others count words
+  pub parts_begun : (count : ℕ) (words : List ℕ) (xs : List A) → xs ≡ [] → xs ++ parts_in_words part others (count - 0) words ≡ parts_in_words part others count words
   parts_begun count words xs none =
       let all : count - 0 ≡ count = omega arith in
-      ap (λ (zs : List A). zs ++ parts_of part others (count - 0) words) none ∙ ap (λ (n : ℕ). parts_of part others n words) all
+      ap (λ (zs : List A). zs ++ parts_in_words part others (count - 0) words) none ∙ ap (λ (n : ℕ). parts_in_words part others n words) all
 
-  pub parts_done : (count i : ℕ) (rest : List ℕ) (xs all : List A) → count ≤ i → xs ++ parts_of part others (count - i) rest ≡ all → xs ≡ all
+  pub parts_done : (count i : ℕ) (rest : List ℕ) (xs all : List A) → count ≤ i → xs ++ parts_in_words part others (count - i) rest ≡ all → xs ≡ all
   parts_done count i rest xs all upto whole =
       let none : count - i ≡ 0 = omega arith in
-      sym (append-nil xs) ∙ sym (ap (λ (n : ℕ). xs ++ parts_of part others n rest) none) ∙ whole
+      sym (append-nil xs) ∙ sym (ap (λ (n : ℕ). xs ++ parts_in_words part others n rest) none) ∙ whole

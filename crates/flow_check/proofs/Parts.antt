@@ -6,9 +6,9 @@ use Rattle.std.proofs.lemmas.Bool.{false≢true}
 use Rattle.std.proofs.lemmas.Option.{slice_get_within, same_Some, MatchOption-at_some}
 use Rattle.flow_check.specs.declared.timed.Timed.{Timed}
 use Rattle.flow_check.specs.declared.node.Move.{Move}
-use Rattle.flow_check.specs.Remaining.{next_at, next_of, MayComeNext, OwesNothing, placing, IsStep, GoesThrough}
-use Rattle.flow_check.specs.Records.{Calls, recorded, call_in, count_in, is_over_before}
-use Rattle.flow_check.specs.Tables.{Reached, IsInTable, IsFollowedAt, IsFollowed, IsClosed}
+use Rattle.flow_check.specs.Remaining.{next_at, next_call_of, MayComeNext, OwesNothing, placing, IsStep, GoesThrough}
+use Rattle.flow_check.specs.Records.{CallsByCaller, recorded, call_in, count_in, is_over_before}
+use Rattle.flow_check.specs.Tables.{Reached, IsInTable, IsFollowedAt, IsFollowed, IsClosedTable}
 
 called_in : {C : Type 0} (o : Option (Vec (Timed C) Global)) (k : ℕ) (d : Timed C) → call_in o k ≡ Some d → (calls : Vec (Timed C) Global) × (o ≡ Some calls) × (slice_get calls.items k ≡ Some d)
 called_in (Some calls) k d h = (calls, refl, h)
@@ -18,7 +18,7 @@ pub recorded_below : {C : Type 0} (o : Option (Vec (Timed C) Global)) (k : ℕ) 
 recorded_below (Some calls) k d h = slice_get_within calls.items k d h
 recorded_below None k d h = absurd (cc)
 
-module _ {C : Type 0} (callers : Calls C) where
+module _ {C : Type 0} (callers : CallsByCaller C) where
   -- a recorded call is one of a caller
   pub recorded_within : (caller k : ℕ) (d : Timed C) → recorded callers caller k ≡ Some d → caller < length callers
   recorded_within caller k d h =
@@ -28,16 +28,16 @@ module _ {C : Type 0} (callers : Calls C) where
   placed_at caller (Some k) d h = (k, refl, h)
   placed_at caller None d h = absurd (cc)
 
-  pub next_within : (placed : List ℕ) (caller : ℕ) (d : Timed C) → next_of callers placed caller ≡ Some d → caller < length callers
+  pub next_within : (placed : List ℕ) (caller : ℕ) (d : Timed C) → next_call_of callers placed caller ≡ Some d → caller < length callers
   next_within placed caller d h = let found = placed_at caller (slice_get placed caller) d h in recorded_within caller found.0 d found.2
 
   abbrev pub NoneOverBelow : ℕ → ℕ → List ℕ → Type 0
-  NoneOverBelow bound moment placed = (other : ℕ) (d : Timed C) → other < bound → next_of callers placed other ≡ Some d → is_over_before d.end moment ≡ false
+  NoneOverBelow bound moment placed = (other : ℕ) (d : Timed C) → other < bound → next_call_of callers placed other ≡ Some d → is_over_before d.end moment ≡ false
 
   abbrev pub OwesNothingBelow : ℕ → List ℕ → Type 0
-  OwesNothingBelow bound placed = (caller : ℕ) (d : Timed C) → caller < bound → next_of callers placed caller ≡ Some d → d.end ≡ None
+  OwesNothingBelow bound placed = (caller : ℕ) (d : Timed C) → caller < bound → next_call_of callers placed caller ≡ Some d → d.end ≡ None
 
-module _ {S C : Type 0} (stepped : S → ℕ → C → Option S) (may_skip is_look : C → Bool) (callers : Calls C) (nodes : List (Reached S)) where
+module _ {S C : Type 0} (stepped : S → ℕ → C → Option S) (may_skip is_look : C → Bool) (callers : CallsByCaller C) (nodes : List (Reached S)) where
   abbrev pub IsFollowedBelow : ℕ → Reached S → Type 0
   IsFollowedBelow bound n = (caller : ℕ) → caller < bound → IsFollowedAt stepped may_skip is_look callers nodes n caller
 
@@ -45,7 +45,7 @@ module _ {S C : Type 0} (stepped : S → ℕ → C → Option S) (may_skip is_lo
   IsClosedBelow bound = (k : ℕ) → k < bound → (n : Reached S) → slice_get nodes k ≡ Some n → IsFollowed stepped may_skip is_look callers nodes n × (OwesNothing callers n.placed → ⊥)
 
   -- the table has what follows if the caller's next call is made, and if it is skipped
-  pub followed_at : (n : Reached S) (caller : ℕ) (c : Timed C) → next_of callers n.placed caller ≡ Some c
+  pub followed_at : (n : Reached S) (caller : ℕ) (c : Timed C) → next_call_of callers n.placed caller ≡ Some c
       → ((after : S) → stepped n.state caller c.call ≡ Some after → IsInTable nodes after (placing caller n.placed))
       → (may_skip c.call ≡ true → IsInTable nodes n.state (placing caller n.placed)) → IsFollowedAt stepped may_skip is_look callers nodes n caller
   followed_at n caller c e made skipped = λ d t e' m step.
@@ -59,7 +59,7 @@ module _ {S C : Type 0} (stepped : S → ℕ → C → Option S) (may_skip is_lo
       let near = next_within callers n.placed caller c e in
       let low : caller < bound = omega arith in below caller low c after e m f
 
-  pub all_closed : (bound : ℕ) → length nodes ≤ bound → IsClosedBelow bound → IsClosed stepped may_skip is_look callers nodes
+  pub all_closed : (bound : ℕ) → length nodes ≤ bound → IsClosedBelow bound → IsClosedTable stepped may_skip is_look callers nodes
   all_closed bound upto below = λ k n e.
       let near = slice_get_within nodes k n e in
       let low : k < bound = omega arith in below k low n e
@@ -68,9 +68,9 @@ module _ {S C : Type 0} (stepped : S → ℕ → C → Option S) (may_skip is_lo
   closed_more k n below e here = below_more _ _ below (λ m e'.
       subst (λ (x : Reached S). IsFollowed stepped may_skip is_look callers nodes x × (OwesNothing callers x.placed → ⊥)) (same_Some n m (sym e ∙ e')) here)
 
-module _ {S C : Type 0} (stepped : S → ℕ → C → Option S) (may_skip : C → Bool) (callers : Calls C) where
+module _ {S C : Type 0} (stepped : S → ℕ → C → Option S) (may_skip : C → Bool) (callers : CallsByCaller C) where
   pub explain_more : (s after : S) (placed later order rest : List ℕ) (caller : ℕ) (c : Timed C) → order ≡ caller ∷ rest
-      → next_of callers placed caller ≡ Some c → MayComeNext callers placed c → IsStep stepped may_skip s caller c.call after → later ≡ placing caller placed
+      → next_call_of callers placed caller ≡ Some c → MayComeNext callers placed c → IsStep stepped may_skip s caller c.call after → later ≡ placing caller placed
       → GoesThrough stepped may_skip callers after later rest → GoesThrough stepped may_skip callers s placed order
   explain_more s after placed later order rest caller c e next may step grown goes =
       subst (λ (o : List ℕ). GoesThrough stepped may_skip callers s placed o) (sym e)

@@ -4,8 +4,8 @@ use Rattle.std.specs.Prelude.{slice_get}
 use Rattle.std.proofs.lemmas.Bool.Decides.{eqb_tells, leb_tells}
 use Rattle.std.proofs.lemmas.List.{length-map}
 use Rattle.std.proofs.lemmas.Option.{slice_get_past, get_or_from_slice_get}
-use Rattle.flow_check.specs.Records.{Calls, recorded, call_in}
-use Rattle.flow_check.specs.Remaining.{none_placed, placing, next_at, next_of}
+use Rattle.flow_check.specs.Records.{CallsByCaller, recorded, call_in}
+use Rattle.flow_check.specs.Remaining.{none_placed, placing, next_at, next_call_of}
 use Rattle.flow_check.specs.Orders.{turns_of}
 use Rattle.flow_check.proofs.Turns.{turns-snoc, turns-snoc_other}
 
@@ -23,12 +23,12 @@ module _ {A : Type 0} where
   get-set_other (y ∷ xs) (suc i) (suc j) x apart l = get-set_other xs i j x (λ e. apart (ap suc e)) (omega arith)
 
 module _ {C : Type 0} where
-  none_at : (callers : Calls C) (i : ℕ) → i < length callers → slice_get (none_placed callers) i ≡ Some 0
+  none_at : (callers : CallsByCaller C) (i : ℕ) → i < length callers → slice_get (none_placed callers) i ≡ Some 0
   none_at [] i l = absurd (omega arith)
   none_at (calls ∷ callers) zero l = refl
   none_at (calls ∷ callers) (suc i) l = none_at callers i (omega arith)
 
-module _ {C : Type 0} (callers : Calls C) where
+module _ {C : Type 0} (callers : CallsByCaller C) where
   -- as many calls of each caller have happened as it had turns
   pub record Counts (placed p : List ℕ) : Type 0 where
     pub size : length placed ≡ length callers
@@ -53,7 +53,7 @@ module _ {C : Type 0} (callers : Calls C) where
           ∙ ap Some (sym (turns-snoc i p))
 
   -- a caller's first call that has not happened is its next one after its turns
-  pub next_same : (placed p : List ℕ) (i : ℕ) → Counts placed p → next_of callers placed i ≡ recorded callers i (turns_of i p)
+  pub next_same : (placed p : List ℕ) (i : ℕ) → Counts placed p → next_call_of callers placed i ≡ recorded callers i (turns_of i p)
   next_same placed p i c = let size = c.size in elim (leb_tells (suc i) (length callers)) [
     | inl e ↦ ap (next_at callers i) (c.each i e.1)
     | inr e ↦ let far : length callers ≤ i = let low = e.1 in omega arith in

@@ -4,28 +4,28 @@ use Rattle.std.specs.Cmp.Derive.{both_true}
 use Rattle.std.proofs.lemmas.Bool.{false≢true, cond-true, cond-false, and_parts}
 use Rattle.std.proofs.lemmas.Bool.Decides.{eqb_tells}
 use Rattle.flow_check.specs.declared.shared_machine.Held.{Held}
-use Rattle.flow_check.specs.SharedMachine.{Kept, is_blocked, append, admit, settle, same_values, own_left}
+use Rattle.flow_check.specs.SharedMachine.{Kept, is_kept_blocked, append_kept, admit_kept, settle_kept, same_values, own_left}
 
 -- what is queued already makes no difference
-admit_anew : (s : Kept) (q r : List Held) → admit (record s { queue = r }) q ≡ admit s q
+admit_anew : (s : Kept) (q r : List Held) → admit_kept (record s { queue = r }) q ≡ admit_kept s q
 admit_anew s [] r = refl
-admit_anew s (h ∷ q) r = ap (λ (t : Kept). cond (is_blocked s) (record s { queue = h ∷ q }) t) (admit_anew (append h.caller h.value s) q r)
+admit_anew s (h ∷ q) r = ap (λ (t : Kept). cond (is_kept_blocked s) (record s { queue = h ∷ q }) t) (admit_anew (append_kept h.caller h.value s) q r)
 
-pub admitted_first : (s : Kept) (h : Held) (q : List Held) → is_blocked s ≡ false → s.queue ≡ h ∷ q → settle (append h.caller h.value (record s { queue = q })) ≡ settle s
+pub admitted_first : (s : Kept) (h : Held) (q : List Held) → is_kept_blocked s ≡ false → s.queue ≡ h ∷ q → settle_kept (append_kept h.caller h.value (record s { queue = q })) ≡ settle_kept s
 admitted_first s h q free e =
-    admit_anew (append h.caller h.value s) q q
-    ∙ sym (cond-false (is_blocked s) (record s { queue = h ∷ q }) (admit (append h.caller h.value s) q) free)
-    ∙ sym (ap (admit s) e)
+    admit_anew (append_kept h.caller h.value s) q q
+    ∙ sym (cond-false (is_kept_blocked s) (record s { queue = h ∷ q }) (admit_kept (append_kept h.caller h.value s) q) free)
+    ∙ sym (ap (admit_kept s) e)
 
-admit_blocked : (s : Kept) (q : List Held) → is_blocked s ≡ true → s.queue ≡ q → admit s q ≡ s
+admit_blocked : (s : Kept) (q : List Held) → is_kept_blocked s ≡ true → s.queue ≡ q → admit_kept s q ≡ s
 admit_blocked s [] full e = ap (λ (r : List Held). record s { queue = r }) (sym e)
-admit_blocked s (h ∷ q) full e = cond-true (is_blocked s) (record s { queue = h ∷ q }) (admit (append h.caller h.value s) q) full ∙ ap (λ (r : List Held). record s { queue = r }) (sym e)
+admit_blocked s (h ∷ q) full e = cond-true (is_kept_blocked s) (record s { queue = h ∷ q }) (admit_kept (append_kept h.caller h.value s) q) full ∙ ap (λ (r : List Held). record s { queue = r }) (sym e)
 
-pub settled_blocked : (s : Kept) → is_blocked s ≡ true → settle s ≡ s
+pub settled_blocked : (s : Kept) → is_kept_blocked s ≡ true → settle_kept s ≡ s
 settled_blocked s full = admit_blocked s s.queue full refl
 
-pub settled_empty : (s : Kept) → s.queue ≡ [] → settle s ≡ s
-settled_empty s e = ap (admit s) e ∙ ap (λ (r : List Held). record s { queue = r }) (sym e)
+pub settled_empty : (s : Kept) → s.queue ≡ [] → settle_kept s ≡ s
+settled_empty s e = ap (admit_kept s) e ∙ ap (λ (r : List Held). record s { queue = r }) (sym e)
 
 -- ---- own first values
 

@@ -20,7 +20,7 @@ use Rattle.flow_law.proofs.RowOrder.{InOrder}
 use Rattle.flow_law.specs.Laws.{RisesTo}
 use Rattle.flow_law.proofs.RowOrder.{numbers_of}
 use Rattle.flow_check.specs.Subscribed.{kept_of}
-use Rattle.flow_check.specs.SharedMachine.{Kept, most_lag, own_left, capacity, trim, with_lag, with_own as set_own}
+use Rattle.flow_check.specs.SharedMachine.{Kept, most_lag, own_left, kept_capacity, trim, with_lag, with_own_kept as set_own}
 use Rattle.flow_check.proofs.LagLemmas.{lag_upto, most-set, most-set_none}
 use Rattle.flow_check.proofs.SharedSeats.{IsSeated, SeatsAs, Others, seats_went, seats_left}
 use Rattle.flow_check.proofs.SharedStanding.{SeatsOf, ValuesOf, StandsAs, or_right}
@@ -73,13 +73,13 @@ module _ (size k : ℕ) (owners : List Owner) where
 
   -- Subscribers change, and there is something to receive only if there was: an emitter that waits waited before.
   pub still_waits : (m n : Kept) (s t : SharedFlowState ℕ) (others : List Owner) → SeatsOf size m s owners → ValuesOf m s → InOrder s → SeatsOf size n t others → ValuesOf n t → InOrder t → n.config ≡ m.config → t.queue ≡ s.queue → t.emitted ≡ s.emitted
-      → (capacity m ≡ 0 → 0 < most_lag n.lags → 0 < most_lag m.lags) → (e : ℕ) → flow.is_waiting e t ≡ true → flow.is_waiting e s ≡ true
+      → (kept_capacity m ≡ 0 → 0 < most_lag n.lags → 0 < most_lag m.lags) → (e : ℕ) → flow.is_waiting e t ≡ true → flow.is_waiting e s ≡ true
   still_waits m n s t others seats values rises after more ordered config queue emitted some e w = elim (or_cases (law.is_queued e t) (law.is_offered_as e t) w) [
     | inl q ↦ or_left (law.is_queued e s) (law.is_offered_as e s) (ap (λ (qs : List (Numbered ℕ)). list_any (λ p. p.number == e) qs) (sym queue) ∙ q)
     | inr o ↦
         let both = and_parts (law.is_offering t) (law.newest t == e) o in
         let offers = offers_some size n t others after more ordered both.0 in
-        let none : capacity m ≡ 0 = ap (λ (c : Config). c.replay + c.extra) (sym config) ∙ offers.0 in
+        let none : kept_capacity m ≡ 0 = ap (λ (c : Config). c.replay + c.extra) (sym config) ∙ offers.0 in
         let same : law.newest s ≡ law.newest t = ap (λ (es : List (Numbered ℕ)). option_map_or (λ x. x.number) (slice_get es (length es - 1)) 0) (sym emitted) in
         or_right (law.is_queued e s) (law.is_offered_as e s) (both_true (offers_of size m s owners seats values rises none (some none offers.1)) (ap (λ (n : ℕ). n == e) same ∙ both.1))
   ]

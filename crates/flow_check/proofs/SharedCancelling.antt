@@ -1,4 +1,4 @@
--- What `cancel` does to the state of a checker of shared flows, and to that of the documented flow.
+-- What `cancel_kept` does to the state of a checker of shared flows, and to that of the documented flow.
 use Rattle.std.proofs.Common.{◌≡◌, ℕ, Bool, true, not, ◌==◌, cond, List, [], ◌∷◌, length, map, refl, sym, subst, inl, inr, arith}
 use Rattle.std.specs.Prelude.{filter}
 use Rattle.std.specs.List.{list_any}
@@ -11,7 +11,7 @@ use Rattle.flow_law.specs.SharedFlow as law
 use Rattle.flow_law.specs.SharedStep as flow
 use Rattle.flow_law.proofs.Rows.{split}
 use Rattle.flow_law.proofs.RowOrder.{InOrder}
-use Rattle.flow_check.specs.SharedMachine.{Kept, cleared, settle, withdraw, cancel}
+use Rattle.flow_check.specs.SharedMachine.{Kept, cleared, settle_kept, withdraw_kept, cancel_kept}
 use Rattle.flow_check.proofs.LagLemmas.{most_cleared}
 use Rattle.flow_check.proofs.SharedSeats.{moves_all, seats_moved}
 use Rattle.flow_check.proofs.SharedStanding.{IsEmitter, StandsAs, queue_without, or_right}
@@ -62,7 +62,7 @@ module _ (size k : ℕ) (owners : List Owner)
       owned = st.owned;
     }
 
-    withdrawn : InOrder (flow.withdraw e s) → StandsAs size (withdraw caller m) k (flow.withdraw e s) owners
+    withdrawn : InOrder (flow.withdraw e s) → StandsAs size (withdraw_kept caller m) k (flow.withdraw e s) owners
     withdrawn after =
         subst (λ (b : Bool). StandsAs size (cond b (record m { lags = map cleared m.lags }) (record m { queue = filter (λ h. not (h.caller == caller)) m.queue })) k (flow.withdraw e s) owners)
         (sym (offered_same size m s owners st.seats st.values rises st.waits caller e own waiting))
@@ -70,8 +70,8 @@ module _ (size k : ℕ) (owners : List Owner)
         (λ b. InOrder (cond b Taken Lost) → StandsAs size (cond b (record m { lags = map cleared m.lags }) (record m { queue = filter (λ h. not (h.caller == caller)) m.queue })) k (cond b Taken Lost) owners)
         (λ _ after. taken after) (λ _ _. lost) after)
 
-    pub cancelled : InOrder (flow.settle (flow.withdraw e s)) → StandsAs size (cancel caller m) k (flow.settle (flow.withdraw e s)) owners
+    pub cancelled : InOrder (flow.settle (flow.withdraw e s)) → StandsAs size (cancel_kept caller m) k (flow.settle (flow.withdraw e s)) owners
     cancelled after =
         let before = unsettled size k owners m s st rises (flow.withdraw e s) after in
-        subst (λ (b : Bool). StandsAs size (cond b (settle (withdraw caller m)) m) k (flow.settle (flow.withdraw e s)) owners) (sym (waits_mine size m s owners st.seats st.values rises st.waits caller e own waiting))
-        (settled size k owners (withdraw caller m) (flow.withdraw e s) (withdrawn before) before)
+        subst (λ (b : Bool). StandsAs size (cond b (settle_kept (withdraw_kept caller m)) m) k (flow.settle (flow.withdraw e s)) owners) (sym (waits_mine size m s owners st.seats st.values rises st.waits caller e own waiting))
+        (settled size k owners (withdraw_kept caller m) (flow.withdraw e s) (withdrawn before) before)

@@ -17,7 +17,7 @@ use Rattle.flow_law.proofs.CoveringLemmas.{slice_get_last}
 use Rattle.flow_law.proofs.Rows.{split}
 use Rattle.flow_law.proofs.RowOrder.{InOrder}
 use Rattle.flow_check.specs.declared.shared_machine.Held.{Held}
-use Rattle.flow_check.specs.SharedMachine.{Kept, most_lag, raised, capacity, window, append, admit, settle}
+use Rattle.flow_check.specs.SharedMachine.{Kept, most_lag, raised, kept_capacity, kept_window, append_kept, admit_kept, settle_kept}
 use Rattle.flow_check.proofs.LagLemmas.{most_raised}
 use Rattle.flow_check.proofs.SharedSeats.{SeatsAs, moves_none, moves_all, seats_moved}
 use Rattle.flow_check.proofs.SharedStanding.{IsEmitter, ValuesAs, Queued, OnceWaits, WaitsAs, SeatsOf, ValuesOf, StandsAs, or_right}
@@ -76,40 +76,40 @@ module _ (size : ℕ) (m : Kept) (k : ℕ) (s : SharedFlowState ℕ) (owners : L
   Emitted e = record s { emitted = s.emitted ++ e ∷ [] }
 
   -- every subscriber has one more to receive
-  pub seats_appended : (caller v : ℕ) (e : Numbered ℕ) → InOrder s → law.is_blocked s ≡ false → SeatsOf size (append caller v m) (Emitted e) owners
+  pub seats_appended : (caller v : ℕ) (e : Numbered ℕ) → InOrder s → law.is_blocked s ≡ false → SeatsOf size (append_kept caller v m) (Emitted e) owners
   seats_appended caller v e rises free =
       let below = free_below size m s owners seats values rises free in
       let longer = length_push s.emitted e in
-      seats_moved size m.lags m.owns s.subscribers (length s.emitted) owners seats s.subscribers (length (s.emitted ++ e ∷ [])) (λ p. p) (λ lag. min (lag + 1) (window m)) (raised (window m)) (moves_none s.subscribers) refl (λ lag. refl)
+      seats_moved size m.lags m.owns s.subscribers (length s.emitted) owners seats s.subscribers (length (s.emitted ++ e ∷ [])) (λ p. p) (λ lag. min (lag + 1) (kept_window m)) (raised (kept_window m)) (moves_none s.subscribers) refl (λ lag. refl)
       (λ lag p low reach. omega arith)
 
   -- the same, but none has more than a buffer
-  pub seats_dropped : (caller v : ℕ) (e : Numbered ℕ) → 0 < capacity m
-      → SeatsAs size (map (raised (window m)) m.lags) m.owns (raise_to (length (s.emitted ++ e ∷ []) - law.capacity s) s.subscribers) (length (s.emitted ++ e ∷ [])) owners
+  pub seats_dropped : (caller v : ℕ) (e : Numbered ℕ) → 0 < kept_capacity m
+      → SeatsAs size (map (raised (kept_window m)) m.lags) m.owns (raise_to (length (s.emitted ++ e ∷ []) - law.capacity s) s.subscribers) (length (s.emitted ++ e ∷ [])) owners
   seats_dropped caller v e some =
       let longer = length_push s.emitted e in
       let a = values.replay in
       let b = values.extra in
       seats_moved size m.lags m.owns s.subscribers (length s.emitted) owners seats (raise_to (length (s.emitted ++ e ∷ []) - law.capacity s) s.subscribers) (length (s.emitted ++ e ∷ []))
-      (λ p. max p (length (s.emitted ++ e ∷ []) - law.capacity s)) (λ lag. min (lag + 1) (window m)) (raised (window m)) (moves_all (λ p. max p (length (s.emitted ++ e ∷ []) - law.capacity s)) s.subscribers) refl (λ lag. refl)
+      (λ p. max p (length (s.emitted ++ e ∷ []) - law.capacity s)) (λ lag. min (lag + 1) (kept_window m)) (raised (kept_window m)) (moves_all (λ p. max p (length (s.emitted ++ e ∷ []) - law.capacity s)) s.subscribers) refl (λ lag. refl)
       (λ lag p low reach. omega arith)
 
-  pub values_appended : (caller v : ℕ) (e : Numbered ℕ) → e.value ≡ v → ValuesOf (append caller v m) (Emitted e)
+  pub values_appended : (caller v : ℕ) (e : Numbered ℕ) → e.value ≡ v → ValuesOf (append_kept caller v m) (Emitted e)
   values_appended caller v e is =
-      let raise = most_raised (window m) m.lags in
-      values_more m.config m.values m.cached (most_lag m.lags) (most_lag (map (raised (window m)) m.lags)) s.config s.emitted s.reset_mark v e is (omega arith) (λ none. omega arith) values
+      let raise = most_raised (kept_window m) m.lags in
+      values_more m.config m.values m.cached (most_lag m.lags) (most_lag (map (raised (kept_window m)) m.lags)) s.config s.emitted s.reset_mark v e is (omega arith) (λ none. omega arith) values
 
 -- what is offered after an emission whose emitter has this number, if it waits
 pub waits_appended : (m : Kept) (caller v : ℕ) (t : SharedFlowState ℕ) (e : Numbered ℕ) (hs : List Held) (owners : List Owner) → law.newest t ≡ e.number → Queued owners hs t.queue → OnceWaits owners t
-    → (capacity m ≡ 0 → 0 < most_lag (map (raised (window m)) m.lags) → IsEmitter caller e.number owners) → WaitsAs (record (append caller v m) { queue = hs }) t owners
+    → (kept_capacity m ≡ 0 → 0 < most_lag (map (raised (kept_window m)) m.lags) → IsEmitter caller e.number owners) → WaitsAs (record (append_kept caller v m) { queue = hs }) t owners
 waits_appended m caller v t e hs owners newest queue once emitter = record {
   queue = queue;
   offered = λ none some. (
     caller,
-    cond-true (capacity m == 0) (Some caller) None (eq-eqb (capacity m) 0 none),
+    cond-true (kept_capacity m == 0) (Some caller) None (eq-eqb (kept_capacity m) 0 none),
     subst (λ (n : ℕ). IsEmitter caller n owners) (sym newest) (emitter none some),
   );
-  unoffered = λ some. cond-false (capacity m == 0) (Some caller) None (ne_eqb (capacity m) 0 some);
+  unoffered = λ some. cond-false (kept_capacity m == 0) (Some caller) None (ne_eqb (kept_capacity m) 0 some);
   once = once;
 }
 
@@ -122,7 +122,7 @@ once_fewer owners s t fewer once = λ caller e f a b x y. once caller e f a b (f
 module _ (size k : ℕ) (owners : List Owner) where
   -- the first of the queue, into a flow that is not blocked
   first_admitted : (m : Kept) (s : SharedFlowState ℕ) (h : Held) (hs : List Held) (q : Numbered ℕ) (qs : List (Numbered ℕ)) → StandsAs size (record m { queue = h ∷ hs }) k (record s { queue = q ∷ qs }) owners
-      → InOrder s → law.is_blocked s ≡ false → StandsAs size (record (append h.caller h.value m) { queue = hs }) k (record s { emitted = s.emitted ++ q ∷ []; queue = qs }) owners
+      → InOrder s → law.is_blocked s ≡ false → StandsAs size (record (append_kept h.caller h.value m) { queue = hs }) k (record s { emitted = s.emitted ++ q ∷ []; queue = qs }) owners
   first_admitted m s h hs q qs st rises free = record {
     seats = seats_appended size m k s owners st.seats st.values h.caller h.value q rises free;
     values = values_appended size m k s owners st.seats st.values h.caller h.value q st.waits.queue.0;
@@ -142,16 +142,16 @@ module _ (size k : ℕ) (owners : List Owner) where
       ]
 
   pub admitted : (hs : List Held) (qs : List (Numbered ℕ)) (m : Kept) (s : SharedFlowState ℕ) → StandsAs size (record m { queue = hs }) k (record s { queue = qs }) owners → InOrder s
-      → StandsAs size (admit m hs) k (flow.admit s qs) owners
+      → StandsAs size (admit_kept m hs) k (flow.admit s qs) owners
   admitted [] [] m s st rises = st
   admitted [] (q ∷ qs) m s st rises = absurd st.waits.queue
   admitted (h ∷ hs) [] m s st rises = absurd st.waits.queue
   admitted (h ∷ hs) (q ∷ qs) m s st rises =
-      subst (λ (b : Bool). StandsAs size (cond b (record m { queue = h ∷ hs }) (admit (append h.caller h.value m) hs)) k (flow.admit s (q ∷ qs)) owners) (sym (blocked_same size m s owners st.seats st.values rises))
+      subst (λ (b : Bool). StandsAs size (cond b (record m { queue = h ∷ hs }) (admit_kept (append_kept h.caller h.value m) hs)) k (flow.admit s (q ∷ qs)) owners) (sym (blocked_same size m s owners st.seats st.values rises))
       (split (law.is_blocked s)
-      (λ b. law.is_blocked s ≡ b → StandsAs size (cond b (record m { queue = h ∷ hs }) (admit (append h.caller h.value m) hs)) k (cond b (record s { queue = q ∷ qs }) (flow.admit (record s { emitted = s.emitted ++ q ∷ [] }) qs)) owners)
+      (λ b. law.is_blocked s ≡ b → StandsAs size (cond b (record m { queue = h ∷ hs }) (admit_kept (append_kept h.caller h.value m) hs)) k (cond b (record s { queue = q ∷ qs }) (flow.admit (record s { emitted = s.emitted ++ q ∷ [] }) qs)) owners)
       (λ _ _. st)
-      (λ _ free. admitted hs qs (append h.caller h.value m) (record s { emitted = s.emitted ++ q ∷ [] }) (first_admitted m s h hs q qs st rises free) rises) refl)
+      (λ _ free. admitted hs qs (append_kept h.caller h.value m) (record s { emitted = s.emitted ++ q ∷ [] }) (first_admitted m s h hs q qs st rises free) rises) refl)
 
-  pub settled : (m : Kept) (s : SharedFlowState ℕ) → StandsAs size m k s owners → InOrder s → StandsAs size (settle m) k (flow.settle s) owners
+  pub settled : (m : Kept) (s : SharedFlowState ℕ) → StandsAs size m k s owners → InOrder s → StandsAs size (settle_kept m) k (flow.settle s) owners
   settled m s st rises = admitted m.queue s.queue m s st rises

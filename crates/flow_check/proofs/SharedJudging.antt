@@ -15,7 +15,7 @@ use Rattle.flow_law.specs.SharedHistory.{shared_flow}
 use Rattle.flow_check.specs.declared.verdict.Verdict.{Verdict}
 use Rattle.flow_check.specs.declared.verdict.Verdict.TheVariants.{Legal, Illegal, GaveUp}
 use Rattle.flow_check.specs.declared.shared_calls.SharedEntry.{SharedEntry}
-use Rattle.flow_check.specs.Records.{Calls, IsWellTimed}
+use Rattle.flow_check.specs.Records.{CallsByCaller, IsWellTimed}
 use Rattle.flow_check.specs.Remaining.{none_placed, GoesThroughAll}
 use Rattle.flow_check.specs.Verdicts.{Judges}
 use Rattle.flow_check.specs.SharedRecords.{AddsEntry, ExplainsShared}
@@ -39,10 +39,10 @@ none_left (c ∷ callers) zero = refl
 none_left (c ∷ callers) (suc i) = none_left callers i
 
 -- the checker's state before any call
-abbrev pub begun : Calls SharedEntry → Config → Kept
+abbrev pub begun : CallsByCaller SharedEntry → Config → Kept
 begun callers config = record { config = config; values = []; cached = 0; lags = none_subscribed callers; owns = no_values callers; queue = []; offered = None }
 
-module _ (callers : Calls SharedEntry) (config : Config) (limit : ℕ) (whole : config_fault config ≡ None) where
+module _ (callers : CallsByCaller SharedEntry) (config : Config) (limit : ℕ) (whole : config_fault config ≡ None) where
   abbrev first : SharedFlowState ℕ
   first = first_of config limit
 
@@ -102,7 +102,7 @@ fault_free None e = refl
 fault_free (Some fault) e = absurd (false≢true (sym e))
 
 -- what is judged of steps is judged of histories
-pub judged : (callers : Calls SharedEntry) (config : Config) (verdict : Verdict) → config_fault config ≡ None → IsWellTimed callers
+pub judged : (callers : CallsByCaller SharedEntry) (config : Config) (verdict : Verdict) → config_fault config ≡ None → IsWellTimed callers
     → Judges (GoesThroughAll stepped may_skip callers (begun callers config)) verdict → Judges (ExplainsShared callers config) verdict
 judged callers config (Legal order) whole well through =
     let limit = length order.items in

@@ -18,10 +18,10 @@ use Rattle.flow_law.proofs.Owners.{UpTo, up_to_more, owned_up_to, owner_of_older
 use Rattle.flow_law.proofs.RowOrder.{InOrder, in_order_keeps}
 use Rattle.flow_check.specs.declared.shared_machine.EmitCase.{EmitCase}
 use Rattle.flow_check.specs.declared.shared_machine.EmitCase.TheVariants as emits
-use Rattle.flow_check.specs.StateRecords.{name_of}
+use Rattle.flow_check.specs.StateRecords.{caller_name}
 use Rattle.flow_check.specs.SharedRecords.{HasNoEmission}
 use Rattle.flow_check.specs.Subscribed.{present}
-use Rattle.flow_check.specs.SharedMachine.{Kept, most_lag, raised, capacity, window, is_blocked, when_blocked, emit_case, append, hold}
+use Rattle.flow_check.specs.SharedMachine.{Kept, most_lag, raised, kept_capacity, kept_window, is_kept_blocked, kept_when_blocked, kept_emit_case, append_kept, hold}
 use Rattle.flow_check.proofs.LagLemmas.{most_absent, present-map}
 use Rattle.flow_check.proofs.SharedStanding.{IsEmitter, OnceWaits, SeatsOf, ValuesOf, StandsAs, emitter_same, queue_snoc, queue_older, or_right}
 use Rattle.flow_check.proofs.SharedEmitting.{seats_appended, seats_dropped, values_appended, waits_appended, once_fewer, newest_is}
@@ -37,9 +37,9 @@ as_own rule.drops_latest = emits.DropsLatest
 as_own rule.drops_oldest = emits.DropsOldest
 
 abbrev case_of : ℕ → Bool → ℕ → Overflow → EmitCase
-case_of n b c o = cond ((n == 0) || (not b && nat_lt 0 c)) emits.Appends (cond b (when_blocked o) emits.Offers)
+case_of n b c o = cond ((n == 0) || (not b && nat_lt 0 c)) emits.Appends (cond b (kept_when_blocked o) emits.Offers)
 
-by_tests : (a b : Bool) (o : Overflow) → cond a emits.Appends (cond b (when_blocked o) emits.Offers) ≡ as_own (cond a rule.appends (cond b (rule.when_blocked o) rule.offers))
+by_tests : (a b : Bool) (o : Overflow) → cond a emits.Appends (cond b (kept_when_blocked o) emits.Offers) ≡ as_own (cond a rule.appends (cond b (rule.when_blocked o) rule.offers))
 by_tests true b o = refl
 by_tests false true Suspend = refl
 by_tests false true DropOldest = refl
@@ -47,31 +47,31 @@ by_tests false true DropLatest = refl
 by_tests false false o = refl
 
 module _ (size : ℕ) (m : Kept) (k : ℕ) (s : SharedFlowState ℕ) (owners : List Owner) (st : StandsAs size m k s owners) (rises : InOrder s) where
-  pub capacity_same : capacity m ≡ law.capacity s
+  pub capacity_same : kept_capacity m ≡ law.capacity s
   capacity_same = let a = st.values.replay in let b = st.values.extra in omega arith
 
-  pub case_same : emit_case m ≡ as_own (rule.emit_case s)
+  pub case_same : kept_emit_case m ≡ as_own (rule.emit_case s)
   case_same =
-      ap (λ (n : ℕ). case_of n (is_blocked m) (capacity m) m.config.overflow) (sym st.seats.count)
-      ∙ ap (λ (b : Bool). case_of (length s.subscribers) b (capacity m) m.config.overflow) (blocked_same size m s owners st.seats st.values rises)
+      ap (λ (n : ℕ). case_of n (is_kept_blocked m) (kept_capacity m) m.config.overflow) (sym st.seats.count)
+      ∙ ap (λ (b : Bool). case_of (length s.subscribers) b (kept_capacity m) m.config.overflow) (blocked_same size m s owners st.seats st.values rises)
       ∙ ap (λ (c : ℕ). case_of (length s.subscribers) (law.is_blocked s) c m.config.overflow) capacity_same
       ∙ ap (λ (o : Overflow). case_of (length s.subscribers) (law.is_blocked s) (law.capacity s) o) st.values.overflow
       ∙ by_tests (rule.is_open s) (law.is_blocked s) s.config.overflow
 
   -- what holds in each case
   abbrev pub Facts : rule.EmitCase → Type 0
-  Facts rule.appends = (law.is_blocked s ≡ false) × (capacity m ≡ 0 → present m.lags ≡ 0)
+  Facts rule.appends = (law.is_blocked s ≡ false) × (kept_capacity m ≡ 0 → present m.lags ≡ 0)
   Facts rule.offers = law.is_blocked s ≡ false
   Facts rule.queues = (law.is_blocked s ≡ true) × (s.config.overflow ≡ Suspend)
   Facts rule.drops_latest = Unit {0}
-  Facts rule.drops_oldest = (law.is_blocked s ≡ true) × (s.config.overflow ≡ DropOldest) × (0 < capacity m)
+  Facts rule.drops_oldest = (law.is_blocked s ≡ true) × (s.config.overflow ≡ DropOldest) × (0 < kept_capacity m)
 
   pub facts : Facts (rule.emit_case s)
   facts = cond_both (rule.is_open s) rule.appends (cond (law.is_blocked s) (rule.when_blocked s.config.overflow) rule.offers) Facts
       (λ ready. (open_not_blocked s ready, λ none. nobody none (or_cases (length s.subscribers == 0) (not (law.is_blocked s) && nat_lt 0 (law.capacity s)) ready)))
       (λ _. cond_both (law.is_blocked s) (rule.when_blocked s.config.overflow) rule.offers Facts (λ e. full s.config.overflow refl e) (λ e. e))
     where
-      nobody : capacity m ≡ 0 → ((length s.subscribers == 0) ≡ true) ⊎ ((not (law.is_blocked s) && nat_lt 0 (law.capacity s)) ≡ true) → present m.lags ≡ 0
+      nobody : kept_capacity m ≡ 0 → ((length s.subscribers == 0) ≡ true) ⊎ ((not (law.is_blocked s) && nat_lt 0 (law.capacity s)) ≡ true) → present m.lags ≡ 0
       nobody none x = elim x [
         | inl e ↦ sym st.seats.count ∙ (Decides-eqb (length s.subscribers) 0).0 e
         | inr e ↦
@@ -89,31 +89,31 @@ module _ (size : ℕ) (m : Kept) (k : ℕ) (s : SharedFlowState ℕ) (owners : L
       full DropOldest e b = (
         b,
         e,
-        elim (eqb_tells (capacity m) 0) [
+        elim (eqb_tells (kept_capacity m) 0) [
           | inl z ↦ let is = st.values.suspends z.1 in let over = st.values.overflow in absurd (cc)
-          | inr z ↦ positive (capacity m) z.1
+          | inr z ↦ positive (kept_capacity m) z.1
         ],
       )
 
   -- ---- a value without an emitter that waits
 
   -- nothing new waits after an emission, if a flow without a buffer has no subscriber
-  not_offered : (caller v : ℕ) (t : SharedFlowState ℕ) → SeatsOf size (append caller v m) t owners → ValuesOf (append caller v m) t → InOrder t → t.queue ≡ s.queue
-      → (capacity m ≡ 0 → most_lag (map (raised (window m)) m.lags) ≡ 0) → (e : ℕ) → flow.is_waiting e t ≡ true → flow.is_waiting e s ≡ true
+  not_offered : (caller v : ℕ) (t : SharedFlowState ℕ) → SeatsOf size (append_kept caller v m) t owners → ValuesOf (append_kept caller v m) t → InOrder t → t.queue ≡ s.queue
+      → (kept_capacity m ≡ 0 → most_lag (map (raised (kept_window m)) m.lags) ≡ 0) → (e : ℕ) → flow.is_waiting e t ≡ true → flow.is_waiting e s ≡ true
   not_offered caller v t seats values after queue none e w = elim (or_cases (law.is_queued e t) (law.is_offered_as e t) w) [
     | inl q ↦ or_left (law.is_queued e s) (law.is_offered_as e s) (ap (λ (qs : List (Numbered ℕ)). list_any (λ p. p.number == e) qs) (sym queue) ∙ q)
     | inr o ↦
         let both = and_parts (law.is_offering t) (law.newest t == e) o in
-        let some = offers_some size (append caller v m) t owners seats values after both.0 in
+        let some = offers_some size (append_kept caller v m) t owners seats values after both.0 in
         let zero = none some.0 in
         let more = some.1 in
         absurd (omega arith)
   ]
 
-  pub appended : (caller v : ℕ) → law.is_blocked s ≡ false → (capacity m ≡ 0 → present m.lags ≡ 0) → StandsAs size (append caller v m) (k + 1) (rule.append v s) owners
+  pub appended : (caller v : ℕ) → law.is_blocked s ≡ false → (kept_capacity m ≡ 0 → present m.lags ≡ 0) → StandsAs size (append_kept caller v m) (k + 1) (rule.append v s) owners
   appended caller v free nobody =
-      let seats : SeatsOf size (append caller v m) (rule.append v s) owners = seats_appended size m k s owners st.seats st.values caller v (rule.numbered v s) rises free in
-      let values : ValuesOf (append caller v m) (rule.append v s) = values_appended size m k s owners st.seats st.values caller v (rule.numbered v s) refl in
+      let seats : SeatsOf size (append_kept caller v m) (rule.append v s) owners = seats_appended size m k s owners st.seats st.values caller v (rule.numbered v s) rises free in
+      let values : ValuesOf (append_kept caller v m) (rule.append v s) = values_appended size m k s owners st.seats st.values caller v (rule.numbered v s) refl in
       let upto = st.issued in record {
         seats = seats;
         values = values;
@@ -124,14 +124,14 @@ module _ (size : ℕ) (m : Kept) (k : ℕ) (s : SharedFlowState ℕ) (owners : L
         owned = up_to_more s.issued (s.issued + 1) owners (omega arith) st.owned;
       }
     where
-      nothing : capacity m ≡ 0 → most_lag (map (raised (window m)) m.lags) ≡ 0
-      nothing none = most_absent (map (raised (window m)) m.lags)
-          (present-map (raised (window m)) refl (λ lag. Rattle.std.specs.Prelude.min (lag + 1) (window m)) (λ lag. refl) m.lags ∙ nobody none)
+      nothing : kept_capacity m ≡ 0 → most_lag (map (raised (kept_window m)) m.lags) ≡ 0
+      nothing none = most_absent (map (raised (kept_window m)) m.lags)
+          (present-map (raised (kept_window m)) refl (λ lag. Rattle.std.specs.Prelude.min (lag + 1) (kept_window m)) (λ lag. refl) m.lags ∙ nobody none)
 
-  pub dropped : (caller v : ℕ) → law.is_blocked s ≡ true → s.config.overflow ≡ DropOldest → 0 < capacity m → StandsAs size (append caller v m) (k + 1) (rule.drop_oldest (rule.append v s)) owners
+  pub dropped : (caller v : ℕ) → law.is_blocked s ≡ true → s.config.overflow ≡ DropOldest → 0 < kept_capacity m → StandsAs size (append_kept caller v m) (k + 1) (rule.drop_oldest (rule.append v s)) owners
   dropped caller v blocked over some =
-      let seats : SeatsOf size (append caller v m) (rule.drop_oldest (rule.append v s)) owners = seats_dropped size m k s owners st.seats st.values caller v (rule.numbered v s) some in
-      let values : ValuesOf (append caller v m) (rule.drop_oldest (rule.append v s)) = values_appended size m k s owners st.seats st.values caller v (rule.numbered v s) refl in
+      let seats : SeatsOf size (append_kept caller v m) (rule.drop_oldest (rule.append v s)) owners = seats_dropped size m k s owners st.seats st.values caller v (rule.numbered v s) some in
+      let values : ValuesOf (append_kept caller v m) (rule.drop_oldest (rule.append v s)) = values_appended size m k s owners st.seats st.values caller v (rule.numbered v s) refl in
       let upto = st.issued in record {
         seats = seats;
         values = values;
@@ -147,17 +147,17 @@ module _ (size : ℕ) (m : Kept) (k : ℕ) (s : SharedFlowState ℕ) (owners : L
 
   module _ (caller v : ℕ) (free : HasNoEmission s owners caller) where
     abbrev pub emitter : Owner
-    emitter = record { number = emission (s.issued + 1); name = name_of caller }
+    emitter = record { number = emission (s.issued + 1); name = caller_name caller }
 
     -- whose an emission is
     whose : (i e : ℕ) → IsEmitter i e (emitter ∷ owners) → ((e ≡ s.issued + 1) × (i ≡ caller)) ⊎ ((e ≢ s.issued + 1) × IsEmitter i e owners)
     whose i e own = elim (eqb_tells (s.issued + 1) e) [
       | inl q ↦ inl (sym q.1, emitter_same i caller (s.issued + 1) (emitter ∷ owners) (subst (λ (n : ℕ). IsEmitter i n (emitter ∷ owners)) (sym q.1) own) (newest_owner emitter owners))
-      | inr q ↦ inr ((λ z. q.1 (sym z)), subst (λ (b : Bool). cond b (Some (name_of caller)) (owner_of (emission e) owners) ≡ Some (name_of i)) q.0 own)
+      | inr q ↦ inr ((λ z. q.1 (sym z)), subst (λ (b : Bool). cond b (Some (caller_name caller)) (owner_of (emission e) owners) ≡ Some (caller_name i)) q.0 own)
     ]
 
     older : (i e : ℕ) → IsEmitter i e owners → IsEmitter i e (emitter ∷ owners)
-    older i e own = let old = owned_up_to s.issued (emission e) (name_of i) owners st.owned own in owner_of_older (emission e) (name_of i) emitter owners (omega arith) own
+    older i e own = let old = owned_up_to s.issued (emission e) (caller_name i) owners st.owned own in owner_of_older (emission e) (caller_name i) emitter owners (omega arith) own
 
     once_more : (t : SharedFlowState ℕ) → ((e : ℕ) → e ≢ s.issued + 1 → flow.is_waiting e t ≡ true → flow.is_waiting e s ≡ true) → OnceWaits (emitter ∷ owners) t
     once_more t before i e f a b x y = elim (whose i e a) [
@@ -177,10 +177,10 @@ module _ (size : ℕ) (m : Kept) (k : ℕ) (s : SharedFlowState ℕ) (owners : L
         same : s.issued + 1 ≤ s.issued + 1
         same = omega arith
 
-    pub offered : law.is_blocked s ≡ false → StandsAs size (append caller v m) (k + 1) (rule.append v s) (emitter ∷ owners)
+    pub offered : law.is_blocked s ≡ false → StandsAs size (append_kept caller v m) (k + 1) (rule.append v s) (emitter ∷ owners)
     offered room =
         let upto = st.issued in record {
-          seats = seats_emitter size (map (raised (window m)) m.lags) m.owns s.subscribers (length (s.emitted ++ rule.numbered v s ∷ [])) (s.issued + 1) (name_of caller) owners
+          seats = seats_emitter size (map (raised (kept_window m)) m.lags) m.owns s.subscribers (length (s.emitted ++ rule.numbered v s ∷ [])) (s.issued + 1) (caller_name caller) owners
               (seats_appended size m k s owners st.seats st.values caller v (rule.numbered v s) rises room);
           values = values_appended size m k s owners st.seats st.values caller v (rule.numbered v s) refl;
           waits = waits_appended m caller v (rule.append v s) (rule.numbered v s) m.queue (emitter ∷ owners) (newest_is s (rule.numbered v s))
@@ -200,7 +200,7 @@ module _ (size : ℕ) (m : Kept) (k : ℕ) (s : SharedFlowState ℕ) (owners : L
     pub held : StandsAs size (hold caller v m) (k + 1) (rule.suspend v s) (emitter ∷ owners)
     held =
         let upto = st.issued in record {
-          seats = seats_emitter size m.lags m.owns s.subscribers (length s.emitted) (s.issued + 1) (name_of caller) owners st.seats;
+          seats = seats_emitter size m.lags m.owns s.subscribers (length s.emitted) (s.issued + 1) (caller_name caller) owners st.seats;
           values = st.values;
           waits = record {
             queue = queue_snoc (emitter ∷ owners) m.queue s.queue (record { caller = caller; value = v }) (rule.numbered v s) (queue_older owners emitter s.issued m.queue s.queue st.owned (omega arith) st.waits.queue) refl

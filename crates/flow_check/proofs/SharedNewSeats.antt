@@ -11,7 +11,7 @@ use Rattle.flow_law.specs.SharedFlow.{position_of, without}
 use Rattle.flow_law.proofs.Owners.{UpTo, owned_up_to, owner_of_older, newest_owner}
 use Rattle.flow_law.proofs.Rows.{split, rises_below, position-snoc, position-snoc_other, own-snoc, own-snoc_other}
 use Rattle.flow_law.proofs.RowOrder.{numbers_of}
-use Rattle.flow_check.specs.StateRecords.{name_of}
+use Rattle.flow_check.specs.StateRecords.{caller_name}
 use Rattle.flow_check.specs.Subscribed.{kept_of}
 use Rattle.flow_check.specs.SharedMachine.{own_left}
 use Rattle.flow_check.proofs.KeptLemmas.{kept_at, kept-set_same, kept-set_other, present-set_more}
@@ -44,14 +44,14 @@ one_fewer n b top (u ∷ us) h there = split (u.number == n) (λ t. (u.number ==
 
 -- the owner of the next number, and the subscriber of that number
 abbrev pub given_to : ℕ → ℕ → Owner
-given_to caller issued = record { number = subscriber (issued + 1); name = name_of caller }
+given_to caller issued = record { number = subscriber (issued + 1); name = caller_name caller }
 
 abbrev pub new_one : ℕ → ℕ → List ℕ → Subscriber ℕ
 new_one issued p own = record { number = issued + 1; own = own; position = p }
 
 module _ (size : ℕ) (lags : List (Option ℕ)) (owns : List (List ℕ)) (us : Subscribers) (len : ℕ) (owners : List Owner) (st : SeatsAs size lags owns us len owners) (caller : ℕ) (near : caller < size) (issued : ℕ) (owned : UpTo issued owners) where
   older_owner : (w i : ℕ) → w ≢ issued + 1 → IsOwn i w ((given_to caller issued) ∷ owners) → IsOwn i w owners
-  older_owner w i apart its = subst (λ (b : Bool). cond b (Some (name_of caller)) (owner_of (subscriber w) owners) ≡ Some (name_of i)) (ne_eqb (issued + 1) w (λ q. apart (sym q))) its
+  older_owner w i apart its = subst (λ (b : Bool). cond b (Some (caller_name caller)) (owner_of (subscriber w) owners) ≡ Some (caller_name i)) (ne_eqb (issued + 1) w (λ q. apart (sym q))) its
 
   seat_with : (i p : ℕ) (own : List ℕ) (o : Option ℕ) (kept : List ℕ) → caller ≢ i → Seat owners us len i o kept → Seat ((given_to caller issued) ∷ owners) (us ++ new_one issued p own ∷ []) len i o kept
   seat_with i p own None kept apart seat = λ w its. elim (eqb_tells (issued + 1) w) [
@@ -59,10 +59,10 @@ module _ (size : ℕ) (lags : List (Option ℕ)) (owns : List (List ℕ)) (us : 
     | inr e ↦ position-snoc_other w us (new_one issued p own) e.0 ∙ seat w (older_owner w i (λ q. e.1 (sym q)) its)
   ]
   seat_with i p own (Some lag) kept apart seat =
-      let old = owned_up_to issued (subscriber seat.number) (name_of i) owners owned seat.is_own in
+      let old = owned_up_to issued (subscriber seat.number) (caller_name i) owners owned seat.is_own in
       let other : issued + 1 ≢ seat.number = λ q. absurd (omega arith) in record {
         number = seat.number;
-        is_own = owner_of_older (subscriber seat.number) (name_of i) (given_to caller issued) owners (omega arith) seat.is_own;
+        is_own = owner_of_older (subscriber seat.number) (caller_name i) (given_to caller issued) owners (omega arith) seat.is_own;
         position = seat.position;
         stands = position-snoc_other seat.number us (new_one issued p own) (ne_eqb (issued + 1) seat.number other) ∙ seat.stands;
         reach = seat.reach;
@@ -106,8 +106,8 @@ module _ (size : ℕ) (lags : List (Option ℕ)) (owns : List (List ℕ)) (us : 
           | inl q ↦ (caller, near, subst (λ (n : ℕ). IsOwn caller n ((given_to caller issued) ∷ owners)) q.1 (newest_owner (given_to caller issued) owners))
           | inr q ↦
               let its = st.belongs u (sym (ap is_some (position-snoc_other u us (new_one issued p own) q.0)) ∙ there) in
-              let old = owned_up_to issued (subscriber u) (name_of its.0) owners owned its.2 in
-              (its.0, its.1, owner_of_older (subscriber u) (name_of its.0) (given_to caller issued) owners (omega arith) its.2)
+              let old = owned_up_to issued (subscriber u) (caller_name its.0) owners owned its.2 in
+              (its.0, its.1, owner_of_older (subscriber u) (caller_name its.0) (given_to caller issued) owners (omega arith) its.2)
         ];
       }
 

@@ -14,17 +14,17 @@ use Rattle.flow_law.proofs.Rows.{split, lag_below}
 use Rattle.flow_law.proofs.RowOrder.{InOrder, found_by_number}
 use Rattle.flow_check.specs.SharedRecords.{HasNoEmission}
 use Rattle.flow_check.specs.Subscribed.{kept_of}
-use Rattle.flow_check.specs.SharedMachine.{Kept, most_lag, own_left, capacity, window, is_blocked, offering, is_offered_by, is_in_queue, is_waiting}
+use Rattle.flow_check.specs.SharedMachine.{Kept, most_lag, own_left, kept_capacity, kept_window, is_kept_blocked, offering, is_offered_by, is_in_queue, is_caller_waiting}
 use Rattle.flow_check.proofs.KeptLemmas.{kept_within}
 use Rattle.flow_check.proofs.LagLemmas.{lag_upto, most_below, most_reached}
 use Rattle.flow_check.proofs.SharedSeats.{IsSeated, Seat, holder}
 use Rattle.flow_check.proofs.SharedStanding.{IsEmitter, SeatsOf, ValuesOf, WaitsAs, any_at, emitter_same, or_right, queue_mine, queue_theirs}
 
 module _ (size : ℕ) (m : Kept) (s : SharedFlowState ℕ) (owners : List Owner) (seats : SeatsOf size m s owners) (values : ValuesOf m s) (rises : InOrder s) where
-  pub window_same : window m ≡ law.window s
+  pub window_same : kept_window m ≡ law.window s
   window_same = let a = values.replay in let b = values.extra in omega arith
 
-  when_blocked : law.is_blocked s ≡ true → is_blocked m ≡ true
+  when_blocked : law.is_blocked s ≡ true → is_kept_blocked m ≡ true
   when_blocked e =
       let found = found_by_number (λ u. nat_le (law.window s) (law.lag s u)) 0 s.issued s.subscribers rises e in
       let held = holder size m.lags m.owns s.subscribers (length s.emitted) owners seats found.0.number found.0.position found.2 in
@@ -32,10 +32,10 @@ module _ (size : ℕ) (m : Kept) (s : SharedFlowState ℕ) (owners : List Owner)
       let upto = lag_upto m.lags held.0 held.3.0 held.3.1 in
       let reach = held.3.2 in
       let same = window_same in
-      let enough : window m ≤ most_lag m.lags = omega arith in
-      le-leb (window m) (most_lag m.lags) enough
+      let enough : kept_window m ≤ most_lag m.lags = omega arith in
+      le-leb (kept_window m) (most_lag m.lags) enough
 
-  below : law.is_blocked s ≡ false → (i lag : ℕ) → kept_of i m.lags ≡ Some lag → lag < window m
+  below : law.is_blocked s ≡ false → (i lag : ℕ) → kept_of i m.lags ≡ Some lag → lag < kept_window m
   below free i lag e =
       let within = kept_within m.lags i lag e in
       let each = seats.lags_each in
@@ -47,17 +47,17 @@ module _ (size : ℕ) (m : Kept) (s : SharedFlowState ℕ) (owners : List Owner)
       let same = window_same in
       omega arith
 
-  pub free_below : law.is_blocked s ≡ false → most_lag m.lags < window m
-  free_below free = let some : 0 < window m = omega arith in most_below (window m) m.lags some (below free)
+  pub free_below : law.is_blocked s ≡ false → most_lag m.lags < kept_window m
+  free_below free = let some : 0 < kept_window m = omega arith in most_below (kept_window m) m.lags some (below free)
 
-  when_free : law.is_blocked s ≡ false → is_blocked m ≡ false
-  when_free free = let low = free_below free in elim (leb_tells (window m) (most_lag m.lags)) [ inl e ↦ let high = e.1 in absurd (omega arith) | inr e ↦ e.0 ]
+  when_free : law.is_blocked s ≡ false → is_kept_blocked m ≡ false
+  when_free free = let low = free_below free in elim (leb_tells (kept_window m) (most_lag m.lags)) [ inl e ↦ let high = e.1 in absurd (omega arith) | inr e ↦ e.0 ]
 
-  pub blocked_same : is_blocked m ≡ law.is_blocked s
-  blocked_same = split (law.is_blocked s) (λ b. law.is_blocked s ≡ b → is_blocked m ≡ b) (λ _ e. when_blocked e) (λ _ e. when_free e) refl
+  pub blocked_same : is_kept_blocked m ≡ law.is_blocked s
+  blocked_same = split (law.is_blocked s) (λ b. law.is_blocked s ≡ b → is_kept_blocked m ≡ b) (λ _ e. when_blocked e) (λ _ e. when_free e) refl
 
   -- a value is offered if there is no buffer and some subscriber has not received it
-  pub offers_some : law.is_offering s ≡ true → (capacity m ≡ 0) × (0 < most_lag m.lags)
+  pub offers_some : law.is_offering s ≡ true → (kept_capacity m ≡ 0) × (0 < most_lag m.lags)
   offers_some e =
       let both = and_parts (law.capacity s == 0) (list_any (λ u. law.lag s u == 1) s.subscribers) e in
       let none = (Decides-eqb (law.capacity s) 0).0 both.0 in
@@ -70,7 +70,7 @@ module _ (size : ℕ) (m : Kept) (s : SharedFlowState ℕ) (owners : List Owner)
       let b = values.extra in
       (omega arith, omega arith)
 
-  pub offers_of : capacity m ≡ 0 → 0 < most_lag m.lags → law.is_offering s ≡ true
+  pub offers_of : kept_capacity m ≡ 0 → 0 < most_lag m.lags → law.is_offering s ≡ true
   offers_of none some =
       let reached = most_reached m.lags some in
       let within = kept_within m.lags reached.0 (most_lag m.lags) reached.1 in
@@ -111,7 +111,7 @@ module _ (size : ℕ) (m : Kept) (s : SharedFlowState ℕ) (owners : List Owner)
     pub offered_newest : (caller : ℕ) → is_offered_by caller (offering m) ≡ true → IsEmitter caller (law.newest s) owners × (law.is_offering s ≡ true)
     offered_newest caller h =
         let some = offered_some caller h in
-        elim (eqb_tells (capacity m) 0) [
+        elim (eqb_tells (kept_capacity m) 0) [
           | inl z ↦
               let its = waits.offered z.1 some.0 in
               (subst (λ (i : ℕ). IsEmitter i (law.newest s) owners) (same_Some its.0 caller (sym its.1 ∙ some.1)) its.2, offers_of z.1 some.0)
@@ -127,13 +127,13 @@ module _ (size : ℕ) (m : Kept) (s : SharedFlowState ℕ) (owners : List Owner)
         let same = emitter_same its.0 caller e owners (subst (λ (n : ℕ). IsEmitter its.0 n owners) is its.2) own in
         offered_by caller some.1 (its.1 ∙ ap Some same)
 
-    pub waits_mine : (caller e : ℕ) → IsEmitter caller e owners → flow.is_waiting e s ≡ true → is_waiting caller m ≡ true
+    pub waits_mine : (caller e : ℕ) → IsEmitter caller e owners → flow.is_waiting e s ≡ true → is_caller_waiting caller m ≡ true
     waits_mine caller e own h = elim (or_cases (law.is_queued e s) (law.is_offered_as e s) h) [
       | inl q ↦ or_right (is_offered_by caller (offering m)) (is_in_queue caller m.queue) (queue_mine owners m.queue s.queue caller e waits.queue own q)
       | inr o ↦ or_left (is_offered_by caller (offering m)) (is_in_queue caller m.queue) (offered_mine caller e own o)
     ]
 
-    pub waits_theirs : (caller : ℕ) → is_waiting caller m ≡ true → (e : ℕ) × IsEmitter caller e owners × (flow.is_waiting e s ≡ true)
+    pub waits_theirs : (caller : ℕ) → is_caller_waiting caller m ≡ true → (e : ℕ) × IsEmitter caller e owners × (flow.is_waiting e s ≡ true)
     waits_theirs caller h = elim (or_cases (is_offered_by caller (offering m)) (is_in_queue caller m.queue) h) [
       | inl o ↦
           let is = offered_newest caller o in
@@ -154,10 +154,10 @@ module _ (size : ℕ) (m : Kept) (s : SharedFlowState ℕ) (owners : List Owner)
         (λ _ o. split (law.is_offered_as e s) (λ b. law.is_offered_as e s ≡ b → false ≡ b)
         (λ _ t. absurd (false≢true (sym o ∙ offered_mine caller e own t))) (λ _ _. refl) refl) refl
 
-    pub free_mine : (caller : ℕ) → HasNoEmission s owners caller → is_waiting caller m ≡ false
-    free_mine caller none = split (is_waiting caller m) (λ b. is_waiting caller m ≡ b → b ≡ false)
+    pub free_mine : (caller : ℕ) → HasNoEmission s owners caller → is_caller_waiting caller m ≡ false
+    free_mine caller none = split (is_caller_waiting caller m) (λ b. is_caller_waiting caller m ≡ b → b ≡ false)
         (λ _ h. let found = waits_theirs caller h in absurd (false≢true (sym (none found.0 found.1) ∙ found.2))) (λ _ _. refl) refl
 
-    pub free_theirs : (caller : ℕ) → is_waiting caller m ≡ false → HasNoEmission s owners caller
+    pub free_theirs : (caller : ℕ) → is_caller_waiting caller m ≡ false → HasNoEmission s owners caller
     free_theirs caller free = λ e own. split (flow.is_waiting e s) (λ b. flow.is_waiting e s ≡ b → b ≡ false)
         (λ _ h. absurd (false≢true (sym free ∙ waits_mine caller e own h))) (λ _ _. refl) refl

@@ -9,7 +9,7 @@ use Rattle.flow_law.specs.declared.call.SharedCall.{SharedCall}
 use Rattle.flow_law.specs.declared.call.SharedReply.{SharedReply}
 use Rattle.flow_law.specs.declared.call.SharedReply.TheVariants as reply
 use Rattle.flow_law.specs.declared.states.SharedFlowState.{SharedFlowState}
-use Rattle.flow_law.specs.SharedFlow.{Answer, is_exhausted, is_offered_as, issuing, stand_at}
+use Rattle.flow_law.specs.SharedFlow.{Replied, is_exhausted, is_offered_as, issuing, stand_at}
 use Rattle.flow_law.specs.SharedFlow as law
 use Rattle.flow_law.specs.EmitRule as rule
 use Rattle.flow_law.specs.SharedStep as flow
@@ -89,7 +89,7 @@ replied_own s c r fresh e = e
 
 -- with a number left, no call that issues one is refused
 module _ (s : SharedFlowState ℕ) (room : is_exhausted s ≡ false) where
-  fresh_issuing : {R : Type 0} (wrap : R → Reply) (x : Answer R ℕ) → is_refused (reply_by wrap x.reply) ≡ false → is_refused (reply_by wrap (issuing s x).reply) ≡ false
+  fresh_issuing : {R : Type 0} (wrap : R → Reply) (x : Replied R ℕ) → is_refused (reply_by wrap x.reply) ≡ false → is_refused (reply_by wrap (issuing s x).reply) ≡ false
   fresh_issuing wrap x fresh = ap (λ a. is_refused (reply_by wrap a.reply)) (cond-false (is_exhausted s) (record { reply = Err Exhausted; after = s }) x room) ∙ fresh
 
   pub fresh_try : (v : ℕ) (c : rule.EmitCase) → is_refused {T = ℕ} (reply_by reply.Tested (rule.try_emit_in c v s).reply) ≡ false

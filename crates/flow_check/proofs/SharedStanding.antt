@@ -17,12 +17,12 @@ use Rattle.flow_law.specs.SharedStep as flow
 use Rattle.flow_law.proofs.Owners.{UpTo, owned_up_to, owner_of_older}
 use Rattle.flow_law.proofs.Rows.{split}
 use Rattle.flow_check.specs.declared.shared_machine.Held.{Held}
-use Rattle.flow_check.specs.StateRecords.{name_of}
-use Rattle.flow_check.specs.SharedMachine.{Kept, most_lag, capacity, is_in_queue}
+use Rattle.flow_check.specs.StateRecords.{caller_name}
+use Rattle.flow_check.specs.SharedMachine.{Kept, most_lag, kept_capacity, is_in_queue}
 use Rattle.flow_check.proofs.SharedSeats.{SeatsAs}
 
 abbrev pub IsEmitter : ℕ → ℕ → List Owner → Type 0
-IsEmitter caller e owners = owner_of (emission e) owners ≡ Some (name_of caller)
+IsEmitter caller e owners = owner_of (emission e) owners ≡ Some (caller_name caller)
 
 -- the last values that were emitted, how many of them are replayed, and the most that a subscriber has still to receive
 pub record ValuesAs (mine : Config) (last : List ℕ) (cached most : ℕ) (config : Config) (emitted : List (Numbered ℕ)) (mark : ℕ) : Type 0 where
@@ -52,8 +52,8 @@ OnceWaits owners s = (caller e f : ℕ) → IsEmitter caller e owners → IsEmit
 pub record WaitsAs (m : Kept) (s : SharedFlowState ℕ) (owners : List Owner) : Type 0 where
   pub queue : Queued owners m.queue s.queue
   -- without a buffer, a value that some subscriber has not received is the newest, and offered
-  pub offered : capacity m ≡ 0 → 0 < most_lag m.lags → (caller : ℕ) × (m.offered ≡ Some caller) × IsEmitter caller (law.newest s) owners
-  pub unoffered : capacity m ≢ 0 → m.offered ≡ None
+  pub offered : kept_capacity m ≡ 0 → 0 < most_lag m.lags → (caller : ℕ) × (m.offered ≡ Some caller) × IsEmitter caller (law.newest s) owners
+  pub unoffered : kept_capacity m ≢ 0 → m.offered ≡ None
   pub once : OnceWaits owners s
 
 abbrev pub SeatsOf : ℕ → Kept → SharedFlowState ℕ → List Owner → Type 0
@@ -86,7 +86,7 @@ any_at test (u ∷ us) n p e h = split (u.number == n) (λ t. cond t (Some u.pos
 
 -- a number is one caller's
 pub emitter_same : (i j e : ℕ) (owners : List Owner) → IsEmitter i e owners → IsEmitter j e owners → i ≡ j
-emitter_same i j e owners a b = ap (λ (name : List ℕ). get_or name 0 0) (same_Some (name_of i) (name_of j) (sym a ∙ b))
+emitter_same i j e owners a b = ap (λ (name : List ℕ). get_or name 0 0) (same_Some (caller_name i) (caller_name j) (sym a ∙ b))
 
 abbrev HasNumber : ℕ → List (Numbered ℕ) → Type 0
 HasNumber e qs = list_any (λ q. q.number == e) qs ≡ true
@@ -129,8 +129,8 @@ module _ (owners : List Owner) where
   queue_older o n [] (q ∷ qs) owned l queued = absurd queued
   queue_older o n (k ∷ hs) [] owned l queued = absurd queued
   queue_older o n (k ∷ hs) (q ∷ qs) owned l queued =
-      let old = owned_up_to n (emission q.number) (name_of k.caller) owners owned queued.1 in
-      (queued.0, owner_of_older (emission q.number) (name_of k.caller) o owners (omega arith) queued.1, queue_older o n hs qs owned l queued.2)
+      let old = owned_up_to n (emission q.number) (caller_name k.caller) owners owned queued.1 in
+      (queued.0, owner_of_older (emission q.number) (caller_name k.caller) o owners (omega arith) queued.1, queue_older o n hs qs owned l queued.2)
 
   -- the first values of two queues are left out, if the tests say so
   abbrev Left : Held → List Held → Numbered ℕ → List (Numbered ℕ) → Bool → Bool → Type 0

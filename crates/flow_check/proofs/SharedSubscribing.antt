@@ -13,9 +13,9 @@ use Rattle.flow_law.proofs.Owners.{up_to_more, owned_up_to, owner_of_older}
 use Rattle.flow_law.proofs.Rows.{split}
 use Rattle.flow_law.proofs.RowOrder.{InOrder}
 use Rattle.flow_check.specs.Subscribed.{kept_of}
-use Rattle.flow_check.specs.SharedMachine.{Kept, most_lag, capacity, lag_at_first, first_lag, with_lag, with_own as set_own}
+use Rattle.flow_check.specs.SharedMachine.{Kept, most_lag, kept_capacity, lag_at_first, first_lag, with_lag, with_own_kept as set_own}
 use Rattle.flow_check.proofs.LagLemmas.{most-set}
-use Rattle.flow_check.specs.StateRecords.{name_of}
+use Rattle.flow_check.specs.StateRecords.{caller_name}
 use Rattle.flow_check.proofs.SharedStanding.{WaitsAs, SeatsOf, ValuesOf, StandsAs, queue_older}
 use Rattle.flow_check.proofs.SharedEmitting.{once_fewer}
 use Rattle.flow_check.proofs.SharedCalls.{still_waits}
@@ -30,7 +30,7 @@ module _ (size k : ℕ) (owners : List Owner)
     (m : Kept) (s : SharedFlowState ℕ) (st : StandsAs size m k s owners) (rises : InOrder s) (caller : ℕ) (near : caller < size) where
   -- a new subscriber's position and lag add up to the number of emitted values
   entered : law.entry s + first_lag m ≡ length s.emitted
-  entered = elim (eqb_tells (capacity m) 0) [
+  entered = elim (eqb_tells (kept_capacity m) 0) [
     | inl z ↦ elim (eqb_tells (most_lag m.lags) 0) [
       | inl none ↦ quiet (not_offering (λ some. let is = some.1 in let zero = none.1 in absurd (omega arith))) (ap (λ (b : Bool). lag_at_first m.cached (cond b None m.offered)) none.0)
       | inr some ↦
@@ -52,7 +52,7 @@ module _ (size k : ℕ) (owners : List Owner)
           let parts = length-append st.values.front m.values in
           omega arith
 
-      not_offering : ((capacity m ≡ 0) × (0 < most_lag m.lags) → ⊥) → law.is_offering s ≡ false
+      not_offering : ((kept_capacity m ≡ 0) × (0 < most_lag m.lags) → ⊥) → law.is_offering s ≡ false
       not_offering h = split (law.is_offering s) (λ b. law.is_offering s ≡ b → b ≡ false) (λ _ e. absurd (h (offers_some size m s owners st.seats st.values rises e))) (λ _ _. refl) refl
 
       quiet : law.is_offering s ≡ false → first_lag m ≡ m.cached → law.entry s + first_lag m ≡ length s.emitted
@@ -77,28 +77,28 @@ module _ (size k : ℕ) (owners : List Owner)
       most : most_lag (set m.lags caller (Some (first_lag m))) ≤ max (most_lag m.lags) (first_lag m)
       most = most-set m.lags caller (first_lag m)
 
-      bound : (n : ℕ) → n ≡ m.cached → (n ≤ length m.values) × (capacity m ≡ 0 → n ≡ 0)
+      bound : (n : ℕ) → n ≡ m.cached → (n ≤ length m.values) × (kept_capacity m ≡ 0 → n ≡ 0)
       bound n e =
           let upto = st.values.cache_kept in
           let cache = st.values.cache in
           let replay = st.values.replay in
           (omega arith, λ none. omega arith)
 
-      with_cache : first_lag m ≡ m.cached → (first_lag m ≤ length m.values) × (capacity m ≡ 0 → (first_lag m ≤ 1) × (first_lag m ≤ most_lag m.lags))
+      with_cache : first_lag m ≡ m.cached → (first_lag m ≤ length m.values) × (kept_capacity m ≡ 0 → (first_lag m ≤ 1) × (first_lag m ≤ most_lag m.lags))
       with_cache e = let b = bound (first_lag m) e in (b.0, λ none. let z = b.1 none in (omega arith, omega arith))
 
-      by : 0 < most_lag m.lags → (o : Option ℕ) → first_lag m ≡ lag_at_first m.cached o → (first_lag m ≤ length m.values) × (capacity m ≡ 0 → (first_lag m ≤ 1) × (first_lag m ≤ most_lag m.lags))
+      by : 0 < most_lag m.lags → (o : Option ℕ) → first_lag m ≡ lag_at_first m.cached o → (first_lag m ≤ length m.values) × (kept_capacity m ≡ 0 → (first_lag m ≤ 1) × (first_lag m ≤ most_lag m.lags))
       by some None e = with_cache e
       by some (Some c) e = let upto = st.values.most_kept in (omega arith, λ none. (omega arith, omega arith))
 
-      low : (first_lag m ≤ length m.values) × (capacity m ≡ 0 → (first_lag m ≤ 1) × (first_lag m ≤ most_lag m.lags))
+      low : (first_lag m ≤ length m.values) × (kept_capacity m ≡ 0 → (first_lag m ≤ 1) × (first_lag m ≤ most_lag m.lags))
       low = elim (eqb_tells (most_lag m.lags) 0) [
         | inl z ↦ with_cache (ap (λ (b : Bool). lag_at_first m.cached (cond b None m.offered)) z.0)
         | inr z ↦ by (positive (most_lag m.lags) z.1) m.offered (ap (λ (b : Bool). lag_at_first m.cached (cond b None m.offered)) z.0)
       ]
 
       -- something is to receive only if something was
-      was_some : capacity m ≡ 0 → 0 < most_lag (set m.lags caller (Some (first_lag m))) → 0 < most_lag m.lags
+      was_some : kept_capacity m ≡ 0 → 0 < most_lag (set m.lags caller (Some (first_lag m))) → 0 < most_lag m.lags
       was_some none some = let upto = most in let zero_or = (low.1 none).1 in omega arith
 
       values : ValuesOf (set_own caller own (with_lag caller (Some (first_lag m)) m)) (flow.enroll own s)
@@ -122,8 +122,8 @@ module _ (size k : ℕ) (owners : List Owner)
         queue = queue_older owners (given_to caller s.issued) s.issued m.queue s.queue st.owned (omega arith) st.waits.queue;
         offered = λ none some.
             let its = st.waits.offered none (was_some none some) in
-            let old = owned_up_to s.issued (emission (law.newest s)) (name_of its.0) owners st.owned its.2 in
-            (its.0, its.1, owner_of_older (emission (law.newest s)) (name_of its.0) (given_to caller s.issued) owners (omega arith) its.2);
+            let old = owned_up_to s.issued (emission (law.newest s)) (caller_name its.0) owners st.owned its.2 in
+            (its.0, its.1, owner_of_older (emission (law.newest s)) (caller_name its.0) (given_to caller s.issued) owners (omega arith) its.2);
         unoffered = st.waits.unoffered;
         once = once_fewer (given_to caller s.issued ∷ owners) s (flow.enroll own s)
             (still_waits size k owners m (set_own caller own (with_lag caller (Some (first_lag m)) m)) s (flow.enroll own s) (given_to caller s.issued ∷ owners) st.seats st.values rises seats values after refl refl refl was_some)

@@ -6,30 +6,30 @@ use Rattle.std.proofs.lemmas.Option.{same_Some}
 use Rattle.flow_law.specs.declared.states.StateSubscriber.{StateSubscriber}
 use Rattle.flow_law.specs.declared.states.StateFlowState.{StateFlowState}
 use Rattle.flow_law.specs.History.{subscriber, Owner, owner_of}
-use Rattle.flow_law.specs.StateFlow.{last_of, with_last, without_subscriber}
+use Rattle.flow_law.specs.StateFlow.{last_got_by, with_last, without_subscriber}
 use Rattle.flow_law.proofs.Owners.{UpTo, up_to_more, owned_up_to, owner_of_older, newest_owner}
 use Rattle.flow_law.proofs.StateSubscriberLemmas.{last-snoc, last-snoc_other, last-with, last-with_other, last-without, last-without_other}
 use Rattle.flow_law.proofs.StateCounts.{none_above, one_fewer, length-with, Once}
 use Rattle.flow_law.proofs.StateCounts as counts
-use Rattle.flow_check.specs.StateRecords.{name_of}
+use Rattle.flow_check.specs.StateRecords.{caller_name}
 use Rattle.flow_check.specs.Subscribed.{present}
-use Rattle.flow_check.specs.StateMachine.{Kept, reader_of, with_reader}
+use Rattle.flow_check.specs.StateMachine.{StateKept, reader_of, with_reader}
 use Rattle.flow_check.proofs.KeptLemmas.{kept_at, kept-set_same, kept-set_other, present-set_more, present-set_same, present-set_fewer}
 
 abbrev pub Subscribers : Type 0
 Subscribers = List (StateSubscriber ℕ)
 
 abbrev pub IsOwn : ℕ → ℕ → List Owner → Type 0
-IsOwn caller u owners = owner_of (subscriber u) owners ≡ Some (name_of caller)
+IsOwn caller u owners = owner_of (subscriber u) owners ≡ Some (caller_name caller)
 
 -- What is kept of a caller. If it is subscribed, one of its numbers is a subscriber's; else none is.
 abbrev pub Seat : List Owner → Subscribers → ℕ → Option (Option ℕ) → Type 0
-Seat owners us caller None = (u : ℕ) → IsOwn caller u owners → last_of u us ≡ None
+Seat owners us caller None = (u : ℕ) → IsOwn caller u owners → last_got_by u us ≡ None
 Seat owners us caller (Some last) =
-    (n : ℕ) × IsOwn caller n owners × (last_of n us ≡ Some last) × ((u : ℕ) → IsOwn caller u owners → u ≢ n → last_of u us ≡ None)
+    (n : ℕ) × IsOwn caller n owners × (last_got_by n us ≡ Some last) × ((u : ℕ) → IsOwn caller u owners → u ≢ n → last_got_by u us ≡ None)
 
 -- the state m of a checker stands for the state s that k turns led to, after which the numbers have these owners
-pub record StandsAs (size : ℕ) (m : Kept) (k : ℕ) (s : StateFlowState ℕ) (owners : List Owner) : Type 0 where
+pub record StandsAs (size : ℕ) (m : StateKept) (k : ℕ) (s : StateFlowState ℕ) (owners : List Owner) : Type 0 where
   pub value : s.value ≡ m.value
   pub readers : length m.readers ≡ size
   pub count : length s.subscribers ≡ present m.readers
@@ -45,7 +45,7 @@ pub record IsSound (s : StateFlowState ℕ) : Type 0 where
 -- ---- seats
 
 -- a seat stays as it is if its caller's numbers do
-seat_stays : (owners : List Owner) (us vs : Subscribers) (caller : ℕ) (reader : Option (Option ℕ)) → ((u : ℕ) → IsOwn caller u owners → last_of u vs ≡ last_of u us)
+seat_stays : (owners : List Owner) (us vs : Subscribers) (caller : ℕ) (reader : Option (Option ℕ)) → ((u : ℕ) → IsOwn caller u owners → last_got_by u vs ≡ last_got_by u us)
     → Seat owners us caller reader → Seat owners vs caller reader
 seat_stays owners us vs caller None same seat = λ u own. same u own ∙ seat u own
 seat_stays owners us vs caller (Some last) same seat = (seat.0, seat.1, same seat.0 seat.1 ∙ seat.2, λ u own apart. same u own ∙ seat.3 u own apart)
@@ -53,23 +53,23 @@ seat_stays owners us vs caller (Some last) same seat = (seat.0, seat.1, same sea
 -- a number is one caller's
 pub other_number : (owners : List Owner) (i j u v : ℕ) → i ≢ j → IsOwn i u owners → IsOwn j v owners → u ≢ v
 other_number owners i j u v apart own other e =
-    let names = same_Some (name_of i) (name_of j) (sym own ∙ subst (λ (n : ℕ). IsOwn j n owners) (sym e) other) in
+    let names = same_Some (caller_name i) (caller_name j) (sym own ∙ subst (λ (n : ℕ). IsOwn j n owners) (sym e) other) in
     apart (ap (λ (name : List ℕ). get_or name 0 0) names)
 
-module _ (size : ℕ) (m : Kept) (k : ℕ) (s : StateFlowState ℕ) (owners : List Owner) (st : StandsAs size m k s owners) where
+module _ (size : ℕ) (m : StateKept) (k : ℕ) (s : StateFlowState ℕ) (owners : List Owner) (st : StandsAs size m k s owners) where
   -- another turn that changes nothing
   pub later : StandsAs size m (k + 1) s owners
   later = let upto = st.issued in record { value = st.value; readers = st.readers; count = st.count; seats = st.seats; issued = omega arith; owned = st.owned }
 
   -- if one of the caller's numbers is a subscriber's, it is the number of the caller's subscription
-  pub is_its : (caller u : ℕ) (last : Option ℕ) → Seat owners s.subscribers caller (Some last) → IsOwn caller u owners → (last_of u s.subscribers ≡ None → ⊥) → last_of u s.subscribers ≡ Some last
+  pub is_its : (caller u : ℕ) (last : Option ℕ) → Seat owners s.subscribers caller (Some last) → IsOwn caller u owners → (last_got_by u s.subscribers ≡ None → ⊥) → last_got_by u s.subscribers ≡ Some last
   is_its caller u last seat own there = elim (eqb_tells u seat.0) [
-    | inl e ↦ subst (λ (n : ℕ). last_of n s.subscribers ≡ Some last) (sym e.1) seat.2
+    | inl e ↦ subst (λ (n : ℕ). last_got_by n s.subscribers ≡ Some last) (sym e.1) seat.2
     | inr e ↦ absurd (there (seat.3 u own e.1))
   ]
 
-  others_of : (caller u : ℕ) (last : Option ℕ) → Seat owners s.subscribers caller (Some last) → IsOwn caller u owners → (last_of u s.subscribers ≡ None → ⊥)
-      → (v : ℕ) → IsOwn caller v owners → v ≢ u → last_of v s.subscribers ≡ None
+  others_of : (caller u : ℕ) (last : Option ℕ) → Seat owners s.subscribers caller (Some last) → IsOwn caller u owners → (last_got_by u s.subscribers ≡ None → ⊥)
+      → (v : ℕ) → IsOwn caller v owners → v ≢ u → last_got_by v s.subscribers ≡ None
   others_of caller u last seat own there v its apart = elim (eqb_tells u seat.0) [
     | inl e ↦ seat.3 v its (λ q. apart (q ∙ sym e.1))
     | inr e ↦ absurd (there (seat.3 u own e.1))
@@ -80,7 +80,7 @@ module _ (size : ℕ) (m : Kept) (k : ℕ) (s : StateFlowState ℕ) (owners : Li
     low = let is = st.readers in omega arith
 
     -- the caller gets a value by its subscription
-    pub received : (u v : ℕ) (last : Option ℕ) → reader_of caller m.readers ≡ Some last → IsOwn caller u owners → (last_of u s.subscribers ≡ None → ⊥)
+    pub received : (u v : ℕ) (last : Option ℕ) → reader_of caller m.readers ≡ Some last → IsOwn caller u owners → (last_got_by u s.subscribers ≡ None → ⊥)
         → StandsAs size (with_reader caller (Some (Some v)) m) (k + 1) (record s { subscribers = with_last u v s.subscribers }) owners
     received u v last is own there = let upto = st.issued in
         let seat = subst (Seat owners s.subscribers caller) is (st.seats caller near) in record {
@@ -121,7 +121,7 @@ module _ (size : ℕ) (m : Kept) (k : ℕ) (s : StateFlowState ℕ) (owners : Li
     }
 
     -- the caller's subscription ends
-    pub left : (u : ℕ) (last : Option ℕ) → IsSound s → reader_of caller m.readers ≡ Some last → IsOwn caller u owners → (last_of u s.subscribers ≡ None → ⊥)
+    pub left : (u : ℕ) (last : Option ℕ) → IsSound s → reader_of caller m.readers ≡ Some last → IsOwn caller u owners → (last_got_by u s.subscribers ≡ None → ⊥)
         → StandsAs size (with_reader caller None m) (k + 1) (record s { subscribers = without_subscriber u s.subscribers }) owners
     left u last sound is own there = let upto = st.issued in
         let seat = subst (Seat owners s.subscribers caller) is (st.seats caller near) in
@@ -135,7 +135,7 @@ module _ (size : ℕ) (m : Kept) (k : ℕ) (s : StateFlowState ℕ) (owners : Li
             | inl e ↦ subst (λ (i : ℕ). Seat owners (without_subscriber u s.subscribers) i (reader_of i (set m.readers caller None))) e.1
                 (subst (Seat owners (without_subscriber u s.subscribers) caller) (sym (kept-set_same m.readers caller None low))
                 (λ w its. elim (eqb_tells u w) [
-                  | inl q ↦ subst (λ (n : ℕ). last_of n (without_subscriber u s.subscribers) ≡ None) q.1 (last-without u s.subscribers)
+                  | inl q ↦ subst (λ (n : ℕ). last_got_by n (without_subscriber u s.subscribers) ≡ None) q.1 (last-without u s.subscribers)
                   | inr q ↦ last-without_other w u s.subscribers q.0 ∙ others_of caller u last seat own there w its (λ p. q.1 (sym p))
                 ]))
             | inr e ↦ let far : j < length m.readers = let is = st.readers in omega arith in
@@ -150,14 +150,14 @@ module _ (size : ℕ) (m : Kept) (k : ℕ) (s : StateFlowState ℕ) (owners : Li
     -- ---- a new subscription
 
     abbrev given_to : ℕ → Owner
-    given_to u = record { number = subscriber u; name = name_of caller }
+    given_to u = record { number = subscriber u; name = caller_name caller }
 
     abbrev new_one : ℕ → StateSubscriber ℕ
     new_one u = record { number = u; last = None }
 
     -- an older number's owner and last value stay
     older_owner : (u w i : ℕ) → w ≢ u → IsOwn i w (given_to u ∷ owners) → IsOwn i w owners
-    older_owner u w i apart its = subst (λ (b : Bool). cond b (Some (name_of caller)) (owner_of (subscriber w) owners) ≡ Some (name_of i)) (ne_eqb u w (λ q. apart (sym q))) its
+    older_owner u w i apart its = subst (λ (b : Bool). cond b (Some (caller_name caller)) (owner_of (subscriber w) owners) ≡ Some (caller_name i)) (ne_eqb u w (λ q. apart (sym q))) its
 
     seat_with : (u i : ℕ) (reader : Option (Option ℕ)) → caller ≢ i → u ≡ s.issued + 1 → UpTo s.issued owners → Seat owners s.subscribers i reader
         → Seat (given_to u ∷ owners) (s.subscribers ++ new_one u ∷ []) i reader
@@ -166,10 +166,10 @@ module _ (size : ℕ) (m : Kept) (k : ℕ) (s : StateFlowState ℕ) (owners : Li
       | inr e ↦ last-snoc_other w s.subscribers (new_one u) e.0 ∙ seat w (older_owner u w i (λ q. e.1 (sym q)) its)
     ]
     seat_with u i (Some last) apart new owned seat =
-        let old = owned_up_to s.issued (subscriber seat.0) (name_of i) owners owned seat.1 in
+        let old = owned_up_to s.issued (subscriber seat.0) (caller_name i) owners owned seat.1 in
         let other : u ≢ seat.0 = λ q. absurd (omega arith) in (
           seat.0,
-          owner_of_older (subscriber seat.0) (name_of i) (given_to u) owners (omega arith) seat.1,
+          owner_of_older (subscriber seat.0) (caller_name i) (given_to u) owners (omega arith) seat.1,
           last-snoc_other seat.0 s.subscribers (new_one u) (ne_eqb u seat.0 other) ∙ seat.2,
           λ w its far. elim (eqb_tells u w) [
             | inl e ↦ absurd (other_number (given_to u ∷ owners) caller i u w apart (newest_owner (given_to u) owners) its e.1)

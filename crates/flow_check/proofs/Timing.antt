@@ -6,7 +6,7 @@ use Rattle.std.proofs.lemmas.Bool.{false≢true, or_cases, and_parts}
 use Rattle.std.proofs.lemmas.Bool.Decides.{Decides-eqb, Decides-ltb, leb_tells}
 use Rattle.std.proofs.lemmas.Option.{slice_get_within, slice_get-get_or}
 use Rattle.flow_check.specs.declared.timed.Timed.{Timed}
-use Rattle.flow_check.specs.Records.{Calls, call_in, recorded, is_over_before, is_over_by, is_same_end, may_follow, IsWellTimed}
+use Rattle.flow_check.specs.Records.{CallsByCaller, call_in, recorded, is_over_before, is_over_by, is_same_end, may_follow, IsWellTimed}
 
 -- this end is no later than that one, if there is that one
 abbrev pub IsOverWith : Option ℕ → Option ℕ → Type 0
@@ -39,7 +39,7 @@ module _ {C : Type 0} where
     | inr e ↦ same_end c.end d.end (and_parts (c.begin == d.begin) (is_same_end c.end d.end) e).1
   ]
 
-module _ {C : Type 0} (callers : Calls C) where
+module _ {C : Type 0} (callers : CallsByCaller C) where
   before_in : (o : Option (Vec (Timed C) Global)) (k : ℕ) (d : Timed C) → call_in o (k + 1) ≡ Some d → (c : Timed C) × (call_in o k ≡ Some c)
   before_in None k d h = absurd (cc)
   before_in (Some calls) k d h =

@@ -5,7 +5,7 @@ use Rattle.flow_check.specs.declared.moments.Cut.{Cut}
 use Rattle.flow_check.specs.declared.moments.Cut.TheVariants.{Before, By}
 use Rattle.flow_check.specs.declared.verdict.Verdict.{Verdict}
 use Rattle.flow_check.specs.declared.verdict.Verdict.TheVariants.{Legal, Illegal, GaveUp}
-use Rattle.flow_check.specs.Records.{Calls, IsWellTimed}
+use Rattle.flow_check.specs.Records.{CallsByCaller, IsWellTimed}
 
 -- the moment is before the cut
 abbrev pub is_past : Cut → ℕ → Bool
@@ -27,18 +27,18 @@ module _ {C : Type 0} where
   known_row cut calls = map (known_call cut) (filter (λ c. is_past cut c.begin) calls)
 
   -- `known` has what was known of the calls of each caller
-  abbrev pub IsKnown : Cut → Calls C → Calls C → Type 0
+  abbrev pub IsKnown : Cut → CallsByCaller C → CallsByCaller C → Type 0
   IsKnown cut callers known = map (λ row. row.items) known ≡ map (λ row. known_row cut row.items) callers
 
   -- `explains calls order` says that the order explains the calls
-  module _ (explains : Calls C → List ℕ → Type 0) (cut : Cut) (callers : Calls C) where
+  module _ (explains : CallsByCaller C → List ℕ → Type 0) (cut : Cut) (callers : CallsByCaller C) where
     -- some order explains what was known
     abbrev pub HasOrder : Type 0
-    HasOrder = (known : Calls C) × IsKnown cut callers known × ((order : List ℕ) × explains known order)
+    HasOrder = (known : CallsByCaller C) × IsKnown cut callers known × ((order : List ℕ) × explains known order)
 
     -- no order explains what was known
     abbrev pub HasNoOrder : Type 0
-    HasNoOrder = (known : Calls C) × IsKnown cut callers known × ((order : List ℕ) → explains known order → ⊥)
+    HasNoOrder = (known : CallsByCaller C) × IsKnown cut callers known × ((order : List ℕ) → explains known order → ⊥)
 
     -- what a verdict on what was known says
     abbrev pub JudgesKnown : Verdict → Type 0
@@ -46,7 +46,7 @@ module _ {C : Type 0} where
     JudgesKnown Illegal = HasNoOrder
     JudgesKnown GaveUp = Unit {0}
 
-  module _ (explains : Calls C → List ℕ → Type 0) (moment : ℕ) (callers : Calls C) where
+  module _ (explains : CallsByCaller C → List ℕ → Type 0) (moment : ℕ) (callers : CallsByCaller C) where
     -- at each earlier moment some order explains what was known by it
     abbrev pub HasOrdersUntil : Type 0
     HasOrdersUntil = (earlier : ℕ) → earlier < moment → HasOrder explains (By earlier) callers
@@ -63,7 +63,7 @@ module _ {C : Type 0} where
       pub illegal_from : HasNoOrderFrom
 
   -- if some order explains calls, some order explains what was known of them at any cut
-  abbrev pub IsCutOff : (Calls C → List ℕ → Type 0) → Type 0
+  abbrev pub IsCutOff : (CallsByCaller C → List ℕ → Type 0) → Type 0
   IsCutOff explains =
-      (cut : Cut) (callers known : Calls C) → IsWellTimed callers → IsKnown cut callers known →
+      (cut : Cut) (callers known : CallsByCaller C) → IsWellTimed callers → IsKnown cut callers known →
       (order : List ℕ) → explains callers order → (part : List ℕ) × explains known part

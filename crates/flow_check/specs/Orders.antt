@@ -9,7 +9,7 @@ use Rattle.flow_law.specs.declared.history.HistoryEvent.{HistoryEvent}
 use Rattle.flow_law.specs.declared.history.Said.{Said}
 use Rattle.flow_law.specs.History.{Kind, IsHistory}
 use Rattle.flow_check.specs.declared.timed.Timed.{Timed}
-use Rattle.flow_check.specs.Records.{Calls, recorded, is_over_before}
+use Rattle.flow_check.specs.Records.{CallsByCaller, recorded, is_over_before}
 
 -- how many turns a caller has
 abbrev pub turns_of : ℕ → List ℕ → ℕ
@@ -17,11 +17,11 @@ turns_of caller [] = 0
 turns_of caller (turn ∷ order) = if turn == caller then turns_of caller order + 1 else turns_of caller order
 
 -- the events of all turns, one after another
-abbrev pub all_of : {E : Type 0} → List (List E) → List E
-all_of [] = []
-all_of (part ∷ parts) = part ++ all_of parts
+abbrev pub all_events : {E : Type 0} → List (List E) → List E
+all_events [] = []
+all_events (part ∷ parts) = part ++ all_events parts
 
-module _ {C : Type 0} (callers : Calls C) (order : List ℕ) where
+module _ {C : Type 0} (callers : CallsByCaller C) (order : List ℕ) where
   -- At turn n the caller's call c happens: the caller has this turn, and c is its next call after the turns that it had.
   abbrev pub HappensAt : ℕ → ℕ → Timed C → Type 0
   HappensAt n caller c = (slice_get order n ≡ Some caller) × (recorded callers caller (turns_of caller (take n order)) ≡ Some c)
@@ -37,15 +37,15 @@ module _ {C : Type 0} (callers : Calls C) (order : List ℕ) where
 -- `Adds h caller c part` says that after the history h the caller's recorded call c adds these events.
 module _ {T S X R C : Type 0} (kind : Kind T S X R) (Adds : List (HistoryEvent (Said X R)) → ℕ → C → List (HistoryEvent (Said X R)) → Type 0) where
   -- A history of a flow that began in the state `first` explains the calls in this order.
-  pub record Explains (callers : Calls C) (first : S) (order : List ℕ) : Type 0 where
+  pub record Explains (callers : CallsByCaller C) (first : S) (order : List ℕ) : Type 0 where
     -- the events that each turn adds to the history
     pub parts : List (List (HistoryEvent (Said X R)))
     pub one_each : length parts ≡ length order
     -- each turn is its caller's next recorded call, which adds these events
     pub turns : (n caller : ℕ) → slice_get order n ≡ Some caller
         → (c : Timed C) × HappensAt callers order n caller c
-        × ((part : List (HistoryEvent (Said X R))) × (slice_get parts n ≡ Some part) × Adds (all_of (take n parts)) caller c.call part)
+        × ((part : List (HistoryEvent (Said X R))) × (slice_get parts n ≡ Some part) × Adds (all_events (take n parts)) caller c.call part)
     pub in_time : KeepsTime callers order
     pub complete : HasAllEnded callers order
     -- the history is legal and owned
-    pub history : IsHistory kind first (all_of parts)
+    pub history : IsHistory kind first (all_events parts)

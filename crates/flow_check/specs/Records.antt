@@ -10,8 +10,8 @@ use Rattle.flow_check.specs.declared.record.FaultKind.{FaultKind}
 use Rattle.flow_check.specs.declared.record.FaultKind.TheVariants.{EndsEarly, BeginsEarly}
 
 -- the calls of each caller, in the caller's order
-abbrev pub Calls : Type 0 → Type 0
-Calls C = List (Vec (Timed C) Global)
+abbrev pub CallsByCaller : Type 0 → Type 0
+CallsByCaller C = List (Vec (Timed C) Global)
 
 -- the call of this index in a caller's calls, if there is one
 abbrev pub call_in : {C : Type 0} → Option (Vec (Timed C) Global) → ℕ → Option (Timed C)
@@ -19,7 +19,7 @@ call_in None k = None
 call_in (Some calls) k = slice_get calls.items k
 
 -- a caller's call of this index; indices begin at 0
-abbrev pub recorded : {C : Type 0} → Calls C → ℕ → ℕ → Option (Timed C)
+abbrev pub recorded : {C : Type 0} → CallsByCaller C → ℕ → ℕ → Option (Timed C)
 recorded callers caller k = call_in (slice_get callers caller) k
 
 -- A call with this end was over before that moment. A call without an end is pending, so it was not over.
@@ -49,7 +49,7 @@ is_same_end _ _ = false
 abbrev pub may_follow : {C : Type 0} → Timed C → Timed C → Bool
 may_follow c d = is_over_by c.end d.begin || ((c.begin == d.begin) && is_same_end c.end d.end)
 
-module _ {C : Type 0} (callers : Calls C) where
+module _ {C : Type 0} (callers : CallsByCaller C) where
   -- the caller's call of this index does not end before it begins, and its next call may follow it
   abbrev pub IsWellAt : ℕ → ℕ → Type 0
   IsWellAt caller k = (c : Timed C) → recorded callers caller k ≡ Some c
@@ -60,11 +60,11 @@ module _ {C : Type 0} (callers : Calls C) where
   IsWellTimed = (caller k : ℕ) → IsWellAt caller k
 
 -- the caller's call of this index has this fault
-abbrev pub HasFault : {C : Type 0} → Calls C → ℕ → ℕ → FaultKind → Type 0
+abbrev pub HasFault : {C : Type 0} → CallsByCaller C → ℕ → ℕ → FaultKind → Type 0
 HasFault {C} callers caller index EndsEarly = (c : Timed C) × (recorded callers caller index ≡ Some c) × (is_over_before c.end c.begin ≡ true)
 HasFault {C} callers caller index BeginsEarly =
     (k : ℕ) × ((c : Timed C) × ((d : Timed C) × (index ≡ k + 1) × (recorded callers caller k ≡ Some c) × (recorded callers caller index ≡ Some d) × (may_follow c d ≡ false)))
 
 -- the record has this fault, at this call
-abbrev pub IsFaultOf : {C : Type 0} → Calls C → Fault → Type 0
+abbrev pub IsFaultOf : {C : Type 0} → CallsByCaller C → Fault → Type 0
 IsFaultOf callers fault = HasFault callers fault.caller fault.index fault.kind

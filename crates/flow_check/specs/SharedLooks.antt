@@ -25,5 +25,5 @@ abbrev pub HasValues : Kept → Type 0
 HasValues s = (most_lag s.lags ≤ length s.values) × (s.cached ≤ length s.values)
 
 -- the state keeps the values that are needed, and no others
-abbrev pub IsSound : Kept → Type 0
-IsSound s = HasValues s × (trim s ≡ s)
+abbrev pub KeepsWhatIsNeeded : Kept → Type 0
+KeepsWhatIsNeeded s = HasValues s × (trim s ≡ s)

@@ -14,7 +14,7 @@ use Rattle.flow_check.specs.declared.shared_machine.EmitCase.{EmitCase}
 use Rattle.flow_check.specs.declared.shared_machine.EmitCase.TheVariants as emits
 use Rattle.flow_check.specs.declared.shared_machine.Held.{Held}
 use Rattle.flow_check.specs.Subscribed.{kept_of, present}
-use Rattle.flow_check.specs.Words.{number_of, maybe_of, parts_of}
+use Rattle.flow_check.specs.Words.{number_in_words, maybe_of, parts_in_words}
 
 -- The last emitted values, and how many of them the replay cache has. For each caller its lag, which is how many emitted values it
 -- has still to receive, None if it is not subscribed, and what is left of its own first values. The values whose emitters wait, and
@@ -50,28 +50,28 @@ abbrev pub no_values : {C : Type 0} → List C → List (List ℕ)
 no_values = map (λ _. [])
 
 -- how many values the flow's buffer may hold
-abbrev pub capacity : Kept → ℕ
-capacity s = s.config.replay + s.config.extra
+abbrev pub kept_capacity : Kept → ℕ
+kept_capacity s = s.config.replay + s.config.extra
 
 -- the lag at which a subscriber blocks the flow
-abbrev pub window : Kept → ℕ
-window s = max (capacity s) 1
+abbrev pub kept_window : Kept → ℕ
+kept_window s = max (kept_capacity s) 1
 
 -- the flow is blocked: some subscriber still has a whole window to receive
-abbrev pub is_blocked : Kept → Bool
-is_blocked s = nat_le (window s) (most_lag s.lags)
+abbrev pub is_kept_blocked : Kept → Bool
+is_kept_blocked s = nat_le (kept_window s) (most_lag s.lags)
 
 -- what a blocked flow does with a value
-abbrev pub when_blocked : Overflow → EmitCase
-when_blocked Suspend = emits.Queues
-when_blocked DropLatest = emits.DropsLatest
-when_blocked DropOldest = emits.DropsOldest
+abbrev pub kept_when_blocked : Overflow → EmitCase
+kept_when_blocked Suspend = emits.Queues
+kept_when_blocked DropLatest = emits.DropsLatest
+kept_when_blocked DropOldest = emits.DropsOldest
 
 -- what the flow does with a value
-abbrev pub emit_case : Kept → EmitCase
-emit_case s =
-    if (present s.lags == 0) || (not (is_blocked s) && nat_lt 0 (capacity s)) then emits.Appends
-    else (if is_blocked s then when_blocked s.config.overflow else emits.Offers)
+abbrev pub kept_emit_case : Kept → EmitCase
+kept_emit_case s =
+    if (present s.lags == 0) || (not (is_kept_blocked s) && nat_lt 0 (kept_capacity s)) then emits.Appends
+    else (if is_kept_blocked s then kept_when_blocked s.config.overflow else emits.Offers)
 
 -- the caller whose value is offered: one that some subscriber has not received
 abbrev pub offering : Kept → Option ℕ
@@ -87,16 +87,16 @@ abbrev pub is_in_queue : ℕ → List Held → Bool
 is_in_queue caller = list_any (λ held. held.caller == caller)
 
 -- the caller's `emit` waits
-abbrev pub is_waiting : ℕ → Kept → Bool
-is_waiting caller s = is_offered_by caller (offering s) || is_in_queue caller s.queue
+abbrev pub is_caller_waiting : ℕ → Kept → Bool
+is_caller_waiting caller s = is_offered_by caller (offering s) || is_in_queue caller s.queue
 
 -- the last `count` values
 abbrev pub last_values : ℕ → List ℕ → List ℕ
 last_values count values = drop (length values - count) values
 
 -- the replay cache
-abbrev pub cache : Kept → List ℕ
-cache s = last_values s.cached s.values
+abbrev pub kept_cache : Kept → List ℕ
+kept_cache s = last_values s.cached s.values
 
 -- the emitted value that a subscriber with this lag receives next
 abbrev pub value_at : ℕ → List ℕ → Option ℕ
@@ -128,26 +128,26 @@ abbrev pub with_lag : ℕ → Option ℕ → Kept → Kept
 with_lag caller lag s = record s { lags = slice_set s.lags caller lag }
 
 -- the state with these own values of the caller
-abbrev pub with_own : ℕ → List ℕ → Kept → Kept
-with_own caller own s = record s { owns = slice_set s.owns caller own }
+abbrev pub with_own_kept : ℕ → List ℕ → Kept → Kept
+with_own_kept caller own s = record s { owns = slice_set s.owns caller own }
 
 -- the caller's value is emitted; without a buffer it is offered to the subscribers
-abbrev pub append : ℕ → ℕ → Kept → Kept
-append caller v s = record s {
+abbrev pub append_kept : ℕ → ℕ → Kept → Kept
+append_kept caller v s = record s {
   values = s.values ++ v ∷ [];
   cached = min (s.cached + 1) s.config.replay;
-  lags = map (raised (window s)) s.lags;
-  offered = if capacity s == 0 then Some caller else None;
+  lags = map (raised (kept_window s)) s.lags;
+  offered = if kept_capacity s == 0 then Some caller else None;
 }
 
 -- queued values are emitted in order until the flow is blocked
-abbrev pub admit : Kept → List Held → Kept
-admit s [] = record s { queue = [] }
-admit s (held ∷ queue) = if is_blocked s then record s { queue = held ∷ queue } else admit (append held.caller held.value s) queue
+abbrev pub admit_kept : Kept → List Held → Kept
+admit_kept s [] = record s { queue = [] }
+admit_kept s (held ∷ queue) = if is_kept_blocked s then record s { queue = held ∷ queue } else admit_kept (append_kept held.caller held.value s) queue
 
 -- admits waiting values while there is room
-abbrev pub settle : Kept → Kept
-settle s = admit s s.queue
+abbrev pub settle_kept : Kept → Kept
+settle_kept s = admit_kept s s.queue
 
 -- the state without the values that can be neither received nor replayed, and without an offer that no subscriber has still to
 -- receive
@@ -159,36 +159,36 @@ abbrev pub hold : ℕ → ℕ → Kept → Kept
 hold caller v s = record s { queue = s.queue ++ record { caller = caller; value = v } ∷ [] }
 
 -- the state after an `emit`, by its case
-abbrev pub emit_in : EmitCase → ℕ → ℕ → Kept → Kept
-emit_in emits.Appends caller v s = append caller v s
-emit_in emits.Offers caller v s = append caller v s
-emit_in emits.Queues caller v s = hold caller v s
-emit_in emits.DropsLatest caller v s = s
-emit_in emits.DropsOldest caller v s = append caller v s
+abbrev pub emit_in_kept : EmitCase → ℕ → ℕ → Kept → Kept
+emit_in_kept emits.Appends caller v s = append_kept caller v s
+emit_in_kept emits.Offers caller v s = append_kept caller v s
+emit_in_kept emits.Queues caller v s = hold caller v s
+emit_in_kept emits.DropsLatest caller v s = s
+emit_in_kept emits.DropsOldest caller v s = append_kept caller v s
 
 -- the state after a `try_emit`, by its case
-abbrev pub try_emit_in : EmitCase → ℕ → ℕ → Kept → Kept
-try_emit_in emits.Appends caller v s = append caller v s
-try_emit_in emits.Offers caller v s = s
-try_emit_in emits.Queues caller v s = s
-try_emit_in emits.DropsLatest caller v s = s
-try_emit_in emits.DropsOldest caller v s = append caller v s
+abbrev pub try_emit_in_kept : EmitCase → ℕ → ℕ → Kept → Kept
+try_emit_in_kept emits.Appends caller v s = append_kept caller v s
+try_emit_in_kept emits.Offers caller v s = s
+try_emit_in_kept emits.Queues caller v s = s
+try_emit_in_kept emits.DropsLatest caller v s = s
+try_emit_in_kept emits.DropsOldest caller v s = append_kept caller v s
 
 -- the caller's value is withdrawn: subscribers that have not received an offered one miss it, and a queued one is dropped
-abbrev pub withdraw : ℕ → Kept → Kept
-withdraw caller s =
+abbrev pub withdraw_kept : ℕ → Kept → Kept
+withdraw_kept caller s =
     if is_offered_by caller (offering s) then record s { lags = map cleared s.lags }
     else record s { queue = filter (λ held. not (held.caller == caller)) s.queue }
 
 -- the caller's `emit` is cancelled, if it waits
-abbrev pub cancel : ℕ → Kept → Kept
-cancel caller s = if is_waiting caller s then settle (withdraw caller s) else s
+abbrev pub cancel_kept : ℕ → Kept → Kept
+cancel_kept caller s = if is_caller_waiting caller s then settle_kept (withdraw_kept caller s) else s
 
 -- the first of the own values, or the next emitted one if none is left
 abbrev pub receive_by : ℕ → List ℕ → Option ℕ → Kept → Kept
-receive_by caller (v ∷ own) lag s = with_own caller own s
+receive_by caller (v ∷ own) lag s = with_own_kept caller own s
 receive_by caller [] None s = s
-receive_by caller [] (Some lag) s = if lag == 0 then s else settle (with_lag caller (Some (lag - 1)) s)
+receive_by caller [] (Some lag) s = if lag == 0 then s else settle_kept (with_lag caller (Some (lag - 1)) s)
 
 -- the caller receives its next value
 abbrev pub receive : ℕ → Kept → Kept
@@ -257,38 +257,38 @@ next_answer own (Some lag) values = Some (emitted_answer (next_value own lag val
 
 -- the flow's own answer to a caller, if the caller may make the call
 abbrev pub own_answer : ℕ → SharedOperation → Kept → Option OwnAnswer
-own_answer caller (operation.TryEmit v) s = Some (tested (try_emit_answer (emit_case s)))
-own_answer caller (operation.Emit v) s = done_if (not (is_waiting caller s))
-own_answer caller (operation.EmitOrNot v) s = done_if (not (is_waiting caller s))
-own_answer caller operation.EmitReturned s = done_if (not (is_waiting caller s))
+own_answer caller (operation.TryEmit v) s = Some (tested (try_emit_answer (kept_emit_case s)))
+own_answer caller (operation.Emit v) s = done_if (not (is_caller_waiting caller s))
+own_answer caller (operation.EmitOrNot v) s = done_if (not (is_caller_waiting caller s))
+own_answer caller operation.EmitReturned s = done_if (not (is_caller_waiting caller s))
 own_answer caller operation.EmitCancelled s = Some done
 own_answer caller (operation.Subscribe own) s = done_if (not (is_some (kept_of caller s.lags)))
 own_answer caller operation.Next s = next_answer (own_left caller s.owns) (kept_of caller s.lags) s.values
 own_answer caller operation.Unsubscribe s = done_if (is_some (kept_of caller s.lags))
-own_answer caller operation.ReplayCache s = Some (cached (cache s))
+own_answer caller operation.ReplayCache s = Some (cached (kept_cache s))
 own_answer caller operation.ResetReplayCache s = Some done
 own_answer caller operation.SubscriptionCount s = Some (counted (present s.lags))
 
 -- ---- steps
 
 -- the state after a call
-abbrev pub made : ℕ → SharedOperation → Kept → Kept
-made caller (operation.TryEmit v) s = try_emit_in (emit_case s) caller v s
-made caller (operation.Emit v) s = emit_in (emit_case s) caller v s
-made caller (operation.EmitOrNot v) s = emit_in (emit_case s) caller v s
-made caller operation.EmitReturned s = s
-made caller operation.EmitCancelled s = cancel caller s
-made caller (operation.Subscribe own) s = with_own caller own.now (with_lag caller (Some (first_lag s)) s)
-made caller operation.Next s = receive caller s
-made caller operation.Unsubscribe s = settle (with_own caller [] (with_lag caller None s))
-made caller operation.ReplayCache s = s
-made caller operation.ResetReplayCache s = record s { cached = 0 }
-made caller operation.SubscriptionCount s = s
+abbrev pub made_kept : ℕ → SharedOperation → Kept → Kept
+made_kept caller (operation.TryEmit v) s = try_emit_in_kept (kept_emit_case s) caller v s
+made_kept caller (operation.Emit v) s = emit_in_kept (kept_emit_case s) caller v s
+made_kept caller (operation.EmitOrNot v) s = emit_in_kept (kept_emit_case s) caller v s
+made_kept caller operation.EmitReturned s = s
+made_kept caller operation.EmitCancelled s = cancel_kept caller s
+made_kept caller (operation.Subscribe own) s = with_own_kept caller own.now (with_lag caller (Some (first_lag s)) s)
+made_kept caller operation.Next s = receive caller s
+made_kept caller operation.Unsubscribe s = settle_kept (with_own_kept caller [] (with_lag caller None s))
+made_kept caller operation.ReplayCache s = s
+made_kept caller operation.ResetReplayCache s = record s { cached = 0 }
+made_kept caller operation.SubscriptionCount s = s
 
 -- the state after a recorded call, None if its answer is not the flow's own
 abbrev pub stepped : Kept → ℕ → SharedEntry → Option Kept
 stepped s caller entry =
-    if agrees (own_answer caller entry.operation s) entry.answer then Some (trim (made caller entry.operation s)) else None
+    if agrees (own_answer caller entry.operation s) entry.answer then Some (trim (made_kept caller entry.operation s)) else None
 
 -- an `emit` that was cancelled may not have begun
 abbrev pub may_skip_operation : SharedOperation → Bool
@@ -307,11 +307,11 @@ lag_in words = maybe_of (slice_index words 0)
 
 -- the queued value that words encode, and its emitter
 abbrev pub held_in : List ℕ → Held
-held_in words = record { caller = slice_index words 0; value = number_of (drop 1 words) }
+held_in words = record { caller = slice_index words 0; value = number_in_words (drop 1 words) }
 
 -- the own first values that words encode, after how many there are
 abbrev pub own_values_in : List ℕ → List ℕ
-own_values_in words = parts_of number_of (drop 2) (slice_index words 0) (drop 1 words)
+own_values_in words = parts_in_words number_in_words (drop 2) (slice_index words 0) (drop 1 words)
 
 -- the words after those of own first values
 abbrev pub own_others : List ℕ → List ℕ
@@ -319,17 +319,17 @@ own_others words = drop (1 + 2 * slice_index words 0) words
 
 -- The state that words encode: how many values the cache has, the caller whose value is offered, how many values there are and how
 -- many are queued, and then the lags, the values, the queued ones and the own first values.
-abbrev pub read : Kept → List ℕ → Kept
-read s words =
+abbrev pub read_kept : Kept → List ℕ → Kept
+read_kept s words =
     let callers = length s.lags in
     let values = drop (4 + callers) words in
     let queue = drop (2 * slice_index words 2) values in
     record {
       config = s.config;
-      values = parts_of number_of (drop 2) (slice_index words 2) values;
+      values = parts_in_words number_in_words (drop 2) (slice_index words 2) values;
       cached = slice_index words 0;
-      lags = parts_of lag_in (drop 1) callers (drop 4 words);
-      owns = parts_of own_values_in own_others callers (drop (3 * slice_index words 3) queue);
-      queue = parts_of held_in (drop 3) (slice_index words 3) queue;
+      lags = parts_in_words lag_in (drop 1) callers (drop 4 words);
+      owns = parts_in_words own_values_in own_others callers (drop (3 * slice_index words 3) queue);
+      queue = parts_in_words held_in (drop 3) (slice_index words 3) queue;
       offered = maybe_of (slice_index words 1);
     }

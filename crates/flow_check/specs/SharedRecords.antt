@@ -13,25 +13,25 @@ use Rattle.flow_law.specs.OneHistory.{said}
 use Rattle.flow_law.specs.History.{subscriber, emission, Owner, owner_of, owners_all}
 use Rattle.flow_law.specs.SharedFlow.{first_state, position_of}
 use Rattle.flow_law.specs.SharedStep.{is_waiting}
-use Rattle.flow_law.specs.SharedHistory.{History, shared_flow, after_all}
+use Rattle.flow_law.specs.SharedHistory.{History, shared_flow, shared_after_all}
 use Rattle.flow_check.specs.declared.shared_calls.SharedOperation.{SharedOperation}
 use Rattle.flow_check.specs.declared.shared_calls.SharedOperation.TheVariants as operation
 use Rattle.flow_check.specs.declared.shared_calls.SharedAnswer.{SharedAnswer}
 use Rattle.flow_check.specs.declared.shared_calls.SharedAnswer.TheVariants as answer
 use Rattle.flow_check.specs.declared.shared_calls.SharedEntry.{SharedEntry}
-use Rattle.flow_check.specs.Records.{Calls}
+use Rattle.flow_check.specs.Records.{CallsByCaller}
 use Rattle.flow_check.specs.Orders.{Explains}
-use Rattle.flow_check.specs.StateRecords.{name_of}
+use Rattle.flow_check.specs.StateRecords.{caller_name}
 
 -- The call of an event; n is the number of the caller's subscription or emission, if the call names one. The return of an `emit` is
--- no event (`IsReply`), so the call that stands for it is of no history.
+-- no event (`IsRecordedReply`), so the call that stands for it is of no history.
 abbrev pub call_of : ℕ → ℕ → SharedOperation → SharedCall ℕ
 call_of caller n (operation.TryEmit v) = call.TryEmit v
 call_of caller n (operation.Emit v) = call.Emit v
 call_of caller n (operation.EmitOrNot v) = call.Emit v
 call_of caller n operation.EmitReturned = call.Poll n
 call_of caller n operation.EmitCancelled = call.Cancel n
-call_of caller n (operation.Subscribe own) = call.Subscribe (name_of caller) own.now
+call_of caller n (operation.Subscribe own) = call.Subscribe (caller_name caller) own.now
 call_of caller n operation.Next = call.TakeNext n
 call_of caller n operation.Unsubscribe = call.Unsubscribe n
 call_of caller n operation.ReplayCache = call.ReplayCache
@@ -39,20 +39,20 @@ call_of caller n operation.ResetReplayCache = call.ResetReplayCache
 call_of caller n operation.SubscriptionCount = call.SubscriptionCount
 
 -- the event has this reply, if the answer is one to this operation; the beginning of an `emit` does not record whether it waits
-abbrev pub IsReply : ℕ → SharedOperation → SharedAnswer → SharedReply ℕ → Type 0
-IsReply n (operation.TryEmit v) (answer.Truth b) r = r ≡ reply.Tested b
-IsReply n (operation.Emit v) answer.Done r = (e : Emit) × (r ≡ reply.Emitted e)
-IsReply n (operation.EmitOrNot v) answer.Done r = (e : Emit) × (r ≡ reply.Emitted e)
-IsReply n operation.EmitCancelled answer.Done r = r ≡ reply.Tested true
-IsReply n (operation.Subscribe own) answer.Done r = r ≡ reply.Subscribed n
-IsReply n operation.Next (answer.Value v) r = r ≡ reply.Received (next.Value v)
-IsReply n operation.Next answer.SomeValue r = (v : ℕ) × (r ≡ reply.Received (next.Value v))
-IsReply n operation.Next answer.Empty r = r ≡ reply.Received next.Empty
-IsReply n operation.Unsubscribe answer.Done r = r ≡ reply.Tested true
-IsReply n operation.ReplayCache (answer.Values vs) r = r ≡ reply.Cached vs.now
-IsReply n operation.ResetReplayCache answer.Done r = r ≡ reply.Reset
-IsReply n operation.SubscriptionCount (answer.Number k) r = r ≡ reply.Counted k
-IsReply n _ _ r = ⊥
+abbrev pub IsRecordedReply : ℕ → SharedOperation → SharedAnswer → SharedReply ℕ → Type 0
+IsRecordedReply n (operation.TryEmit v) (answer.Truth b) r = r ≡ reply.Tested b
+IsRecordedReply n (operation.Emit v) answer.Done r = (e : Emit) × (r ≡ reply.Emitted e)
+IsRecordedReply n (operation.EmitOrNot v) answer.Done r = (e : Emit) × (r ≡ reply.Emitted e)
+IsRecordedReply n operation.EmitCancelled answer.Done r = r ≡ reply.Tested true
+IsRecordedReply n (operation.Subscribe own) answer.Done r = r ≡ reply.Subscribed n
+IsRecordedReply n operation.Next (answer.Value v) r = r ≡ reply.Received (next.Value v)
+IsRecordedReply n operation.Next answer.SomeValue r = (v : ℕ) × (r ≡ reply.Received (next.Value v))
+IsRecordedReply n operation.Next answer.Empty r = r ≡ reply.Received next.Empty
+IsRecordedReply n operation.Unsubscribe answer.Done r = r ≡ reply.Tested true
+IsRecordedReply n operation.ReplayCache (answer.Values vs) r = r ≡ reply.Cached vs.now
+IsRecordedReply n operation.ResetReplayCache answer.Done r = r ≡ reply.Reset
+IsRecordedReply n operation.SubscriptionCount (answer.Number k) r = r ≡ reply.Counted k
+IsRecordedReply n _ _ r = ⊥
 
 -- the answer that was recorded, or any if none was
 abbrev pub IsRecorded : Option SharedAnswer → SharedAnswer → Type 0
@@ -60,11 +60,11 @@ IsRecorded written a = (written ≡ None) ⊎ (written ≡ Some a)
 
 -- in this state of the flow, with these owners of numbers, the caller has no subscription
 abbrev pub HasNoSubscription : SharedFlowState ℕ → List Owner → ℕ → Type 0
-HasNoSubscription s owners caller = (u : ℕ) → owner_of (subscriber u) owners ≡ Some (name_of caller) → position_of u s.subscribers ≡ None
+HasNoSubscription s owners caller = (u : ℕ) → owner_of (subscriber u) owners ≡ Some (caller_name caller) → position_of u s.subscribers ≡ None
 
 -- no emission of the caller waits
 abbrev pub HasNoEmission : SharedFlowState ℕ → List Owner → ℕ → Type 0
-HasNoEmission s owners caller = (e : ℕ) → owner_of (emission e) owners ≡ Some (name_of caller) → is_waiting e s ≡ false
+HasNoEmission s owners caller = (e : ℕ) → owner_of (emission e) owners ≡ Some (caller_name caller) → is_waiting e s ≡ false
 
 -- a caller subscribes only while it has no subscription, and emits only while none of its emissions waits
 abbrev pub MayMake : SharedFlowState ℕ → List Owner → ℕ → SharedOperation → Type 0
@@ -93,16 +93,16 @@ module _ (first : SharedFlowState ℕ) where
     pub given : SharedAnswer
     pub replied : SharedReply ℕ
     pub is_recorded : IsRecorded entry.answer given
-    pub is_reply : IsReply number entry.operation given replied
-    pub is_event : part ≡ event (name_of caller) (said (call_of caller number entry.operation) replied) ∷ []
-    pub may_make : MayMake (after_all first h) (owners_all shared_flow [] h) caller entry.operation
+    pub is_reply : IsRecordedReply number entry.operation given replied
+    pub is_event : part ≡ event (caller_name caller) (said (call_of caller number entry.operation) replied) ∷ []
+    pub may_make : MayMake (shared_after_all first h) (owners_all shared_flow [] h) caller entry.operation
 
   -- a part of a recorded call is one event under the caller's name, or no event
   abbrev pub AddsEntry : History ℕ → ℕ → SharedEntry → History ℕ → Type 0
   AddsEntry h caller entry part =
-      AddsEvent h caller entry part ⊎ ((part ≡ []) × MayAddNothing (after_all first h) (owners_all shared_flow [] h) caller entry)
+      AddsEvent h caller entry part ⊎ ((part ≡ []) × MayAddNothing (shared_after_all first h) (owners_all shared_flow [] h) caller entry)
 
 -- a legal and owned history of some shared flow of this configuration, with the flow's own numbers, explains the calls
-abbrev pub ExplainsShared : Calls SharedEntry → Config → List ℕ → Type 0
+abbrev pub ExplainsShared : CallsByCaller SharedEntry → Config → List ℕ → Type 0
 ExplainsShared callers config order =
     (limit : ℕ) × Explains shared_flow (AddsEntry (first_state (record config { limit = limit }))) callers (first_state (record config { limit = limit })) order

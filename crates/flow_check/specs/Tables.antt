@@ -1,10 +1,10 @@
--- When a table of nodes shows that no order of steps goes through a record. Begin with `IsClosed`.
+-- When a table of nodes shows that no order of steps goes through a record. Begin with `IsClosedTable`.
 -- No public clause cites this module.
 use Rattle.std.specs.Prelude.{◌≡◌, ◌⊎◌, ℕ, Bool, true, List, take, drop, map, slice_get, Option, Some, IsSome}
 use Rattle.flow_check.specs.declared.timed.Timed.{Timed}
 use Rattle.flow_check.specs.declared.node.Node.{Node}
-use Rattle.flow_check.specs.Records.{Calls}
-use Rattle.flow_check.specs.Remaining.{placing, next_of, MayComeNext, OwesNothing, IsStep}
+use Rattle.flow_check.specs.Records.{CallsByCaller}
+use Rattle.flow_check.specs.Remaining.{placing, next_call_of, MayComeNext, OwesNothing, IsStep}
 
 -- a state, and how many calls of each caller have happened in it
 pub record Reached (S : Type 0) : Type 0 where
@@ -36,15 +36,15 @@ module _ {S : Type 0} (read : S → List ℕ → S) where
 abbrev pub IsInTable : {S : Type 0} → List (Reached S) → S → List ℕ → Type 0
 IsInTable {S} nodes s placed = (k : ℕ) × ((n : Reached S) × (slice_get nodes k ≡ Some n) × (n.state ≡ s) × (n.placed ≡ placed))
 
-module _ {S C : Type 0} (stepped : S → ℕ → C → Option S) (may_skip is_look : C → Bool) (callers : Calls C) (nodes : List (Reached S)) where
+module _ {S C : Type 0} (stepped : S → ℕ → C → Option S) (may_skip is_look : C → Bool) (callers : CallsByCaller C) (nodes : List (Reached S)) where
   -- if this caller's next call may happen, the table has the nodes that follow
   abbrev pub IsFollowedAt : Reached S → ℕ → Type 0
-  IsFollowedAt n caller = (c : Timed C) (after : S) → next_of callers n.placed caller ≡ Some c → MayComeNext callers n.placed c
+  IsFollowedAt n caller = (c : Timed C) (after : S) → next_call_of callers n.placed caller ≡ Some c → MayComeNext callers n.placed c
       → IsStep stepped may_skip n.state caller c.call after → IsInTable nodes after (placing caller n.placed)
 
   -- this caller's next call is a look that ended, and the table has the node that follows
   abbrev pub IsLookFollowed : Reached S → ℕ → Type 0
-  IsLookFollowed n caller = (c : Timed C) × (next_of callers n.placed caller ≡ Some c) × IsSome c.end × (is_look c.call ≡ true)
+  IsLookFollowed n caller = (c : Timed C) × (next_call_of callers n.placed caller ≡ Some c) × IsSome c.end × (is_look c.call ≡ true)
       × IsInTable nodes n.state (placing caller n.placed)
 
   -- some look leads to a node of the table, or each step that may come next does
@@ -52,5 +52,5 @@ module _ {S C : Type 0} (stepped : S → ℕ → C → Option S) (may_skip is_lo
   IsFollowed n = ((caller : ℕ) × IsLookFollowed n caller) ⊎ ((caller : ℕ) → IsFollowedAt n caller)
 
   -- the table has the nodes that follow each of its nodes, and none of them is an end
-  abbrev pub IsClosed : Type 0
-  IsClosed = (k : ℕ) (n : Reached S) → slice_get nodes k ≡ Some n → IsFollowed n × (OwesNothing callers n.placed → ⊥)
+  abbrev pub IsClosedTable : Type 0
+  IsClosedTable = (k : ℕ) (n : Reached S) → slice_get nodes k ≡ Some n → IsFollowed n × (OwesNothing callers n.placed → ⊥)

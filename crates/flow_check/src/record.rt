@@ -32,9 +32,9 @@ pub struct Record<C: Copy> {
 }
 
 impl<C: Copy> Model for Record<C> {
-    ghost use Rattle.flow_check.specs.Records.{Calls, IsWellTimed};
+    ghost use Rattle.flow_check.specs.Records.{CallsByCaller, IsWellTimed};
 
-    ghost Value = { Calls C };
+    ghost Value = { CallsByCaller C };
 
     ghost view = { λ r. r.callers.items };
 

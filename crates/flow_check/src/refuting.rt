@@ -4,7 +4,7 @@ ghost use Rattle.flow_check.specs.Records.{IsWellTimed};
 ghost use Rattle.flow_check.specs.Looks.{MayTakeLooks};
 ghost use Rattle.flow_check.specs.Remaining.{GoesThroughAll, none_placed, placing, OwesNothing};
 ghost use Rattle.flow_check.specs.Tables.{nodes_of, reached, IsInTable};
-ghost use Rattle.flow_check.specs.Tables.{IsFollowedAt, IsLookFollowed, IsFollowed, IsClosed};
+ghost use Rattle.flow_check.specs.Tables.{IsFollowedAt, IsLookFollowed, IsFollowed, IsClosedTable};
 
 use crate::machine::Machine;
 use crate::node::Node;
@@ -174,7 +174,7 @@ impl<'a, C: Copy, M: Machine<C>> Claim<'a, C, M> {
     /// Returns whether the table is closed.
     fn is_closed(&self) -> Result<bool, AllocError>
         ensures { IfOk result (λ yes. IsTrue yes →
-            IsClosed M.stepped M.may_skip M.is_look self.now.callers.now
+            IsClosedTable M.stepped M.may_skip M.is_look self.now.callers.now
             (nodes_of M.read self.now.table.now)) }
     {
         for place in 0..self.table.len() {

@@ -1,7 +1,7 @@
 //! What is left of a record after some of its calls have happened.
 ghost use Rattle.std.specs.Prelude.{◌≡◌, IsTrue, IfOk};
 ghost use Rattle.flow_check.specs.Records.{is_over_before, recorded};
-ghost use Rattle.flow_check.specs.Remaining.{next_of, NoneOverBefore, OwesNothing};
+ghost use Rattle.flow_check.specs.Remaining.{next_call_of, NoneOverBefore, OwesNothing};
 ghost use Rattle.flow_check.specs.Remaining.{placing, none_placed};
 
 use crate::timed::Timed;
@@ -23,7 +23,7 @@ pub fn next_call<C: Copy>(
     placed: &Vec<u32>,
     caller: usize,
 ) -> Option<Timed<C>>
-    ensures { result ≡ next_of callers.now placed.now.items caller }
+    ensures { result ≡ next_call_of callers.now placed.now.items caller }
 {
     match placed.as_slice().get(caller) {
         None => None,

@@ -1,7 +1,7 @@
 //! What a shared flow answers, in the state that the checker keeps.
 ghost use Rattle.std.specs.Prelude.{◌≡◌, Some};
 ghost use Rattle.flow_check.specs.SharedMachine.{done, tested, counted, cached, agrees, own_answer};
-ghost use Rattle.flow_check.specs.SharedMachine.{done_if, try_emit_answer, cache};
+ghost use Rattle.flow_check.specs.SharedMachine.{done_if, try_emit_answer, kept_cache};
 ghost use Rattle.flow_check.specs.SharedMachine.{emitted_answer, next_value, next_answer};
 ghost use Rattle.flow_check.specs.SharedMachine.{own_left};
 ghost use Rattle.flow_check.specs.Subscribed.{kept_of};

@@ -1,10 +1,10 @@
 //! A shared flow as the checker keeps it.
 ghost use Rattle.std.specs.Prelude.{◌≡◌, [], None, IfOk};
 ghost use Rattle.flow_check.specs.Subscribed.{kept_of, none_subscribed};
-ghost use Rattle.flow_check.specs.SharedMachine.{own_left, no_values, capacity, window, most_lag};
-ghost use Rattle.flow_check.specs.SharedMachine.{is_blocked};
-ghost use Rattle.flow_check.specs.SharedMachine.{emit_case, when_blocked, last_values, value_at};
-ghost use Rattle.flow_check.specs.SharedMachine.{is_in_queue, offering, is_offered_by, is_waiting};
+ghost use Rattle.flow_check.specs.SharedMachine.{own_left, no_values, kept_capacity, kept_window, most_lag};
+ghost use Rattle.flow_check.specs.SharedMachine.{is_kept_blocked};
+ghost use Rattle.flow_check.specs.SharedMachine.{kept_emit_case, kept_when_blocked, last_values, value_at};
+ghost use Rattle.flow_check.specs.SharedMachine.{is_in_queue, offering, is_offered_by, is_caller_waiting};
 ghost use Rattle.flow_check.specs.SharedMachine.{first_lag};
 
 use crate::subscribed::present;
@@ -146,7 +146,7 @@ fn is_in_queue(queue: &[Held], caller: usize) -> bool
 }
 
 fn when_blocked(overflow: Overflow) -> EmitCase
-    ensures { result ≡ when_blocked overflow }
+    ensures { result ≡ kept_when_blocked overflow }
 {
     match overflow {
         Overflow::Suspend => EmitCase::Queues,
@@ -217,26 +217,26 @@ impl SharedMachine {
     }
 
     pub fn capacity(&self) -> usize
-        ensures { result ≡ capacity self.now }
+        ensures { result ≡ kept_capacity self.now }
     {
         self.config.replay as usize + self.config.extra as usize
     }
 
     /// Returns the lag at which a subscriber blocks the flow.
     pub fn window(&self) -> usize
-        ensures { result ≡ window self.now }
+        ensures { result ≡ kept_window self.now }
     {
         self.capacity().max(1)
     }
 
     pub fn is_blocked(&self) -> bool
-        ensures { result ≡ is_blocked self.now }
+        ensures { result ≡ is_kept_blocked self.now }
     {
         most_lag(self.lags.as_slice()) >= self.window()
     }
 
     pub fn emit_case(&self) -> EmitCase
-        ensures { result ≡ emit_case self.now }
+        ensures { result ≡ kept_emit_case self.now }
     {
         let is_blocked = self.is_blocked();
         if present(self.lags.as_slice()) == 0 || (!is_blocked && self.capacity() > 0) {
@@ -272,7 +272,7 @@ impl SharedMachine {
 
     /// Returns whether the caller's `emit` waits.
     pub fn is_waiting(&self, caller: usize) -> bool
-        ensures { result ≡ is_waiting caller self.now }
+        ensures { result ≡ is_caller_waiting caller self.now }
     {
         self.is_offering(caller) || is_in_queue(self.queue.as_slice(), caller)
     }

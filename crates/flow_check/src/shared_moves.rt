@@ -1,9 +1,9 @@
 //! What calls of a shared flow do to the state that the checker keeps.
 ghost use Rattle.std.specs.Prelude.{◌≡◌, ◌<◌, IfOk, OnOk, IsTrue, IsFalse, map, filter, length};
 ghost use Rattle.std.specs.Prelude.{not, ◌==◌};
-ghost use Rattle.flow_check.specs.SharedMachine.{raised, cleared, with_lag, with_own, append};
-ghost use Rattle.flow_check.specs.SharedMachine.{settle, trim, emit_in, try_emit_in, emit_case};
-ghost use Rattle.flow_check.specs.SharedMachine.{withdraw, cancel, receive, made};
+ghost use Rattle.flow_check.specs.SharedMachine.{raised, cleared, with_lag, with_own_kept, append_kept};
+ghost use Rattle.flow_check.specs.SharedMachine.{settle_kept, trim, emit_in_kept, try_emit_in_kept, kept_emit_case};
+ghost use Rattle.flow_check.specs.SharedMachine.{withdraw_kept, cancel_kept, receive, made_kept};
 
 use crate::shared_calls::SharedOperation;
 use crate::shared_machine::{EmitCase, Held, Own, SharedMachine, last_values, most_lag};
@@ -60,7 +60,7 @@ fn without(alloc: Global, queue: &[Held], caller: usize) -> Result<Vec<Held>, Al
 impl SharedMachine {
     /// Emits a caller's value. Without a buffer it is offered to the subscribers.
     fn append(&mut self, alloc: Global, caller: usize, value: u64) -> Result<(), AllocError>
-        ensures { OnOk result (self.new ≡ append caller value self.old) }
+        ensures { OnOk result (self.new ≡ append_kept caller value self.old) }
     {
         let lags = raised(alloc, self.lags.as_slice(), self.window())?;
         self.values.push(value)?;
@@ -79,10 +79,10 @@ impl SharedMachine {
     /// did.
     #[tactic(auto, using(crate::proofs::QueueLemmas::admitted_first, crate::proofs::QueueLemmas::settled_blocked, crate::proofs::QueueLemmas::settled_empty))]
     fn admit(&mut self, alloc: Global) -> Result<bool, AllocError>
-        ensures settled { IfOk result (λ more. settle self.new ≡ settle self.old) }
+        ensures settled { IfOk result (λ more. settle_kept self.new ≡ settle_kept self.old) }
         ensures fewer { IfOk result (λ more.
             IsTrue more → length self.new.queue < length self.old.queue) }
-        ensures last { IfOk result (λ more. IsFalse more → self.new ≡ settle self.old) }
+        ensures last { IfOk result (λ more. IsFalse more → self.new ≡ settle_kept self.old) }
     {
         if self.is_blocked() {
             return Ok(false);
@@ -99,7 +99,7 @@ impl SharedMachine {
 
     /// Emits the queued values until the flow is blocked.
     fn settle(&mut self, alloc: Global) -> Result<(), AllocError>
-        ensures { OnOk result (self.new ≡ settle self.old) }
+        ensures { OnOk result (self.new ≡ settle_kept self.old) }
     {
         while self.admit(alloc)? {}
         Ok(())
@@ -118,7 +118,7 @@ impl SharedMachine {
     }
 
     fn emit(&mut self, alloc: Global, held: Held, case: EmitCase) -> Result<(), AllocError>
-        ensures { OnOk result (self.new ≡ emit_in case held.caller held.value self.old) }
+        ensures { OnOk result (self.new ≡ emit_in_kept case held.caller held.value self.old) }
     {
         match case {
             EmitCase::Appends | EmitCase::Offers | EmitCase::DropsOldest => {
@@ -133,7 +133,7 @@ impl SharedMachine {
     }
 
     fn try_emit(&mut self, alloc: Global, held: Held, case: EmitCase) -> Result<(), AllocError>
-        ensures { OnOk result (self.new ≡ try_emit_in case held.caller held.value self.old) }
+        ensures { OnOk result (self.new ≡ try_emit_in_kept case held.caller held.value self.old) }
     {
         match case {
             EmitCase::Appends | EmitCase::DropsOldest => {
@@ -146,7 +146,7 @@ impl SharedMachine {
     /// Withdraws the caller's value: subscribers that have not received an offered one miss it, and a
     /// queued one is dropped.
     fn withdraw(&mut self, alloc: Global, caller: usize) -> Result<(), AllocError>
-        ensures { OnOk result (self.new ≡ withdraw caller self.old) }
+        ensures { OnOk result (self.new ≡ withdraw_kept caller self.old) }
     {
         if self.is_offering(caller) {
             let lags = cleared(alloc, self.lags.as_slice())?;
@@ -159,7 +159,7 @@ impl SharedMachine {
     }
 
     fn cancel(&mut self, alloc: Global, caller: usize) -> Result<(), AllocError>
-        ensures { OnOk result (self.new ≡ cancel caller self.old) }
+        ensures { OnOk result (self.new ≡ cancel_kept caller self.old) }
     {
         if !self.is_waiting(caller) {
             return Ok(());
@@ -177,7 +177,7 @@ impl SharedMachine {
     }
 
     fn set_own(&mut self, caller: usize, own: Own)
-        ensures { self.new ≡ with_own caller own self.old }
+        ensures { self.new ≡ with_own_kept caller own self.old }
     {
         if caller < self.owns.len() {
             self.owns[caller] = own;
@@ -210,7 +210,7 @@ impl SharedMachine {
         caller: usize,
         operation: SharedOperation<'_>,
     ) -> Result<(), AllocError>
-        ensures { OnOk result (self.new ≡ made caller operation.entry self.old) }
+        ensures { OnOk result (self.new ≡ made_kept caller operation.entry self.old) }
     {
         match operation {
             SharedOperation::TryEmit(value) => {
@@ -253,7 +253,7 @@ impl SharedMachine {
         caller: usize,
         operation: SharedOperation<'_>,
     ) -> Result<(), AllocError>
-        ensures { OnOk result (self.new ≡ trim (made caller operation.entry self.old)) }
+        ensures { OnOk result (self.new ≡ trim (made_kept caller operation.entry self.old)) }
     {
         self.make_call(alloc, caller, operation)?;
         self.trim(alloc)

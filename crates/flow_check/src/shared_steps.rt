@@ -1,6 +1,6 @@
 //! The checker's machine of a shared flow.
 ghost use Rattle.std.specs.Prelude.{◌≡◌, IfOk, IsTrue};
-ghost use Rattle.flow_check.specs.SharedMachine.{read};
+ghost use Rattle.flow_check.specs.SharedMachine.{read_kept};
 
 use crate::machine::Machine;
 use crate::marks::{mix, mix_all};
@@ -39,8 +39,8 @@ fn mix_queue(mark: u64, queue: &[Held]) -> u64 {
 }
 
 impl<'a> Machine<SharedEntry<'a>> for SharedMachine {
-    ghost use Rattle.flow_check.specs.SharedMachine.{stepped, may_skip, read};
-    ghost use Rattle.flow_check.specs.SharedLooks.{is_look, IsSound};
+    ghost use Rattle.flow_check.specs.SharedMachine.{stepped, may_skip, read_kept};
+    ghost use Rattle.flow_check.specs.SharedLooks.{is_look, KeepsWhatIsNeeded};
 
     ghost stepped = { stepped };
 
@@ -66,7 +66,7 @@ impl<'a> Machine<SharedEntry<'a>> for SharedMachine {
 
     ghost is_look = { is_look };
 
-    ghost IsSound = { IsSound };
+    ghost IsSound = { KeepsWhatIsNeeded };
 
     fn is_look(&self, call: &SharedEntry<'a>) -> bool {
         match (call.operation, call.answer) {
@@ -106,10 +106,10 @@ impl<'a> Machine<SharedEntry<'a>> for SharedMachine {
         self.write_words(words)
     }
 
-    ghost read = { read };
+    ghost read = { read_kept };
 
     fn read(&self, alloc: Global, words: &[u32]) -> Result<Self, AllocError>
-        ensures { IfOk result (λ state. state ≡ read self.now words.now) }
+        ensures { IfOk result (λ state. state ≡ read_kept self.now words.now) }
     {
         self.read_words(alloc, words)
     }

@@ -1,6 +1,6 @@
 //! States of a shared flow as words.
 ghost use Rattle.std.specs.Prelude.{◌≡◌, IfOk};
-ghost use Rattle.flow_check.specs.SharedMachine.{read};
+ghost use Rattle.flow_check.specs.SharedMachine.{read_kept};
 
 use crate::shared_machine::{Held, Own, SharedMachine};
 use crate::words::{
@@ -93,7 +93,7 @@ impl SharedMachine {
 
     /// Reads a state of this flow.
     pub fn read_words(&self, alloc: Global, words: &[u32]) -> Result<SharedMachine, AllocError>
-        ensures { IfOk result (λ state. state ≡ read self.now words.now) }
+        ensures { IfOk result (λ state. state ≡ read_kept self.now words.now) }
     {
         let callers = self.lags.len();
         let value_count = word_at(words, 2) as usize;

@@ -1,7 +1,7 @@
 //! What a state flow answers to a caller, by what the caller has received.
 ghost use Rattle.std.specs.Prelude.{◌≡◌};
-ghost use Rattle.flow_check.specs.StateMachine.{subscribe_answer, next_answer, unsubscribe_answer};
-ghost use Rattle.flow_check.specs.StateMachine.{same_answer, agrees};
+ghost use Rattle.flow_check.specs.StateMachine.{subscribe_answer, state_next_answer, unsubscribe_answer};
+ghost use Rattle.flow_check.specs.StateMachine.{state_same_answer, state_agrees};
 
 use crate::state_calls::StateAnswer;
 
@@ -17,7 +17,7 @@ pub fn subscribe_answer(reader: Option<Option<u64>>) -> Option<StateAnswer>
 
 /// Returns the answer to `next`, or None if the caller is not subscribed.
 pub fn next_answer(value: u64, reader: Option<Option<u64>>) -> Option<StateAnswer>
-    ensures { result ≡ next_answer value reader }
+    ensures { result ≡ state_next_answer value reader }
 {
     match reader {
         None => None,
@@ -44,7 +44,7 @@ pub fn unsubscribe_answer(reader: Option<Option<u64>>) -> Option<StateAnswer>
 
 /// Returns whether an answer is the one that was recorded.
 fn same_answer(own: StateAnswer, recorded: StateAnswer) -> bool
-    ensures { result ≡ same_answer own recorded }
+    ensures { result ≡ state_same_answer own recorded }
 {
     match (own, recorded) {
         (StateAnswer::Done, StateAnswer::Done) => true,
@@ -58,7 +58,7 @@ fn same_answer(own: StateAnswer, recorded: StateAnswer) -> bool
 
 /// Returns whether the flow's own answer is the one that was recorded, if one was.
 pub fn agrees(own: Option<StateAnswer>, recorded: Option<StateAnswer>) -> bool
-    ensures { result ≡ agrees own recorded }
+    ensures { result ≡ state_agrees own recorded }
 {
     match (own, recorded) {
         (None, _) => false,

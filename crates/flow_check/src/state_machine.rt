@@ -2,7 +2,7 @@
 ghost use Rattle.std.specs.Prelude.{◌≡◌, IsTrue, IfOk};
 ghost use Rattle.flow_check.specs.Subscribed.{none_subscribed};
 ghost use Rattle.flow_check.specs.StateMachine.{reader_of, with_reader};
-ghost use Rattle.flow_check.specs.StateMachine.{own_answer, moved, agrees, reader_in, read};
+ghost use Rattle.flow_check.specs.StateMachine.{state_own_answer, state_moved, state_agrees, reader_in, read_state_kept};
 
 use crate::machine::Machine;
 use crate::marks::mix;
@@ -23,9 +23,9 @@ pub struct StateMachine {
 }
 
 impl Model for StateMachine {
-    ghost use Rattle.flow_check.specs.StateMachine.{Kept};
+    ghost use Rattle.flow_check.specs.StateMachine.{StateKept};
 
-    ghost Value = { Kept };
+    ghost Value = { StateKept };
 
     ghost view = { λ m. record { value = m.value; readers = m.readers.items } };
 }
@@ -43,7 +43,7 @@ impl StateMachine {
 
     /// Returns the flow's own answer, or None if the caller may not make the call.
     fn own_answer(&self, caller: usize, operation: StateOperation) -> Option<StateAnswer>
-        ensures { result ≡ own_answer caller operation self.now }
+        ensures { result ≡ state_own_answer caller operation self.now }
     {
         match operation {
             StateOperation::Value => Some(StateAnswer::Value(self.value)),
@@ -97,7 +97,7 @@ impl StateMachine {
         caller: usize,
         operation: StateOperation,
     ) -> Result<StateMachine, AllocError>
-        ensures { IfOk result (λ after. after ≡ moved caller operation self.now) }
+        ensures { IfOk result (λ after. after ≡ state_moved caller operation self.now) }
     {
         match operation {
             StateOperation::Set(value) => self.copied(alloc, value),
@@ -169,10 +169,10 @@ impl Part for Option<Option<u64>> {
 }
 
 impl Machine<StateEntry> for StateMachine {
-    ghost use Rattle.flow_check.specs.StateMachine.{stepped, may_skip, read};
-    ghost use Rattle.flow_check.specs.StateLooks.{is_look, IsSound};
+    ghost use Rattle.flow_check.specs.StateMachine.{state_stepped, state_may_skip, read_state_kept};
+    ghost use Rattle.flow_check.specs.StateLooks.{is_state_look, IsAlwaysSound};
 
-    ghost stepped = { stepped };
+    ghost stepped = { state_stepped };
 
     fn step(
         &self,
@@ -188,15 +188,15 @@ impl Machine<StateEntry> for StateMachine {
         Ok(Some(after))
     }
 
-    ghost may_skip = { may_skip };
+    ghost may_skip = { state_may_skip };
 
     fn may_skip(&self, _call: &StateEntry) -> bool {
         false
     }
 
-    ghost is_look = { is_look };
+    ghost is_look = { is_state_look };
 
-    ghost IsSound = { IsSound };
+    ghost IsSound = { IsAlwaysSound };
 
     fn is_look(&self, call: &StateEntry) -> bool {
         match (call.operation, call.answer) {
@@ -227,7 +227,7 @@ impl Machine<StateEntry> for StateMachine {
         write_parts(words, self.readers.as_slice())
     }
 
-    ghost read = { read };
+    ghost read = { read_state_kept };
 
     fn read(&self, alloc: Global, words: &[u32]) -> Result<Self, AllocError> {
         let readers = read_parts(alloc, words_from(words, 2), self.readers.len())?;

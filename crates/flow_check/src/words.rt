@@ -1,6 +1,6 @@
 //! States as words of 32 bits.
 ghost use Rattle.std.specs.Prelude.{◌≡◌, ℕ, List, IfOk, drop, take, slice_index};
-ghost use Rattle.flow_check.specs.Words.{number_of, maybe_of, parts_of};
+ghost use Rattle.flow_check.specs.Words.{number_in_words, maybe_of, parts_in_words};
 
 use std::alloc::{AllocError, Global};
 
@@ -40,7 +40,7 @@ pub fn words_before(words: &[u32], index: usize) -> &[u32]
 
 /// Returns the number that the first two words encode.
 pub fn number_of(words: &[u32]) -> u64
-    ensures { result ≡ number_of words.now }
+    ensures { result ≡ number_in_words words.now }
 {
     word_at(words, 0) as u64 + 4_294_967_296 * word_at(words, 1) as u64
 }
@@ -95,7 +95,7 @@ pub trait Part: Drop {
 
 /// Reads `count` parts.
 pub fn read_parts<P: Part>(alloc: Global, words: &[u32], count: usize) -> Result<Vec<P>, AllocError>
-    ensures { IfOk result (λ read. read.items ≡ parts_of P.part P.others count words.now) }
+    ensures { IfOk result (λ read. read.items ≡ parts_in_words P.part P.others count words.now) }
 {
     let mut parts = Vec::new(alloc);
     let mut rest = words;
@@ -115,7 +115,7 @@ pub fn write_parts<P: Part>(words: &mut Vec<u32>, parts: &[P]) -> Result<(), All
 }
 
 impl Part for u64 {
-    ghost part = { number_of };
+    ghost part = { number_in_words };
 
     ghost others = { drop 2 };
 

@@ -1,6 +1,6 @@
 //! The first moment at which a record goes wrong.
 ghost use Rattle.std.specs.Prelude.{ℕ, List, IfOk, IfSome};
-ghost use Rattle.flow_check.specs.Records.{Calls};
+ghost use Rattle.flow_check.specs.Records.{CallsByCaller};
 ghost use Rattle.flow_check.specs.Verdicts.{Judges};
 ghost use Rattle.flow_check.specs.Moments.{JudgesKnown, GoesWrong, IsCutOff};
 
@@ -17,7 +17,7 @@ use std::alloc::{AllocError, Global};
 /// Judges records of calls of one flow.
 pub trait Checker<C: Copy> {
     /// Whether an order explains calls.
-    ghost explains: { Self → Calls C → List ℕ → Type 0 };
+    ghost explains: { Self → CallsByCaller C → List ℕ → Type 0 };
 
     fn check(&self, alloc: Global, calls: &Record<C>, budget: u64) -> Result<Verdict, AllocError>
         ensures { IfOk result (λ verdict. Judges (explains self.now calls.now) verdict) };

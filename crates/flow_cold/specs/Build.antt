@@ -57,9 +57,9 @@ RefusesDepth o depth TooDeep = (¬ TakesNone o) × (64 < op_depth o depth)
 RefusesDepth o depth _ = ⊥
 
 -- the operator is refused on this chain with this fault
-abbrev pub Refuses : Op → ScriptChain → ChainFault → Type 0
-Refuses o chain OutOfMemory = (¬ TakesNone o) × (op_depth o (depth_of chain) ≤ 64)
-Refuses o chain fault = RefusesDepth o (depth_of chain) fault
+abbrev pub RefusesOp : Op → ScriptChain → ChainFault → Type 0
+RefusesOp o chain OutOfMemory = (¬ TakesNone o) × (op_depth o (depth_of chain) ≤ 64)
+RefusesOp o chain fault = RefusesDepth o (depth_of chain) fault
 
 -- the operator is not refused, and the depth with it is `new`
 pub record AddsDepth (o : Op) (old new : ℕ) : Type 0 where

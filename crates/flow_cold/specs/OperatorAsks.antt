@@ -3,7 +3,7 @@ use Rattle.std.specs.Prelude.{◌≡◌, ℤ, Option, Some, None, Result, drop, 
 use Rattle.std.specs.Ordering.{int_eq}
 use Rattle.flow_law.specs.declared.chain.ChainFault.{ChainFault}
 use Rattle.flow_law.specs.ChainRun.{ChainRun, list_run}
-use Rattle.flow_operators.specs.Behind.{after_ask, after_filter, after_drop, after_drop_while, after_distinct, after_scan, unless_empty, after_transform, unless_completed, after_flat_map}
+use Rattle.flow_operators.specs.Behind.{rest_after_ask, after_filter, after_drop, after_drop_while, after_distinct, after_scan, unless_empty, after_transform, unless_completed, after_flat_map}
 use Rattle.flow_operators.specs.Kept.{unless_ended}
 use Rattle.flow_cold.specs.declared.script_chain.op.Spread.TheVariants as spread
 use Rattle.flow_cold.specs.declared.script_chain.node.Phase.{Phase}
@@ -33,15 +33,15 @@ after_repeating s r = unless_completed (list_run (replicate s.left s.item)) r (a
 
 -- the rest of the upstream after one ask of an operator that holds nothing back; r is the rest before
 abbrev pub after_ready : Operator → ChainRun ℤ → ChainRun ℤ
-after_ready (Map s) r = after_ask r
+after_ready (Map s) r = rest_after_ask r
 after_ready (Filter test) r = after_filter (passes test) r
-after_ready (TakeWhile test) r = after_ask r
+after_ready (TakeWhile test) r = rest_after_ask r
 after_ready (Transform s) r = after_transform (sums s.entries.items) r
-after_ready (Take s) r = after_ask r
+after_ready (Take s) r = rest_after_ask r
 after_ready (DropFirst s) r = after_drop r s.left
 after_ready (DropWhile s) r = after_drop_while (passes s.test) s.dropping r
-after_ready (RunningReduce s) r = after_ask r
-after_ready (Scan s) r = after_ask r
+after_ready (RunningReduce s) r = rest_after_ask r
+after_ready (Scan s) r = rest_after_ask r
 after_ready (FlatMapRange s) r = after_flat_map (spread_run spread.Range s.count) r
 after_ready (FlatMapRepeat s) r = after_flat_map (spread_run spread.Repeat s.count) r
 after_ready (Distinct s) r = after_distinct int_eq s.last r

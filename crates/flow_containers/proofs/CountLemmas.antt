@@ -11,7 +11,7 @@ use Rattle.flow_law.specs.declared.states.Subscriber.{Subscriber}
 use Rattle.flow_law.specs.SharedFlow.{position_of, stand_at, move_to, raise_to}
 use Rattle.flow_law.specs.Standing.{least_position}
 use Rattle.flow_law.proofs.CoveringLemmas.{least_position_bound}
-use Rattle.flow_containers.specs.PositionCounts.{IsLeast, AreWithin, count_of, CountsPositions, take_out}
+use Rattle.flow_containers.specs.PositionCounts.{IsLeast, AreWithin, count_of, CountsPositions, take_subscriber_out}
 use Rattle.flow_containers.proofs.PlaceLemmas.{same_place, same_place_in, other_place}
 
 pub unequal : (a b : ℕ) → a ≢ b → (a == b) ≡ false
@@ -252,16 +252,16 @@ fits-enroll w n row us v fits le near =
     fits_more w n v.position row us (us ++ v ∷ []) fits (within-enroll w n us v fits.window le near) (λ r. count-append (w + 1) r us v)
 
 pub count-take_out : {T : Type 0} (n r number p : ℕ) (us : List (Subscriber T)) → position_of number us ≡ Some p
-    → count_of n r us ≡ (if p % n == r then suc (count_of n r (take_out number us)) else count_of n r (take_out number us))
+    → count_of n r us ≡ (if p % n == r then suc (count_of n r (take_subscriber_out number us)) else count_of n r (take_subscriber_out number us))
 count-take_out n r number p [] found = absurd (cc)
 count-take_out n r number p (u ∷ us) found =
     elim (u.number == number) as (λ t. (if t then Some u.position else position_of number us) ≡ Some p
     → (if u.position % n == r then suc (count_of n r us) else count_of n r us)
-    ≡ (if p % n == r then suc (count_of n r (if t then us else u ∷ take_out number us)) else count_of n r (if t then us else u ∷ take_out number us))) [
+    ≡ (if p % n == r then suc (count_of n r (if t then us else u ∷ take_subscriber_out number us)) else count_of n r (if t then us else u ∷ take_subscriber_out number us))) [
       | true ↦ λ here. let same : u.position ≡ p = cc in ap (λ q. if q % n == r then suc (count_of n r us) else count_of n r us) same
       | false ↦ λ there.
           ap (λ k. if u.position % n == r then suc k else k) (count-take_out n r number p us there)
-          ∙ swap (u.position % n == r) (p % n == r) (count_of n r (take_out number us))
+          ∙ swap (u.position % n == r) (p % n == r) (count_of n r (take_subscriber_out number us))
     ] found
   where
     swap : (a b : Bool) (k : ℕ) → (if a then suc (if b then suc k else k) else (if b then suc k else k)) ≡ (if b then suc (if a then suc k else k) else (if a then suc k else k))
@@ -271,16 +271,16 @@ count-take_out n r number p (u ∷ us) found =
     swap false false k = refl
 
 pub count-move_to : {T : Type 0} (n r number p q : ℕ) (us : List (Subscriber T)) → position_of number us ≡ Some p
-    → count_of n r (move_to number q us) ≡ (if q % n == r then suc (count_of n r (take_out number us)) else count_of n r (take_out number us))
+    → count_of n r (move_to number q us) ≡ (if q % n == r then suc (count_of n r (take_subscriber_out number us)) else count_of n r (take_subscriber_out number us))
 count-move_to n r number p q [] found = absurd (cc)
 count-move_to n r number p q (u ∷ us) found =
     elim (u.number == number) as (λ t. (if t then Some u.position else position_of number us) ≡ Some p
     → count_of n r (if t then stand_at q u ∷ us else u ∷ move_to number q us)
-    ≡ (if q % n == r then suc (count_of n r (if t then us else u ∷ take_out number us)) else count_of n r (if t then us else u ∷ take_out number us))) [
+    ≡ (if q % n == r then suc (count_of n r (if t then us else u ∷ take_subscriber_out number us)) else count_of n r (if t then us else u ∷ take_subscriber_out number us))) [
       | true ↦ λ here. refl
       | false ↦ λ there.
           ap (λ k. if u.position % n == r then suc k else k) (count-move_to n r number p q us there)
-          ∙ swap (u.position % n == r) (q % n == r) (count_of n r (take_out number us))
+          ∙ swap (u.position % n == r) (q % n == r) (count_of n r (take_subscriber_out number us))
     ] found
   where
     swap : (a b : Bool) (k : ℕ) → (if a then suc (if b then suc k else k) else (if b then suc k else k)) ≡ (if b then suc (if a then suc k else k) else (if a then suc k else k))
@@ -289,10 +289,10 @@ count-move_to n r number p q (u ∷ us) found =
     swap false true k = refl
     swap false false k = refl
 
-pub within-take_out : {T : Type 0} (w n number : ℕ) (us : List (Subscriber T)) → AreWithin w n us → AreWithin w n (take_out number us)
+pub within-take_out : {T : Type 0} (w n number : ℕ) (us : List (Subscriber T)) → AreWithin w n us → AreWithin w n (take_subscriber_out number us)
 within-take_out w n number [] h = tt
 within-take_out w n number (u ∷ us) h =
-    elim (u.number == number) as (λ t. AreWithin w n (if t then us else u ∷ take_out number us)) [
+    elim (u.number == number) as (λ t. AreWithin w n (if t then us else u ∷ take_subscriber_out number us)) [
       | true ↦ h.2
       | false ↦ (h.0, h.1, within-take_out w n number us h.2)
     ]
@@ -318,13 +318,13 @@ pub found_counted : {T : Type 0} (n number p : ℕ) (us : List (Subscriber T)) �
 found_counted n number p us found =
     let whole = count-take_out n (p % n) number p us found in
     let here : (p % n == p % n) ≡ true = equal (p % n) (p % n) refl in
-    let all : count_of n (p % n) us ≡ suc (count_of n (p % n) (take_out number us)) =
-    whole ∙ ap (λ t. if t then suc (count_of n (p % n) (take_out number us)) else count_of n (p % n) (take_out number us)) here in
+    let all : count_of n (p % n) us ≡ suc (count_of n (p % n) (take_subscriber_out number us)) =
+    whole ∙ ap (λ t. if t then suc (count_of n (p % n) (take_subscriber_out number us)) else count_of n (p % n) (take_subscriber_out number us)) here in
     omega (arith, all)
 
 -- a row that counts one subscriber less
 pub fits-take_out : {T : Type 0} (w n number p : ℕ) (row : List ℕ) (us : List (Subscriber T)) → CountsPositions w n row us → position_of number us ≡ Some p
-    → CountsPositions w n (set row (p % (w + 1)) (get_or row (p % (w + 1)) 0 - 1)) (take_out number us)
+    → CountsPositions w n (set row (p % (w + 1)) (get_or row (p % (w + 1)) 0 - 1)) (take_subscriber_out number us)
 fits-take_out w n number p row us fits found = record {
   long = length-set row _ _ ∙ fits.long;
   counts = λ r below.
@@ -333,11 +333,11 @@ fits-take_out w n number p row us fits found = record {
   window = within-take_out w n number us fits.window;
 }
   where
-    one : (r : ℕ) → r < w + 1 → (if p % (w + 1) == r then get_or row (p % (w + 1)) 0 - 1 else get_or row r 0) ≡ count_of (w + 1) r (take_out number us)
+    one : (r : ℕ) → r < w + 1 → (if p % (w + 1) == r then get_or row (p % (w + 1)) 0 - 1 else get_or row r 0) ≡ count_of (w + 1) r (take_subscriber_out number us)
     one r below =
         elim (p % (w + 1) == r) as (λ t. (p % (w + 1) == r) ≡ t
-        → count_of (w + 1) r us ≡ (if t then suc (count_of (w + 1) r (take_out number us)) else count_of (w + 1) r (take_out number us))
-        → (if t then get_or row (p % (w + 1)) 0 - 1 else get_or row r 0) ≡ count_of (w + 1) r (take_out number us)) [
+        → count_of (w + 1) r us ≡ (if t then suc (count_of (w + 1) r (take_subscriber_out number us)) else count_of (w + 1) r (take_subscriber_out number us))
+        → (if t then get_or row (p % (w + 1)) 0 - 1 else get_or row r 0) ≡ count_of (w + 1) r (take_subscriber_out number us)) [
           | true ↦ λ e f. let same : p % (w + 1) ≡ r = (Decides-eqb (p % (w + 1)) r).0 e in omega (arith, ap (λ i. get_or row i 0) same, fits.counts r below, f)
           | false ↦ λ e f. fits.counts r below ∙ f
         ] refl (count-take_out (w + 1) r number p us found)
@@ -345,7 +345,7 @@ fits-take_out w n number p row us fits found = record {
 pub fits-move_to : {T : Type 0} (w n number p q : ℕ) (row : List ℕ) (us : List (Subscriber T)) → CountsPositions w n row us → position_of number us ≡ Some p → q ≤ n → n ≤ q + w
     → CountsPositions w n (set (set row (p % (w + 1)) (get_or row (p % (w + 1)) 0 - 1)) (q % (w + 1)) (get_or (set row (p % (w + 1)) (get_or row (p % (w + 1)) 0 - 1)) (q % (w + 1)) 0 + 1)) (move_to number q us)
 fits-move_to w n number p q row us fits found le near =
-    fits_more w n q _ (take_out number us) (move_to number q us) (fits-take_out w n number p row us fits found)
+    fits_more w n q _ (take_subscriber_out number us) (move_to number q us) (fits-take_out w n number p row us fits found)
     (within-move_to w n number q us fits.window le near) (λ r. count-move_to (w + 1) r number p q us found)
 
 -- the count shows whether other subscribers stay at the position of one that moves on
@@ -353,12 +353,12 @@ pub others_at : {T : Type 0} (w n number p : ℕ) (row : List ℕ) (us : List (S
     → nat_lt 0 (get_or row (p % (w + 1)) 0 - 1) ≡ list_any (λ u. u.position == p) (move_to number (p + 1) us)
 others_at w n number p row us some fits found less =
     let near = found_within w n number p us fits.window found in
-    let whole : count_of (w + 1) (p % (w + 1)) us ≡ suc (count_of (w + 1) (p % (w + 1)) (take_out number us)) =
+    let whole : count_of (w + 1) (p % (w + 1)) us ≡ suc (count_of (w + 1) (p % (w + 1)) (take_subscriber_out number us)) =
     count-take_out (w + 1) (p % (w + 1)) number p us found
-    ∙ ap (λ t. if t then suc (count_of (w + 1) (p % (w + 1)) (take_out number us)) else count_of (w + 1) (p % (w + 1)) (take_out number us)) (equal (p % (w + 1)) (p % (w + 1)) refl) in
-    let rest : count_of (w + 1) (p % (w + 1)) (move_to number (p + 1) us) ≡ count_of (w + 1) (p % (w + 1)) (take_out number us) =
+    ∙ ap (λ t. if t then suc (count_of (w + 1) (p % (w + 1)) (take_subscriber_out number us)) else count_of (w + 1) (p % (w + 1)) (take_subscriber_out number us)) (equal (p % (w + 1)) (p % (w + 1)) refl) in
+    let rest : count_of (w + 1) (p % (w + 1)) (move_to number (p + 1) us) ≡ count_of (w + 1) (p % (w + 1)) (take_subscriber_out number us) =
     count-move_to (w + 1) (p % (w + 1)) number p (p + 1) us found
-    ∙ ap (λ t. if t then suc (count_of (w + 1) (p % (w + 1)) (take_out number us)) else count_of (w + 1) (p % (w + 1)) (take_out number us))
+    ∙ ap (λ t. if t then suc (count_of (w + 1) (p % (w + 1)) (take_subscriber_out number us)) else count_of (w + 1) (p % (w + 1)) (take_subscriber_out number us))
     (unequal ((p + 1) % (w + 1)) (p % (w + 1)) (λ e. apart w p some (sym e))) in
     let counted = fits.counts (p % (w + 1)) (mod_below p (w + 1) (omega arith)) in
     let others : get_or row (p % (w + 1)) 0 - 1 ≡ count_of (w + 1) (p % (w + 1)) (move_to number (p + 1) us) = omega (arith, whole, rest, counted) in

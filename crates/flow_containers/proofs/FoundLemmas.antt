@@ -7,7 +7,7 @@ use Rattle.std.proofs.lemmas.List.Elements.{filter-append}
 use Rattle.flow_law.specs.Laws.{RisesTo}
 use Rattle.flow_law.proofs.Rows.{rises_higher}
 use Rattle.flow_containers.specs.declared.members.Member.{Member}
-use Rattle.flow_containers.specs.Members.{numbers, row_of, member_with, with_row, without_number, take_out, listed, found_to}
+use Rattle.flow_containers.specs.Members.{member_numbers, row_of, member_with, with_row, without_number, take_out, listed, found_to}
 use Rattle.flow_containers.proofs.MemberLemmas.{rises_insert, row_above, take_out_is, rewritten, with_row_is}
 
 module _ {R : Type 0} where
@@ -31,15 +31,15 @@ module _ {R : Type 0} where
         | inr other ↦ ap (λ o. found_to f m ++ listed o) (none (suc m) (omega arith)) ∙ append-nil (found_to f m) ∙ found_to-past f last m (omega arith) none
       ]
 
-  pub found_to-rises : (f : ℕ → Option (Member R)) (m : ℕ) → HasNumbers f → RisesTo 0 (numbers (found_to f m)) m
+  pub found_to-rises : (f : ℕ → Option (Member R)) (m : ℕ) → HasNumbers f → RisesTo 0 (member_numbers (found_to f m)) m
   found_to-rises f zero has = omega arith
   found_to-rises f (suc m) has = by_case (found_to-rises f m has) (f (suc m)) refl
     where
-      by_case : RisesTo 0 (numbers (found_to f m)) m → (o : Option (Member R)) → f (suc m) ≡ o → RisesTo 0 (numbers (found_to f m ++ listed o)) (suc m)
-      by_case rises None none = rw append-nil (rises_higher 0 m (suc m) (numbers (found_to f m)) (omega arith) rises)
+      by_case : RisesTo 0 (member_numbers (found_to f m)) m → (o : Option (Member R)) → f (suc m) ≡ o → RisesTo 0 (member_numbers (found_to f m ++ listed o)) (suc m)
+      by_case rises None none = rw append-nil (rises_higher 0 m (suc m) (member_numbers (found_to f m)) (omega arith) rises)
       by_case rises (Some member) there =
           let is : member.number ≡ suc m = has (suc m) member there in
-          subst (RisesTo 0 (numbers (found_to f m ++ member ∷ []))) is (rises_insert 0 m member.number member.row (found_to f m) rises (omega (arith, is)))
+          subst (RisesTo 0 (member_numbers (found_to f m ++ member ∷ []))) is (rises_insert 0 m member.number member.row (found_to f m) rises (omega (arith, is)))
 
   -- ---- one number
 

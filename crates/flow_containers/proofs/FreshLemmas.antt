@@ -3,7 +3,7 @@ use Rattle.std.proofs.Common.{◌≡◌, ℕ, ◌+◌, ◌-◌, ◌<◌, List, [
 use Rattle.std.proofs.lemmas.List.{length-replicate, get_or-replicate}
 use Rattle.flow_containers.specs.declared.members.Member.{Member}
 use Rattle.flow_containers.specs.declared.members.enroll.Row.{Row}
-use Rattle.flow_containers.specs.Subscribers.{Standing, read, AreSound}
+use Rattle.flow_containers.specs.Subscribers.{Standing, subscribers_read, AreSound}
 
 module _ {T A : Type 0} where
   sound_in : (window places : ℕ) (row : List ℕ) → 0 < window → places ≡ window + 1 → row ≡ replicate places 0 → AreSound {T = T} {A = A} window row 0 0 [] 0
@@ -30,9 +30,9 @@ module _ {T A : Type 0} where
       (subst (λ n. AreSound {T = T} {A = A} n row 0 0 [] 0) places (sound_in window (window + 1) row some refl are))))
 
   pub standing_fresh : (window emitted greatest : ℕ) (row : List ℕ) (members : List (Member (Row T A))) (at : List (Option ℕ)) → row ≡ replicate (window + 1) 0 → emitted ≡ 0 → members ≡ [] → greatest ≡ 0
-      → at ≡ [] → ◌≡◌ {A = Standing T} (record { list = read 0 members; emitted = emitted; window = length row - 1; floor = 0; last = greatest; by_key = at })
+      → at ≡ [] → ◌≡◌ {A = Standing T} (record { list = subscribers_read 0 members; emitted = emitted; window = length row - 1; floor = 0; last = greatest; by_key = at })
       (record { list = []; emitted = 0; window = window; floor = 0; last = 0; by_key = [] })
   standing_fresh window emitted greatest row members at are none nobody least free =
       let long : length row ≡ window + 1 = ap length are ∙ length-replicate (window + 1) 0 in
       let places : length row - 1 ≡ window = omega (arith, long) in
-      λ i. record { list = read 0 (nobody i); emitted = none i; window = places i; floor = 0; last = least i; by_key = free i }
+      λ i. record { list = subscribers_read 0 (nobody i); emitted = none i; window = places i; floor = 0; last = least i; by_key = free i }

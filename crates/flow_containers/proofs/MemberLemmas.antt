@@ -5,34 +5,34 @@ use Rattle.std.proofs.lemmas.Bool.Decides.{eqb_tells}
 use Rattle.flow_law.specs.Laws.{RisesTo}
 use Rattle.flow_law.proofs.Rows.{rises_from}
 use Rattle.flow_containers.specs.declared.members.Member.{Member}
-use Rattle.flow_containers.specs.Members.{numbers, row_of, member_with, with_row, without_number, take_out}
+use Rattle.flow_containers.specs.Members.{member_numbers, row_of, member_with, with_row, without_number, take_out}
 
 module _ {R : Type 0} where
   -- ---- numbers that rise
 
-  pub rises_insert : (floor last number : ℕ) (row : R) (members : List (Member R)) → RisesTo floor (numbers members) last → last < number
-      → RisesTo floor (numbers (members ++ record { number = number; row = row } ∷ [])) number
+  pub rises_insert : (floor last number : ℕ) (row : R) (members : List (Member R)) → RisesTo floor (member_numbers members) last → last < number
+      → RisesTo floor (member_numbers (members ++ record { number = number; row = row } ∷ [])) number
   rises_insert floor last number row [] rises above = (omega (arith, rises), omega arith)
   rises_insert floor last number row (member ∷ members) rises above = (rises.0, rises_insert member.number last number row members rises.1 above)
 
-  pub rises_with_row : (floor top number : ℕ) (row : R) (members : List (Member R)) → RisesTo floor (numbers members) top → RisesTo floor (numbers (with_row number row members)) top
+  pub rises_with_row : (floor top number : ℕ) (row : R) (members : List (Member R)) → RisesTo floor (member_numbers members) top → RisesTo floor (member_numbers (with_row number row members)) top
   rises_with_row floor top number row [] rises = rises
   rises_with_row floor top number row (member ∷ members) rises =
-      elim (member.number == number) as (λ t. RisesTo floor (numbers (if t then member_with row member ∷ members else member ∷ with_row number row members)) top) [
+      elim (member.number == number) as (λ t. RisesTo floor (member_numbers (if t then member_with row member ∷ members else member ∷ with_row number row members)) top) [
         | true ↦ rises
         | false ↦ (rises.0, rises_with_row member.number top number row members rises.1)
       ]
 
-  pub rises_without : (floor top number : ℕ) (members : List (Member R)) → RisesTo floor (numbers members) top → RisesTo floor (numbers (without_number number members)) top
+  pub rises_without : (floor top number : ℕ) (members : List (Member R)) → RisesTo floor (member_numbers members) top → RisesTo floor (member_numbers (without_number number members)) top
   rises_without floor top number [] rises = rises
   rises_without floor top number (member ∷ members) rises =
-      elim (member.number == number) as (λ t. RisesTo floor (numbers (cond (not t) (member ∷ without_number number members) (without_number number members))) top) [
-        | true ↦ rises_without floor top number members (rises_from floor member.number top (numbers members) (omega (arith, rises.0)) rises.1)
+      elim (member.number == number) as (λ t. RisesTo floor (member_numbers (cond (not t) (member ∷ without_number number members) (without_number number members))) top) [
+        | true ↦ rises_without floor top number members (rises_from floor member.number top (member_numbers members) (omega (arith, rises.0)) rises.1)
         | false ↦ (rises.0, rises_without member.number top number members rises.1)
       ]
 
   -- no member has a number that is at most the floor, which is below all numbers
-  pub row_below : (floor top number : ℕ) (members : List (Member R)) → RisesTo floor (numbers members) top → number ≤ floor → row_of number members ≡ None
+  pub row_below : (floor top number : ℕ) (members : List (Member R)) → RisesTo floor (member_numbers members) top → number ≤ floor → row_of number members ≡ None
   row_below floor top number [] rises below = refl
   row_below floor top number (member ∷ members) rises below =
       elim (eqb_tells member.number number) [
@@ -41,11 +41,11 @@ module _ {R : Type 0} where
       ]
 
   -- no member has a number above the last one
-  pub row_above : (floor top number : ℕ) (members : List (Member R)) → RisesTo floor (numbers members) top → top < number → row_of number members ≡ None
+  pub row_above : (floor top number : ℕ) (members : List (Member R)) → RisesTo floor (member_numbers members) top → top < number → row_of number members ≡ None
   row_above floor top number [] rises above = refl
   row_above floor top number (member ∷ members) rises above =
       elim (eqb_tells member.number number) [
-        | inl same ↦ absurd (omega (arith, same.1, above, top_of member.number top (numbers members) rises.1))
+        | inl same ↦ absurd (omega (arith, same.1, above, top_of member.number top (member_numbers members) rises.1))
         | inr other ↦ ap (λ t. cond t (Some member.row) (row_of number members)) other.0 ∙ row_above member.number top number members rises.1 above
       ]
     where
@@ -62,7 +62,7 @@ module _ {R : Type 0} where
       ] none
 
   -- if the numbers rise, removing the first member of a number removes all of them
-  pub take_out_is : (floor top number : ℕ) (members : List (Member R)) → RisesTo floor (numbers members) top → take_out number members ≡ without_number number members
+  pub take_out_is : (floor top number : ℕ) (members : List (Member R)) → RisesTo floor (member_numbers members) top → take_out number members ≡ without_number number members
   take_out_is floor top number [] rises = refl
   take_out_is floor top number (member ∷ members) rises =
       elim (eqb_tells member.number number) [
@@ -87,7 +87,7 @@ module _ {R : Type 0} where
         | false ↦ λ rest. ap (λ l. member ∷ l) (rewritten_absent number row members rest)
       ] none
 
-  pub with_row_is : (floor top number : ℕ) (row : R) (members : List (Member R)) → RisesTo floor (numbers members) top → with_row number row members ≡ map (rewritten number row) members
+  pub with_row_is : (floor top number : ℕ) (row : R) (members : List (Member R)) → RisesTo floor (member_numbers members) top → with_row number row members ≡ map (rewritten number row) members
   with_row_is floor top number row [] rises = refl
   with_row_is floor top number row (member ∷ members) rises =
       elim (eqb_tells member.number number) [

@@ -9,7 +9,7 @@ use Rattle.slab.proofs.SlabLemmas.{Updates-with_value}
 use Rattle.flow_law.specs.Laws.{RisesTo}
 use Rattle.flow_containers.specs.declared.members.Member.{Member}
 use Rattle.flow_containers.specs.declared.members.Members.TheInside.{Inside}
-use Rattle.flow_containers.specs.Members.{numbers, row_of, member_with, with_row, without_number, take_out, seek, number_in, number_at, EntersAt, OthersStay, membership_of, IsSound}
+use Rattle.flow_containers.specs.Members.{member_numbers, row_of, member_with, with_row, without_number, take_out, seek, member_number, number_at_key, EntersAt, OthersStay, membership_of, HasSoundNumbers}
 use Rattle.flow_containers.proofs.SlotLemmas.{IsFree, seek_is, seek_number, free_here, free_new, distinct_put, distinct_gone, seek_put, seek_gone, slab_len-with_value}
 use Rattle.flow_containers.proofs.MemberLemmas.{length-with_row, length-take_out}
 use Rattle.flow_containers.proofs.FoundLemmas.{found_to-rises, row_absent, row_found, found_to-insert, found_to-gone, found_to-taken, found_to-replaced}
@@ -19,8 +19,8 @@ pub lent_alike : {N W V E : Type 0} (name : N) (f g : W → V) → ((w : W) → 
 lent_alike name f g alike = λ i. inl (name, λ w. alike w i)
 
 -- the number at a key is that of the member in its slot
-at_key : {R : Type 0} (slab : Slab (Member R)) (key : ℕ) → number_at (map number_in slab.slots) key ≡ number_in (get slab key)
-at_key slab key = get_or-map number_in slab.slots key None
+at_key : {R : Type 0} (slab : Slab (Member R)) (key : ℕ) → number_at_key (map member_number slab.slots) key ≡ member_number (get slab key)
+at_key slab key = get_or-map member_number slab.slots key None
 
 module _ {R A : Type 0} where
   abbrev pub fields : Slab (Member R) → ℕ → Inside R A
@@ -33,30 +33,30 @@ module _ {R A : Type 0} where
   has_numbers s = seek_number s.slab
 
   -- the numbers rise, up to the last
-  pub rises : (s : Inside R A) → RisesTo 0 (numbers (membership_of s).members) s.last
+  pub rises : (s : Inside R A) → RisesTo 0 (member_numbers (membership_of s).members) s.last
   rises s = found_to-rises (λ n. seek n s.slab.slots) s.last (has_numbers s)
 
-  none_past : (s : Inside R A) → IsSound s → (n : ℕ) → s.last < n → seek n s.slab.slots ≡ None
+  none_past : (s : Inside R A) → HasSoundNumbers s → (n : ℕ) → s.last < n → seek n s.slab.slots ≡ None
   none_past s sound n past = seek_is s.slab n None sound.distinct (λ k x at same. absurd (omega (arith, (sound.within k x at).1, same, past)))
 
   -- ---- one subscriber
 
-  pub row_at : (s : Inside R A) (key n : ℕ) (x : Member R) → IsSound s → get s.slab key ≡ Some x → x.number ≡ n → row_of n (membership_of s).members ≡ Some x.row
+  pub row_at : (s : Inside R A) (key n : ℕ) (x : Member R) → HasSoundNumbers s → get s.slab key ≡ Some x → x.number ≡ n → row_of n (membership_of s).members ≡ Some x.row
   row_at s key n x sound at same =
       let within = sound.within key x at in
       row_found (λ n. seek n s.slab.slots) n s.last x (has_numbers s) (omega (arith, within.0, same)) (omega (arith, within.1, same))
       (seek_is s.slab n (Some x) sound.distinct (key, at, same))
 
-  pub row_none : (s : Inside R A) (n : ℕ) → IsSound s → ((key : ℕ) (x : Member R) → get s.slab key ≡ Some x → x.number ≡ n → ⊥) → row_of n (membership_of s).members ≡ None
+  pub row_none : (s : Inside R A) (n : ℕ) → HasSoundNumbers s → ((key : ℕ) (x : Member R) → get s.slab key ≡ Some x → x.number ≡ n → ⊥) → row_of n (membership_of s).members ≡ None
   row_none s n sound none = row_absent (λ n. seek n s.slab.slots) n s.last (has_numbers s) (seek_is s.slab n None sound.distinct none)
 
   -- a greater capacity does not change the model
-  pub reserved_sound : (s : Inside R A) (new : Slab (Member R)) → IsSound s → new ≡ record s.slab { capacity = new.capacity } → IsSound (with_slab s new)
-  reserved_sound s new sound same = subst (λ slab. IsSound (with_slab s slab)) (sym same) (record { distinct = sound.distinct; within = sound.within; count = sound.count })
+  pub reserved_sound : (s : Inside R A) (new : Slab (Member R)) → HasSoundNumbers s → new ≡ record s.slab { capacity = new.capacity } → HasSoundNumbers (with_slab s new)
+  reserved_sound s new sound same = subst (λ slab. HasSoundNumbers (with_slab s slab)) (sym same) (record { distinct = sound.distinct; within = sound.within; count = sound.count })
 
   -- ---- one more
 
-  module _ (s : Inside R A) (new : Slab (Member R)) (key number : ℕ) (row : R) (sound : IsSound s) (above : s.last < number) (vacant : get s.slab key ≡ None)
+  module _ (s : Inside R A) (new : Slab (Member R)) (key number : ℕ) (row : R) (sound : HasSoundNumbers s) (above : s.last < number) (vacant : get s.slab key ≡ None)
       (put : Updates s.slab new key (Some (record { number = number; row = row }))) where
     new_is_free : IsFree s.slab key number
     new_is_free = free_new s.slab key number vacant (λ k y at same. absurd (omega (arith, (sound.within k y at).1, same, above)))
@@ -69,12 +69,12 @@ module _ {R A : Type 0} where
     -- the new subscriber's key
     pub entered : EntersAt number key (membership_of s).by_key (membership_of (fields new number)).by_key
     entered = (
-      at_key s.slab key ∙ ap number_in vacant,
-      at_key new key ∙ ap number_in put.changed,
-      λ other differs. at_key new other ∙ ap number_in (put.others other differs) ∙ sym (at_key s.slab other),
+      at_key s.slab key ∙ ap member_number vacant,
+      at_key new key ∙ ap member_number put.changed,
+      λ other differs. at_key new other ∙ ap member_number (put.others other differs) ∙ sym (at_key s.slab other),
     )
 
-    pub inserted_sound : slab_len new ≡ slab_len s.slab + 1 → IsSound (fields new number)
+    pub inserted_sound : slab_len new ≡ slab_len s.slab + 1 → HasSoundNumbers (fields new number)
     inserted_sound longer = record {
       distinct = distinct_put s.slab new key (record { number = number; row = row }) sound.distinct new_is_free put;
       within = bounded;
@@ -97,7 +97,7 @@ module _ {R A : Type 0} where
 
   -- ---- one changed
 
-  module _ (s : Inside R A) (key : ℕ) (x : Member R) (row : R) (sound : IsSound s) (at : get s.slab key ≡ Some x) where
+  module _ (s : Inside R A) (key : ℕ) (x : Member R) (row : R) (sound : HasSoundNumbers s) (at : get s.slab key ≡ Some x) where
     written : Updates s.slab (with_value s.slab key (member_with row x)) key (Some (member_with row x))
     written = Updates-with_value s.slab key (member_with row x) (ap is_some at)
 
@@ -107,7 +107,7 @@ module _ {R A : Type 0} where
         (seek_is s.slab x.number (Some x) sound.distinct (key, at, refl))
         (seek_put s.slab (with_value s.slab key (member_with row x)) key (member_with row x) sound.distinct (free_here s.slab key x sound.distinct at) written)
 
-    pub replaced_sound : IsSound (with_slab s (with_value s.slab key (member_with row x)))
+    pub replaced_sound : HasSoundNumbers (with_slab s (with_value s.slab key (member_with row x)))
     replaced_sound = record {
       distinct = distinct_put s.slab _ key (member_with row x) sound.distinct (free_here s.slab key x sound.distinct at) written;
       within = bounded;
@@ -127,8 +127,8 @@ module _ {R A : Type 0} where
               | inr differs ↦ sound.within k y (sym (written.others k differs) ∙ there)
             ]
 
-    same_keys : map number_in (with_value s.slab key (member_with row x)).slots ≡ map number_in s.slab.slots
-    same_keys = map-set_same number_in s.slab.slots key (Some (member_with row x)) None (sym (ap number_in at))
+    same_keys : map member_number (with_value s.slab key (member_with row x)).slots ≡ map member_number s.slab.slots
+    same_keys = map-set_same member_number s.slab.slots key (Some (member_with row x)) None (sym (ap member_number at))
 
     -- the number as the caller has it
     pub rewritten_membership : (number : ℕ) → x.number ≡ number → membership_of (with_slab s (with_value s.slab key (member_with row x))) ≡ record (membership_of s) { members = with_row number row (membership_of s).members }
@@ -138,7 +138,7 @@ module _ {R A : Type 0} where
 
   -- ---- one less
 
-  module _ (s : Inside R A) (new : Slab (Member R)) (key : ℕ) (x : Member R) (sound : IsSound s) (at : get s.slab key ≡ Some x) (gone : Updates s.slab new key None) where
+  module _ (s : Inside R A) (new : Slab (Member R)) (key : ℕ) (x : Member R) (sound : HasSoundNumbers s) (at : get s.slab key ≡ Some x) (gone : Updates s.slab new key None) where
     pub removed : (membership_of (with_slab s new)).members ≡ without_number x.number (membership_of s).members
     removed =
         found_to-gone (λ n. seek n s.slab.slots) (λ n. seek n new.slots) x.number s.last (has_numbers s) (seek_gone s.slab new key x sound.distinct at gone)
@@ -150,11 +150,11 @@ module _ {R A : Type 0} where
     pub others_stay : (number : ℕ) → x.number ≡ number → OthersStay number (membership_of s).by_key (membership_of (with_slab s new)).by_key
     others_stay number same k other =
         elim (cases_eq k key) [
-          | inl is ↦ absurd (other (at_key s.slab k ∙ ap (λ j. number_in (get s.slab j)) is ∙ ap number_in at ∙ ap Some same))
-          | inr differs ↦ at_key new k ∙ ap number_in (gone.others k differs) ∙ sym (at_key s.slab k)
+          | inl is ↦ absurd (other (at_key s.slab k ∙ ap (λ j. member_number (get s.slab j)) is ∙ ap member_number at ∙ ap Some same))
+          | inr differs ↦ at_key new k ∙ ap member_number (gone.others k differs) ∙ sym (at_key s.slab k)
         ]
 
-    pub removed_sound : slab_len new + 1 ≡ slab_len s.slab → IsSound (with_slab s new)
+    pub removed_sound : slab_len new + 1 ≡ slab_len s.slab → HasSoundNumbers (with_slab s new)
     removed_sound shorter =
         let fewer : length (take_out x.number (membership_of s).members) + 1 ≡ length (membership_of s).members = length-take_out x.number x.row (membership_of s).members (row_at s key x.number x sound at refl) in
         let listed : length (membership_of (with_slab s new)).members ≡ length (take_out x.number (membership_of s).members) = ap length taken_out in

@@ -9,9 +9,9 @@ use Rattle.flow_containers.specs.declared.members.Member.{Member}
 use Rattle.flow_containers.specs.declared.members.enroll.Row.{Row}
 use Rattle.flow_containers.specs.declared.subscribers.Subscribers.TheInside.{Inside}
 use Rattle.flow_containers.specs.Members.{row_of, with_row}
-use Rattle.flow_containers.specs.Rows.{moved, left}
-use Rattle.flow_containers.specs.PositionCounts.{entered, left_at}
-use Rattle.flow_containers.specs.Subscribers.{Standing, standing_of, read, AreSound, IsSound}
+use Rattle.flow_containers.specs.Rows.{moved, with_own_left}
+use Rattle.flow_containers.specs.PositionCounts.{one_more_at, one_less_at}
+use Rattle.flow_containers.specs.Subscribers.{Standing, standing_of, subscribers_read, AreSound, RowsAgree}
 use Rattle.flow_containers.specs.Receiving.{was_last_at}
 use Rattle.flow_containers.proofs.CountLemmas.{others_at}
 use Rattle.flow_containers.proofs.MemberLemmas.{with_row_same}
@@ -57,7 +57,7 @@ module _ {T A : Type 0} (s : Inside T A) (number : ℕ) where
     )
 
     -- the row of counts covers this position, counts the subscriber there, and has room to count it elsewhere
-    module _ (sound : IsSound s) where
+    module _ (sound : RowsAgree s) where
       pub near_here : (position_in row ≤ s.counts.emitted) × (s.counts.emitted < position_in row + length s.counts.row)
       near_here = found_near s.counts.row s.counts.emitted s.floor s.members.last s.members.members sound number (position_in row) stands_at
 
@@ -65,27 +65,27 @@ module _ {T A : Type 0} (s : Inside T A) (number : ℕ) where
       some_here at is = subst (λ p. 0 < get_or s.counts.row (p % length s.counts.row) 0) (sym is)
           (leave_some s.counts.row s.counts.emitted s.floor s.members.last s.members.members sound number (position_in row) stands_at)
 
-      pub room_here : (q : ℕ) → get_or (left_at s.counts.row (position_in row)) (q % length (left_at s.counts.row (position_in row))) 0 + 1 < 2 ^ 64
+      pub room_here : (q : ℕ) → get_or (one_less_at s.counts.row (position_in row)) (q % length (one_less_at s.counts.row (position_in row))) 0 + 1 < 2 ^ 64
       room_here q = enter_again s.counts.row s.counts.emitted s.floor s.members.last s.members.members sound number (position_in row) stands_at q
 
     -- the row does not change
     pub untouched : putting row ≡ s
     untouched = ap (λ (members : List (Member (Row T A))). record s { members = record s.members { members = members } }) (with_row_same number row s.members.members found)
 
-    pub untouched_sound : IsSound s → IsSound (putting row)
-    untouched_sound sound = subst IsSound (sym untouched) sound
+    pub untouched_sound : RowsAgree s → RowsAgree (putting row)
+    untouched_sound sound = subst RowsAgree (sym untouched) sound
 
     pub own_left : own_of number (standing_of s).list ≡ row.own
     own_left = own_of-row s.floor number row s.members.members found
 
-    pub takes : (own : List T) → standing_of (putting (left own row)) ≡ record (standing_of s) { list = with_own number own (standing_of s).list }
+    pub takes : (own : List T) → standing_of (putting (with_own_left own row)) ≡ record (standing_of s) { list = with_own number own (standing_of s).list }
     takes own = ap (λ l. record (standing_of s) { list = l }) (with_own-row s.floor number own row s.members.members found)
 
-    pub takes_sound : (own : List T) → IsSound s → IsSound (putting (left own row))
+    pub takes_sound : (own : List T) → RowsAgree s → RowsAgree (putting (with_own_left own row))
     takes_sound own sound = took_own s.counts.row s.counts.emitted s.floor s.members.last s.members.members sound number own row found
 
     -- whether it was the last one at the first position that is held, by its count
-    pub was_last : IsSound s → position_in row < s.counts.emitted → (at first others : ℕ) (list : List (Subscriber T)) → at ≡ position_in row
+    pub was_last : RowsAgree s → position_in row < s.counts.emitted → (at first others : ℕ) (list : List (Subscriber T)) → at ≡ position_in row
         → others ≡ get_or s.counts.row (at % length s.counts.row) 0 - 1 → list ≡ move_to number (position_in row + 1) (standing_of s).list
         → ((at == first) && (others == 0)) ≡ was_last_at first (position_in row) list
     was_last sound more at first others list here count is =
@@ -108,17 +108,17 @@ module _ {T A : Type 0} (s : Inside T A) (number : ℕ) where
       kept : own ≡ row.own
       kept = taken.1 ∙ sym taken.0
 
-      same : putting (left own row) ≡ s
-      same = ap (λ o. putting (left o row)) kept ∙ untouched
+      same : putting (with_own_left own row) ≡ s
+      same = ap (λ o. putting (with_own_left o row)) kept ∙ untouched
 
-      pub stays : standing_of (putting (left own row)) ≡ standing_of s
+      pub stays : standing_of (putting (with_own_left own row)) ≡ standing_of s
       stays = ap standing_of same
 
-      pub stays_sound : IsSound s → IsSound (putting (left own row))
-      stays_sound sound = subst IsSound (sym same) sound
+      pub stays_sound : RowsAgree s → RowsAgree (putting (with_own_left own row))
+      stays_sound sound = subst RowsAgree (sym same) sound
 
       -- the subscriber moves on by `count`
-      module _ (sound : IsSound s) (count : ℕ) (more : position_in row + count ≤ s.counts.emitted) (next : ℕ) (is : next ≡ position_in row + count) where
+      module _ (sound : RowsAgree s) (count : ℕ) (more : position_in row + count ≤ s.counts.emitted) (next : ℕ) (is : next ≡ position_in row + count) where
         abbrev pub going : Row T A
         going = record { own = own; position = next }
 
@@ -135,13 +135,13 @@ module _ {T A : Type 0} (s : Inside T A) (number : ℕ) where
             → standing_of (gone counts) ≡ record (standing_of s) { list = move_to number (position_in row + count) (standing_of s).list }
         goes counts long =
             let above : s.floor ≤ position_in row + count = omega arith in
-            let list : read s.floor (with_row number going s.members.members) ≡ move_to number (position_in row + count) (standing_of s).list =
-            ap (λ r. read s.floor (with_row number r s.members.members)) moves ∙ move_to-row s.floor number (position_in row + count) row s.members.members above found in
+            let list : subscribers_read s.floor (with_row number going s.members.members) ≡ move_to number (position_in row + count) (standing_of s).list =
+            ap (λ r. subscribers_read s.floor (with_row number r s.members.members)) moves ∙ move_to-row s.floor number (position_in row + count) row s.members.members above found in
             ap (λ l. record (standing_of s) { list = l; window = length counts - 1 }) list
             ∙ ap (λ k. record (standing_of s) { list = move_to number (position_in row + count) (standing_of s).list; window = k - 1 }) long
 
-        pub goes_sound : IsSound (gone (entered (left_at s.counts.row (position_in row)) (position_in row + count)))
+        pub goes_sound : RowsAgree (gone (one_more_at (one_less_at s.counts.row (position_in row)) (position_in row + count)))
         goes_sound =
-            let row_after = entered (left_at s.counts.row (position_in row)) (position_in row + count) in
+            let row_after = one_more_at (one_less_at s.counts.row (position_in row)) (position_in row + count) in
             subst (λ r. AreSound (length row_after - 1) row_after s.counts.emitted s.floor (with_row number r s.members.members) s.members.last) (sym moves)
             (advanced s.counts.row s.counts.emitted s.floor s.members.last s.members.members sound number (position_in row) stands_at (position_in row + count) row found (omega arith) more)

@@ -8,7 +8,7 @@ use Rattle.std.proofs.lemmas.List.{map-append}
 use Rattle.flow_law.specs.declared.states.Subscriber.{Subscriber}
 use Rattle.flow_law.specs.declared.states.StateSubscriber.{StateSubscriber}
 use Rattle.flow_law.specs.SharedFlow.{position_of, stand_at, move_to, own_of, leave_own, with_own, without}
-use Rattle.flow_law.specs.StateFlow.{last_of, with_last, without_subscriber}
+use Rattle.flow_law.specs.StateFlow.{last_got_by, with_last, without_subscriber}
 use Rattle.flow_containers.specs.declared.members.Member.{Member}
 use Rattle.flow_containers.specs.Members.{row_of, member_with, with_row, without_number}
 
@@ -107,9 +107,9 @@ module _ {R T : Type 0} (f : Member R → StateSubscriber T) (same : (member : M
   abbrev pub state_subscriber_with : R → StateSubscriber T
   state_subscriber_with row = f (record { number = number; row = row })
 
-  pub last_of-row : (members : List (Member R)) → last_of number (map f members) ≡ option_map (λ row. (state_subscriber_with row).last) (row_of number members)
+  pub last_of-row : (members : List (Member R)) → last_got_by number (map f members) ≡ option_map (λ row. (state_subscriber_with row).last) (row_of number members)
   last_of-row members =
-      looked_up f (λ u. u.number) same number (last_of number) (λ u. Some u.last) None refl (λ u us. refl) members
+      looked_up f (λ u. u.number) same number (last_got_by number) (λ u. Some u.last) None refl (λ u us. refl) members
       ∙ mapped_some (λ row. (state_subscriber_with row).last) (row_of number members)
 
   pub with_last-row : (value : T) (old new : R) → state_subscriber_with new ≡ record (state_subscriber_with old) { last = Some value } → (members : List (Member R)) → row_of number members ≡ Some old

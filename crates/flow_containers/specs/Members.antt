@@ -16,23 +16,23 @@ pub record Membership (R : Type 0) : Type 0 where
   pub by_key : List (Option ℕ)
 
 -- the number of the subscriber at a key
-abbrev pub number_at : List (Option ℕ) → ℕ → Option ℕ
-number_at by_key key = slice_index_or by_key key None
+abbrev pub number_at_key : List (Option ℕ) → ℕ → Option ℕ
+number_at_key by_key key = slice_index_or by_key key None
 
 -- the new subscriber gets this key, which was free; every other subscriber keeps its key
 abbrev pub EntersAt : ℕ → ℕ → List (Option ℕ) → List (Option ℕ) → Type 0
 EntersAt number key old new =
-    (number_at old key ≡ None) × (number_at new key ≡ Some number)
-    × ((other : ℕ) → other ≢ key → number_at new other ≡ number_at old other)
+    (number_at_key old key ≡ None) × (number_at_key new key ≡ Some number)
+    × ((other : ℕ) → other ≢ key → number_at_key new other ≡ number_at_key old other)
 
 -- every other subscriber keeps its key
 abbrev pub OthersStay : ℕ → List (Option ℕ) → List (Option ℕ) → Type 0
-OthersStay number old new = (key : ℕ) → number_at old key ≢ Some number → number_at new key ≡ number_at old key
+OthersStay number old new = (key : ℕ) → number_at_key old key ≢ Some number → number_at_key new key ≡ number_at_key old key
 
 module _ {R : Type 0} where
   -- the numbers of the members
-  abbrev pub numbers : List (Member R) → List ℕ
-  numbers = map (λ member. member.number)
+  abbrev pub member_numbers : List (Member R) → List ℕ
+  member_numbers = map (λ member. member.number)
 
   -- what is kept about the subscriber of this number, or `None`
   abbrev pub row_of : ℕ → List (Member R) → Option R
@@ -76,15 +76,15 @@ module _ {R : Type 0} where
   found_to find (suc n) = found_to find n ++ listed (find (suc n))
 
   -- the number of the member of a slot
-  abbrev pub number_in : Option (Member R) → Option ℕ
-  number_in = option_map (λ member. member.number)
+  abbrev pub member_number : Option (Member R) → Option ℕ
+  member_number = option_map (λ member. member.number)
 
   -- the members in the order of their numbers, and which key each has
   abbrev pub membership_of : {A : Type 0} → Inside R A → Membership R
-  membership_of s = record { members = found_to (λ number. seek number s.slab.slots) s.last; last = s.last; by_key = map number_in s.slab.slots }
+  membership_of s = record { members = found_to (λ number. seek number s.slab.slots) s.last; last = s.last; by_key = map member_number s.slab.slots }
 
   -- no two keys have the same number, and no number is 0 or above the last one
-  pub record IsSound {A : Type 0} (s : Inside R A) : Type 0 where
+  pub record HasSoundNumbers {A : Type 0} (s : Inside R A) : Type 0 where
     pub distinct : (a b : ℕ) (x y : Member R) → get s.slab a ≡ Some x → get s.slab b ≡ Some y → x.number ≡ y.number → a ≡ b
     pub within : (key : ℕ) (member : Member R) → get s.slab key ≡ Some member → (0 < member.number) × (member.number ≤ s.last)
     pub count : slab_len s.slab ≡ length (membership_of s).members

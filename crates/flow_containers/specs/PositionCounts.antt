@@ -25,12 +25,12 @@ pub record IsLeast (row : List ℕ) (start first least : ℕ) : Type 0 where
   pub here : least < first → 0 < get_or row (least % length row) 0
 
 -- the row with one more subscriber at position p
-abbrev pub entered : List ℕ → ℕ → List ℕ
-entered row p = set row (p % length row) (get_or row (p % length row) 0 + 1)
+abbrev pub one_more_at : List ℕ → ℕ → List ℕ
+one_more_at row p = set row (p % length row) (get_or row (p % length row) 0 + 1)
 
 -- the row with one subscriber less at position p
-abbrev pub left_at : List ℕ → ℕ → List ℕ
-left_at row p = set row (p % length row) (get_or row (p % length row) 0 - 1)
+abbrev pub one_less_at : List ℕ → ℕ → List ℕ
+one_less_at row p = set row (p % length row) (get_or row (p % length row) 0 - 1)
 
 module _ {T : Type 0} where
   -- every position is one of the last w + 1
@@ -50,6 +50,6 @@ module _ {T : Type 0} where
     pub window : AreWithin w emitted us
 
   -- the subscribers without the first one of this number
-  abbrev pub take_out : ℕ → List (Subscriber T) → List (Subscriber T)
-  take_out number [] = []
-  take_out number (u ∷ us) = if u.number == number then us else u ∷ take_out number us
+  abbrev pub take_subscriber_out : ℕ → List (Subscriber T) → List (Subscriber T)
+  take_subscriber_out number [] = []
+  take_subscriber_out number (u ∷ us) = if u.number == number then us else u ∷ take_subscriber_out number us

@@ -21,15 +21,15 @@ module _ {T : Type 0} where
   was_last_at first position us = (position == first) && not (list_any (λ u. u.position == position) us)
 
   -- a subscriber receives its first own value, or else the value at its position, which it then passes; a refused copy changes nothing
-  abbrev pub Receives : ℕ → List T → Standing T → Result (Received T) FlowFault → Standing T → Type 0
-  Receives number kept old (Ok Gone) new = (own_of number old.list ≡ []) × (position_of number old.list ≡ None) × (new ≡ old)
-  Receives number kept old (Ok (Own value)) new =
+  abbrev pub SubscriberReceives : ℕ → List T → Standing T → Result (Received T) FlowFault → Standing T → Type 0
+  SubscriberReceives number kept old (Ok Gone) new = (own_of number old.list ≡ []) × (position_of number old.list ≡ None) × (new ≡ old)
+  SubscriberReceives number kept old (Ok (Own value)) new =
       (own : List T) × (own_of number old.list ≡ value ∷ own) × (new ≡ record old { list = with_own number own old.list })
-  Receives number kept old (Ok Empty) new = (position : ℕ) × StandsAt number kept old position None × (new ≡ old)
-  Receives number kept old (Ok (Emitted value was_last)) new =
+  SubscriberReceives number kept old (Ok Empty) new = (position : ℕ) × StandsAt number kept old position None × (new ≡ old)
+  SubscriberReceives number kept old (Ok (Emitted value was_last)) new =
       (position : ℕ) × StandsAt number kept old position (Some value) × (new ≡ record old { list = move_to number (position + 1) old.list })
       × (was_last ≡ was_last_at (old.emitted - length kept) position new.list)
-  Receives number kept old (Err fault) new =
+  SubscriberReceives number kept old (Err fault) new =
       (position : ℕ) × (value : T) × StandsAt number kept old position (Some value) × (fault ≡ OutOfMemory) × (new ≡ old)
 
   -- a subscriber without own values takes `count` values into the list, in order from its position, and passes them

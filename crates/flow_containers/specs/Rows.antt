@@ -8,5 +8,5 @@ module _ {T A : Type 0} where
   moved position row = record row { position = position }
 
   -- the subscriber with these own values left
-  abbrev pub left : List T → Row T A → Row T A
-  left own row = record row { own = own }
+  abbrev pub with_own_left : List T → Row T A → Row T A
+  with_own_left own row = record row { own = own }

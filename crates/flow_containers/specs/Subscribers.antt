@@ -32,13 +32,13 @@ module _ {T A : Type 0} where
   subscriber_of floor member = record { number = member.number; own = member.row.own; position = max member.row.position floor }
 
   -- the subscribers as the definitions have them, none below the floor
-  abbrev pub read : ℕ → List (Member (Row T A)) → List (Subscriber T)
-  read floor = map (subscriber_of floor)
+  abbrev pub subscribers_read : ℕ → List (Member (Row T A)) → List (Subscriber T)
+  subscribers_read floor = map (subscriber_of floor)
 
   -- what the subscribers stand for
   abbrev pub standing_of : Inside T A → Standing T
   standing_of s = record {
-    list = read s.floor s.members.members;
+    list = subscribers_read s.floor s.members.members;
     emitted = s.counts.emitted;
     window = length s.counts.row - 1;
     floor = s.floor;
@@ -49,11 +49,11 @@ module _ {T A : Type 0} where
   pub record AreSound (window : ℕ) (row : List ℕ) (emitted lowest : ℕ) (members : List (Member (Row T A))) (greatest : ℕ) : Type 0 where
     pub some : 0 < window
     -- the row counts the subscribers, and no lag is greater than the window
-    pub fits : CountsPositions window emitted row (read lowest members)
+    pub fits : CountsPositions window emitted row (subscribers_read lowest members)
     pub floor : lowest ≤ emitted + 1 - window
     pub count : length members ≤ greatest
     pub last : greatest < 2 ^ 64
 
   -- the rows and the counts agree
-  abbrev pub IsSound : Inside T A → Type 0
-  IsSound s = AreSound (length s.counts.row - 1) s.counts.row s.counts.emitted s.floor s.members.members s.members.last
+  abbrev pub RowsAgree : Inside T A → Type 0
+  RowsAgree s = AreSound (length s.counts.row - 1) s.counts.row s.counts.emitted s.floor s.members.members s.members.last

@@ -7,7 +7,7 @@ ghost use Rattle.std.specs.Option.{option_copied_mut};
 ghost use Rattle.std.specs.Borrow.{sem};
 ghost use Rattle.slab.specs.Slab.{get};
 ghost use Rattle.flow_law.specs.Laws.{RisesTo};
-ghost use Rattle.flow_containers.specs.Members.{numbers, row_of, with_row, without_number, take_out, EntersAt, OthersStay};
+ghost use Rattle.flow_containers.specs.Members.{member_numbers, row_of, with_row, without_number, take_out, EntersAt, OthersStay};
 
 mod enroll;
 
@@ -33,13 +33,13 @@ pub struct Members<R: Drop, A: Allocator> {
 }
 
 impl<R: Drop, A: Allocator> Model for Members<R, A> {
-    ghost use Rattle.flow_containers.specs.Members.{Membership, membership_of, IsSound};
+    ghost use Rattle.flow_containers.specs.Members.{Membership, membership_of, HasSoundNumbers};
 
     ghost Value = { Membership R };
 
     ghost view = { membership_of };
 
-    ghost invariant = { IsSound };
+    ghost invariant = { HasSoundNumbers };
 }
 
 /// Returns the key of the subscriber of this number. Looks at the hint first, then at every entry.
@@ -85,7 +85,7 @@ impl<R: Drop, A: Allocator> Members<R, A> {
     pub fn len(&self) -> usize
         ensures value { result ≡ length self.now.members }
         // This holds for every list: a caller learns here that all numbers differ.
-        ensures rising { RisesTo 0 (numbers self.now.members) self.now.last }
+        ensures rising { RisesTo 0 (member_numbers self.now.members) self.now.last }
     {
         self.slab.len()
     }

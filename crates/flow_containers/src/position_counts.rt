@@ -1,6 +1,6 @@
 //! The number of subscribers at each position. One of these counts shows whether a subscriber is a whole window behind.
 ghost use Rattle.std.specs.Prelude.{◌≡◌, ℕ, ◌+◌, ◌-◌, ◌<◌, ◌≤◌, ◌%◌, ◌^◌, length, get_or, set, replicate, IfOk};
-ghost use Rattle.flow_containers.specs.PositionCounts.{IsLeast, entered, left_at};
+ghost use Rattle.flow_containers.specs.PositionCounts.{IsLeast, one_more_at, one_less_at};
 
 use std::alloc::{AllocError, Allocator};
 use std::marker::Model;
@@ -136,7 +136,7 @@ impl<A: Allocator> PositionCounts<A> {
         requires past { position ≤ self.old.emitted }
         requires near { self.old.emitted < position + length self.old.row }
         requires room { get_or self.old.row (position % length self.old.row) 0 + 1 < 2 ^ 64 }
-        ensures row { self.new.row ≡ entered self.old.row position }
+        ensures row { self.new.row ≡ one_more_at self.old.row position }
         ensures emitted { self.new.emitted ≡ self.old.emitted }
     {
         let place = self.place_of(position);
@@ -148,7 +148,7 @@ impl<A: Allocator> PositionCounts<A> {
         requires past { position ≤ self.old.emitted }
         requires near { self.old.emitted < position + length self.old.row }
         requires some { 0 < get_or self.old.row (position % length self.old.row) 0 }
-        ensures row { self.new.row ≡ left_at self.old.row position }
+        ensures row { self.new.row ≡ one_less_at self.old.row position }
         ensures emitted { self.new.emitted ≡ self.old.emitted }
     {
         let place = self.place_of(position);
@@ -162,10 +162,10 @@ impl<A: Allocator> PositionCounts<A> {
         requires past { position < self.old.emitted }
         requires near { self.old.emitted < position + length self.old.row }
         requires some { 0 < get_or self.old.row (position % length self.old.row) 0 }
-        requires room { get_or (left_at self.old.row position)
-            ((position + 1) % length (left_at self.old.row position)) 0 + 1 < 2 ^ 64 }
+        requires room { get_or (one_less_at self.old.row position)
+            ((position + 1) % length (one_less_at self.old.row position)) 0 + 1 < 2 ^ 64 }
         ensures others { result ≡ get_or self.old.row (position % length self.old.row) 0 - 1 }
-        ensures row { self.new.row ≡ entered (left_at self.old.row position) (position + 1) }
+        ensures row { self.new.row ≡ one_more_at (one_less_at self.old.row position) (position + 1) }
         ensures emitted { self.new.emitted ≡ self.old.emitted }
     {
         let place = self.place_of(position);

@@ -2,7 +2,7 @@
 ghost use Rattle.std.specs.Prelude.{◌≡◌, ◌-◌, ◌<◌, ◌==◌, ◌∷◌, ◌++◌, [], length, map, filter, not, MatchOption, MatchResult};
 ghost use Rattle.std.specs.List.{list_any};
 ghost use Rattle.flow_law.specs.Laws.{RisesTo};
-ghost use Rattle.flow_law.specs.Sleeping.{first_of};
+ghost use Rattle.flow_law.specs.Sleeping.{first_queued};
 ghost use Rattle.flow_containers.specs.Queue.{numbered_of, IsPlace};
 
 use std::alloc::{AllocError, Allocator};
@@ -28,7 +28,7 @@ impl<T: Drop, A: Allocator> Model for Queue<T, A> {
 
     ghost Value = { List (Numbered T) };
 
-    ghost use Rattle.flow_law.specs.Sleeping.{first_of};
+    ghost use Rattle.flow_law.specs.Sleeping.{first_queued};
     ghost use Rattle.flow_containers.specs.Queue.{queue_of, Rises};
 
     ghost view = { queue_of };
@@ -79,7 +79,7 @@ impl<T: Drop, A: Allocator> Queue<T, A> {
 
     /// Returns the number of the first value.
     pub fn first(&self) -> Option<u64>
-        ensures { result ≡ first_of self.now }
+        ensures { result ≡ first_queued self.now }
     {
         match self.items.front() {
             Some(queued) => Some(queued.number),

@@ -27,13 +27,13 @@ pub struct Subscribers<T: Drop, A: Allocator> {
 }
 
 impl<T: Drop, A: Allocator> Model for Subscribers<T, A> {
-    ghost use Rattle.flow_containers.specs.Subscribers.{Standing, standing_of, IsSound};
+    ghost use Rattle.flow_containers.specs.Subscribers.{Standing, standing_of, RowsAgree};
 
     ghost Value = { Standing T };
 
     ghost view = { standing_of };
 
-    ghost invariant = { λ s. IsSound s };
+    ghost invariant = { λ s. RowsAgree s };
 }
 
 impl<T: Drop, A: Allocator> Subscribers<T, A> {

@@ -9,7 +9,7 @@ use Rattle.flow_law.specs.declared.call.SharedReply.{SharedReply}
 use Rattle.flow_law.specs.declared.call.SharedReply.TheVariants as reply
 use Rattle.flow_law.specs.declared.outcome.Next.TheVariants.{Value, Empty, Gone}
 use Rattle.flow_law.specs.declared.states.SharedFlowState.{SharedFlowState}
-use Rattle.flow_law.specs.SharedFlow.{Answer, answer, issuing, is_exhausted, is_blocked, capacity, window, lag, values, position_of, own_of}
+use Rattle.flow_law.specs.SharedFlow.{Replied, answer, issuing, is_exhausted, is_blocked, capacity, window, lag, values, position_of, own_of}
 use Rattle.flow_law.specs.EmitRule.{EmitCase, appends, offers, when_blocked, emit_case, emit, emit_in, try_emit, try_emit_in}
 use Rattle.flow_law.specs.SharedStep.{settle, advance, keep_own, read, next_from, next}
 use Rattle.flow_law.specs.SharedHistory.{reply_by, hands_out, is_refused, Replies}
@@ -23,7 +23,7 @@ module _ {T : Type 0} where
   pub not_exhausted : (core : Core T) (s : SharedFlowState T) → Covers core s → (core.issued ≡ core.config.limit → ⊥) → is_exhausted s ≡ false
   not_exhausted core s stands left = unequal s.issued s.config.limit (λ e. left (stands.issued ∙ e ∙ sym (ap (λ c. c.limit) stands.config)))
 
-  pub issued_now : {R : Type 0} (s : SharedFlowState T) (a : Answer R T) → is_exhausted s ≡ false → issuing s a ≡ a
+  pub issued_now : {R : Type 0} (s : SharedFlowState T) (a : Replied R T) → is_exhausted s ≡ false → issuing s a ≡ a
   issued_now s a left = ap (λ t. cond t (record { reply = Err Exhausted; after = s }) a) left
 
   -- which case an emission is in
@@ -50,13 +50,13 @@ module _ {T : Type 0} where
   tries_in v s k e = ap (λ c. try_emit_in c v s) e
 
   -- a call that took the next number, and one that is refused because no number is left
-  pub took_number : {R : Type 0} (said : R → SharedReply T) (core after : Core T) (s t : SharedFlowState T) (a : Answer R T) (r : R) → Covers core s → (core.issued ≡ core.config.limit → ⊥)
+  pub took_number : {R : Type 0} (said : R → SharedReply T) (core after : Core T) (s t : SharedFlowState T) (a : Replied R T) (r : R) → Covers core s → (core.issued ≡ core.config.limit → ⊥)
       → a ≡ issuing s (answer r t) → StandsFor after t → (said r ≡ reply_by said a.reply) × StandsFor after a.after
   took_number said core after s t a r stands left is there =
       let all : a ≡ answer r t = is ∙ issued_now s (answer r t) (not_exhausted core s stands left) in
       (sym (ap (λ b. reply_by said b.reply) all), subst (StandsFor after) (sym (ap (λ b. b.after) all)) there)
 
-  pub refused_number : {R : Type 0} (said : R → SharedReply T) (core : Core T) (s : SharedFlowState T) (a b : Answer R T) → Covers core s → core.issued ≡ core.config.limit
+  pub refused_number : {R : Type 0} (said : R → SharedReply T) (core : Core T) (s : SharedFlowState T) (a b : Replied R T) → Covers core s → core.issued ≡ core.config.limit
       → a ≡ issuing s b → reply.Refused Exhausted ≡ reply_by said a.reply
   refused_number said core s a b stands none is =
       let exhausted : is_exhausted s ≡ true = equal s.issued s.config.limit (sym stands.issued ∙ none ∙ ap (λ c. c.limit) stands.config) in

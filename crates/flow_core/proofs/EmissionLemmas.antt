@@ -14,7 +14,7 @@ use Rattle.flow_law.specs.Covering.{Covers, kept_start, kept_need}
 use Rattle.flow_law.proofs.CoveringLemmas.{covers-longer, covers-subscribers, least_position-raise_to, least_position_bound, least_position_rises, needed_within}
 use Rattle.flow_law.proofs.HoldingLemmas.{covers, covers-last, need_is, held_is, held_from, tidy}
 use Rattle.flow_containers.specs.Subscribers.{is_full}
-use Rattle.flow_core.specs.SharedCore.{window_of, fields_of, AreWithin, IsSound, kept_full, pushed, dropped}
+use Rattle.flow_core.specs.SharedCore.{window_of, fields_of, AreInWindow, IsSound, kept_full, pushed, dropped}
 use Rattle.flow_core.specs.declared.shared.SharedCore.TheInside.{Inside}
 use Rattle.flow_core.proofs.RingLemmas.{within-more, within-raised, full_long, offered_full}
 use Rattle.flow_core.proofs.SoundLemmas.{length-keep_last, next_start, window_more}
@@ -28,7 +28,7 @@ module _ {T : Type 0} where
       ∙ ap (λ c. is_full (window_of c) core.appended s.subscribers) stands.config
       ∙ ap (λ n. is_full (window s) n s.subscribers) stands.appended
 
-  pub offering_is : (core : Core T) (s : SharedFlowState T) (floor : ℕ) → Covers core s → AreWithin floor core.appended (window_of core.config) core.subscribers
+  pub offering_is : (core : Core T) (s : SharedFlowState T) (floor : ℕ) → Covers core s → AreInWindow floor core.appended (window_of core.config) core.subscribers
       → ((core.config.replay + core.config.extra == 0) && kept_full core) ≡ is_offering s
   offering_is core s floor stands within =
       same

@@ -16,7 +16,7 @@ use Rattle.flow_law.proofs.CoveringLemmas.{slice_get-drop, least_position_offere
 use Rattle.flow_law.proofs.Rows.{every_snoc, every_filter, every_move, every_with_own, position_holds}
 use Rattle.flow_containers.specs.Subscribers.{is_full}
 use Rattle.flow_containers.specs.Receiving.{was_last_at}
-use Rattle.flow_core.specs.SharedCore.{AreWithin}
+use Rattle.flow_core.specs.SharedCore.{AreInWindow}
 
 -- ---- lists
 
@@ -67,16 +67,16 @@ more_to_copy from place xs v le at none =
 
 module _ {T : Type 0} where
   -- no subscriber needs a value before the window
-  pub within_least : (floor n w b : ℕ) (us : List (Subscriber T)) → AreWithin floor n w us → n ≤ b + w → n ≤ least_position b us + w
+  pub within_least : (floor n w b : ℕ) (us : List (Subscriber T)) → AreInWindow floor n w us → n ≤ b + w → n ≤ least_position b us + w
   within_least floor n w b [] h le = le
   within_least floor n w b (u ∷ us) h le = omega (arith, h.0.2, within_least floor n w b us h.1 le)
 
-  pub floor_least : (floor n w b : ℕ) (us : List (Subscriber T)) → AreWithin floor n w us → floor ≤ b → floor ≤ least_position b us
+  pub floor_least : (floor n w b : ℕ) (us : List (Subscriber T)) → AreInWindow floor n w us → floor ≤ b → floor ≤ least_position b us
   floor_least floor n w b [] h le = le
   floor_least floor n w b (u ∷ us) h le = omega (arith, h.0.0, floor_least floor n w b us h.1 le)
 
   -- one more value, if no subscriber was a whole window behind
-  pub within-more : (floor n w : ℕ) (us : List (Subscriber T)) → AreWithin floor n w us → is_full w n us ≡ false → AreWithin floor (n + 1) w us
+  pub within-more : (floor n w : ℕ) (us : List (Subscriber T)) → AreInWindow floor n w us → is_full w n us ≡ false → AreInWindow floor (n + 1) w us
   within-more floor n w [] h free = tt
   within-more floor n w (u ∷ us) h free =
       let parts = or_parts (nat_le w (n - u.position)) (is_full w n us) free in
@@ -87,12 +87,12 @@ module _ {T : Type 0} where
       ((h.0.0, omega (arith, h.0.1), omega (arith, near, h.0.1)), within-more floor n w us h.1 parts.1)
 
   -- one more value, after which all subscribers are moved into the window
-  pub within-raised : (floor n w : ℕ) (us : List (Subscriber T)) → AreWithin floor n w us → 0 < w → w ≤ n → AreWithin (n + 1 - w) (n + 1) w (raise_to (n + 1 - w) us)
+  pub within-raised : (floor n w : ℕ) (us : List (Subscriber T)) → AreInWindow floor n w us → 0 < w → w ≤ n → AreInWindow (n + 1 - w) (n + 1) w (raise_to (n + 1 - w) us)
   within-raised floor n w [] h some le = tt
   within-raised floor n w (u ∷ us) h some le =
       ((omega arith, omega (arith, h.0.1, some, le), omega (arith, le)), within-raised floor n w us h.1 some le)
 
-  pub within-gathered : (n w : ℕ) (us : List (Subscriber T)) → AreWithin n n w (map (stand_at n) us)
+  pub within-gathered : (n w : ℕ) (us : List (Subscriber T)) → AreInWindow n n w (map (stand_at n) us)
   within-gathered n w [] = tt
   within-gathered n w (u ∷ us) = ((omega arith, omega arith, omega arith), within-gathered n w us)
 
@@ -106,7 +106,7 @@ module _ {T : Type 0} where
       ]
 
   -- in a window of one, a subscriber that is a whole window behind has not received the last value
-  pub offered_full : (floor n w : ℕ) (us : List (Subscriber T)) → AreWithin floor n w us → w ≡ 1 → is_full w n us ≡ list_any (λ u. (n - u.position) == 1) us
+  pub offered_full : (floor n w : ℕ) (us : List (Subscriber T)) → AreInWindow floor n w us → w ≡ 1 → is_full w n us ≡ list_any (λ u. (n - u.position) == 1) us
   offered_full floor n w [] h one = refl
   offered_full floor n w (u ∷ us) h one =
       let here : nat_le w (n - u.position) ≡ (n - u.position == 1) = elim (eqb_tells (n - u.position) 1) [
@@ -121,26 +121,26 @@ module _ {T : Type 0} where
       ] in
       ap (λ t. t || is_full w n us) here ∙ ap (λ t. (n - u.position == 1) || t) (offered_full floor n w us h.1 one)
 
-  pub within-moved : (floor n w number p : ℕ) (us : List (Subscriber T)) → AreWithin floor n w us → floor ≤ p → p ≤ n → n ≤ p + w → AreWithin floor n w (move_to number p us)
+  pub within-moved : (floor n w number p : ℕ) (us : List (Subscriber T)) → AreInWindow floor n w us → floor ≤ p → p ≤ n → n ≤ p + w → AreInWindow floor n w (move_to number p us)
   within-moved floor n w number p us h low high near = every_move (λ u. (floor ≤ u.position) × (u.position ≤ n) × (n ≤ u.position + w)) number p (λ u _. (low, high, near)) us h
 
-  pub within-without : (floor n w number : ℕ) (us : List (Subscriber T)) → AreWithin floor n w us → AreWithin floor n w (without number us)
+  pub within-without : (floor n w number : ℕ) (us : List (Subscriber T)) → AreInWindow floor n w us → AreInWindow floor n w (without number us)
   within-without floor n w number us h = every_filter (λ u. (floor ≤ u.position) × (u.position ≤ n) × (n ≤ u.position + w)) (λ u. not (u.number == number)) us h
 
-  pub within-with_own : (floor n w number : ℕ) (own : List T) (us : List (Subscriber T)) → AreWithin floor n w us → AreWithin floor n w (with_own number own us)
+  pub within-with_own : (floor n w number : ℕ) (own : List T) (us : List (Subscriber T)) → AreInWindow floor n w us → AreInWindow floor n w (with_own number own us)
   within-with_own floor n w number own us h = every_with_own (λ u. (floor ≤ u.position) × (u.position ≤ n) × (n ≤ u.position + w)) number own (λ u k. k) us h
 
-  pub within-snoc : (floor n w : ℕ) (us : List (Subscriber T)) (v : Subscriber T) → AreWithin floor n w us → floor ≤ v.position → v.position ≤ n → n ≤ v.position + w → AreWithin floor n w (us ++ v ∷ [])
+  pub within-snoc : (floor n w : ℕ) (us : List (Subscriber T)) (v : Subscriber T) → AreInWindow floor n w us → floor ≤ v.position → v.position ≤ n → n ≤ v.position + w → AreInWindow floor n w (us ++ v ∷ [])
   within-snoc floor n w us v h low high near = every_snoc (λ u. (floor ≤ u.position) × (u.position ≤ n) × (n ≤ u.position + w)) us v h (low, high, near)
 
   -- the bounds of a subscriber's position
-  pub within_at : (floor n w number p : ℕ) (us : List (Subscriber T)) → AreWithin floor n w us → position_of number us ≡ Some p → (floor ≤ p) × (p ≤ n) × (n ≤ p + w)
+  pub within_at : (floor n w number p : ℕ) (us : List (Subscriber T)) → AreInWindow floor n w us → position_of number us ≡ Some p → (floor ≤ p) × (p ≤ n) × (n ≤ p + w)
   within_at floor n w number p us h at =
       let found = position_holds (λ u. (floor ≤ u.position) × (u.position ≤ n) × (n ≤ u.position + w)) number p us h at in
       subst (λ q. (floor ≤ q) × (q ≤ n) × (n ≤ q + w)) found.2 found.3
 
   -- if a value is being offered, the first needed value is no later
-  pub offered_least : (floor n w b : ℕ) (us : List (Subscriber T)) → AreWithin floor n w us → w ≡ 1 → is_full w n us ≡ true → least_position b us ≤ n - 1
+  pub offered_least : (floor n w b : ℕ) (us : List (Subscriber T)) → AreInWindow floor n w us → w ≡ 1 → is_full w n us ≡ true → least_position b us ≤ n - 1
   offered_least floor n w b us h one full = (least_position_offered b n us (sym (offered_full floor n w us h one) ∙ full)).0
 
   pub least_at : (b number p : ℕ) (us : List (Subscriber T)) → position_of number us ≡ Some p → least_position b us ≤ p

@@ -10,7 +10,7 @@ use Rattle.flow_law.specs.Covering.{kept_start, kept_need}
 use Rattle.flow_law.proofs.CoveringLemmas.{least_position_rises}
 use Rattle.flow_law.proofs.Rows.{rises_higher}
 use Rattle.flow_containers.specs.Subscribers.{Standing}
-use Rattle.flow_core.specs.SharedCore.{window_of, fields_of, AreWithin, IsSound}
+use Rattle.flow_core.specs.SharedCore.{window_of, fields_of, AreInWindow, IsSound}
 use Rattle.flow_core.specs.declared.shared.SharedCore.TheInside.{Inside}
 use Rattle.flow_core.proofs.RingLemmas.{within_least}
 
@@ -35,11 +35,11 @@ module _ {T A : Type 0} where
   }
 
   -- no subscriber needs a value before the window after one more value
-  pub window_more : (c : Inside T A) (us : List (Subscriber T)) (floor : ℕ) → IsSound c → AreWithin floor (c.subscribers.emitted + 1) (window_of c.config) us
+  pub window_more : (c : Inside T A) (us : List (Subscriber T)) (floor : ℕ) → IsSound c → AreInWindow floor (c.subscribers.emitted + 1) (window_of c.config) us
       → c.subscribers.emitted + 1 ≤ least_position (next_start c) us + window_of c.config
   window_more c us floor sound within = within_least floor (c.subscribers.emitted + 1) (window_of c.config) (next_start c) us within (omega arith)
 
-  pub sound_emitted : (c : Inside T A) (v : T) (number : ℕ) (us : List (Subscriber T)) (floor : ℕ) → IsSound c → AreWithin floor (c.subscribers.emitted + 1) (window_of c.config) us
+  pub sound_emitted : (c : Inside T A) (v : T) (number : ℕ) (us : List (Subscriber T)) (floor : ℕ) → IsSound c → AreInWindow floor (c.subscribers.emitted + 1) (window_of c.config) us
       → floor ≤ next_start c → least_position (kept_start (fields_of c)) c.subscribers.list ≤ least_position (kept_start (fields_of c)) us → c.subscribers.emitted + length c.queue < c.issued
       → IsSound (emitted_inside c v number us floor)
   sound_emitted c v number us floor sound within low later issued =
@@ -90,7 +90,7 @@ module _ {T A : Type 0} where
       }
 
   -- changed subscribers that need no earlier value, and more numbers
-  pub sound_standing : (c : Inside T A) (us : List (Subscriber T)) (last floor issued : ℕ) (keys : List (Option ℕ)) → IsSound c → AreWithin floor c.subscribers.emitted (window_of c.config) us
+  pub sound_standing : (c : Inside T A) (us : List (Subscriber T)) (last floor issued : ℕ) (keys : List (Option ℕ)) → IsSound c → AreInWindow floor c.subscribers.emitted (window_of c.config) us
       → floor ≤ kept_start (fields_of c) → least_position (kept_start (fields_of c)) c.subscribers.list ≤ least_position (kept_start (fields_of c)) us
       → last ≤ issued → c.issued ≤ issued → issued ≤ c.config.limit → RisesTo 0 (map (λ q. q.number) c.queue) issued
       → IsSound (record c { subscribers = record c.subscribers { list = us; last = last; floor = floor; by_key = keys }; issued = issued })
@@ -113,7 +113,7 @@ module _ {T A : Type 0} where
       }
 
   -- only changed subscribers
-  pub sound_subscribers : (c : Inside T A) (us : List (Subscriber T)) (floor : ℕ) → IsSound c → AreWithin floor c.subscribers.emitted (window_of c.config) us
+  pub sound_subscribers : (c : Inside T A) (us : List (Subscriber T)) (floor : ℕ) → IsSound c → AreInWindow floor c.subscribers.emitted (window_of c.config) us
       → floor ≤ kept_start (fields_of c) → least_position (kept_start (fields_of c)) c.subscribers.list ≤ least_position (kept_start (fields_of c)) us
       → IsSound (record c { subscribers = record c.subscribers { list = us; floor = floor } })
   sound_subscribers c us floor sound within low later = sound_standing c us c.subscribers.last floor c.issued c.subscribers.by_key sound within low later sound.last (omega arith) sound.issued sound.rising

@@ -14,7 +14,7 @@ use Rattle.flow_law.specs.declared.outcome.Next.{Next}
 use Rattle.flow_law.specs.declared.outcome.Next.TheVariants.{Value}
 use Rattle.flow_law.specs.declared.states.SharedFlowState.{SharedFlowState}
 use Rattle.flow_law.specs.declared.states.Subscriber.{Subscriber}
-use Rattle.flow_law.specs.Draining.{NextsGive, Takes, DrainsBy}
+use Rattle.flow_law.specs.Draining.{NextsGive, TakesAtMost, DrainsBy}
 use Rattle.flow_law.specs.SharedFlow.{answer, cache_start, values, position_of, own_of, stand_at, move_to}
 use Rattle.flow_law.specs.SharedHistory.{reply_by}
 use Rattle.flow_law.specs.SharedStep.{advance, next}
@@ -23,7 +23,7 @@ use Rattle.flow_law.specs.Covering.{Covers, kept_start, kept_need, tidied}
 use Rattle.flow_law.proofs.CoveringLemmas.{covers-subscribers, least_position_bound, least_position-move_to, settle_idle, slice_get-drop}
 use Rattle.flow_law.proofs.HoldingLemmas.{tidy, covers_enough, same_value}
 use Rattle.flow_law.proofs.Rows.{position-move_to, own-move_to}
-use Rattle.flow_core.specs.SharedCore.{Nexts}
+use Rattle.flow_core.specs.SharedCore.{SharedCoreNexts}
 use Rattle.flow_core.proofs.CallLemmas.{next_value}
 use Rattle.flow_core.proofs.RingLemmas.{least_at}
 
@@ -107,7 +107,7 @@ module _ {T : Type 0} where
         (least_position-move_to (cache_start s) number (q + 1) s.subscribers later)
 
     one : (q : ℕ) (v : T) (before after : Core T) → slice_get core.held (q - first) ≡ Some v → ((s : SharedFlowState T) → StandsFor before s → Covers (moved q) s)
-        → ((s : SharedFlowState T) → Covers (moved (q + 1)) s → StandsFor after s) → Nexts number before (Ok (Value v)) after
+        → ((s : SharedFlowState T) → Covers (moved (q + 1)) s → StandsFor after s) → SharedCoreNexts number before (Ok (Value v)) after
     one q v before after here covered stands = (
       λ s standing.
           let covers = covered s standing in
@@ -123,7 +123,7 @@ module _ {T : Type 0} where
 
     in_a_row : (v : T) (vs : List T) (q k : ℕ) (before after : Core T) → first ≤ q → q - first ≡ k → AreFrom core.held k (v ∷ vs)
         → ((s : SharedFlowState T) → StandsFor before s → Covers (moved q) s) → ((s : SharedFlowState T) → Covers (moved (q + length (v ∷ vs))) s → StandsFor after s)
-        → NextsGive (Nexts number) before (v ∷ vs) after
+        → NextsGive (SharedCoreNexts number) before (v ∷ vs) after
     in_a_row v [] q k before after low is from covered stands =
         (after, one q v before after (ap (slice_get core.held) is ∙ from.0) covered stands, refl)
     in_a_row v (w ∷ vs) q k before after low is from covered stands =
@@ -137,7 +137,7 @@ module _ {T : Type 0} where
 
     pub taken_at_once : (count : ℕ) (after : Core T) (list longer : List T) → ((s : SharedFlowState T) → StandsFor core s → Covers core s)
         → first ≤ p → p + count ≤ core.appended → 0 < count → longer ≡ list ++ take count (drop (p - first) core.held)
-        → ((s : SharedFlowState T) → Covers (moved (p + count)) s → StandsFor after s) → DrainsBy (Nexts number) count core list (Ok drained.Most) longer after
+        → ((s : SharedFlowState T) → Covers (moved (p + count)) s → StandsFor after s) → DrainsBy (SharedCoreNexts number) count core list (Ok drained.Most) longer after
     taken_at_once count after list longer covered low within some is stands =
         let counted : length (take count (drop (p - first) core.held)) ≡ count = length-take-le count (drop (p - first) core.held) (omega (arith, length-drop (p - first) core.held, within, short, low)) in
         record {
@@ -153,7 +153,7 @@ module _ {T : Type 0} where
         start : (s : SharedFlowState T) → StandsFor core s → Covers (moved p) s
         start s standing = subst (λ us. Covers (record core { subscribers = us }) s) (sym (move_to-here number p core.subscribers at)) (covered s standing)
 
-        row : (xs : List T) → length xs ≡ count → AreFrom core.held (p - first) xs → NextsGive (Nexts number) core xs after
+        row : (xs : List T) → length xs ≡ count → AreFrom core.held (p - first) xs → NextsGive (SharedCoreNexts number) core xs after
         row [] counted from = absurd (omega (arith, counted, some))
         row (v ∷ vs) counted from = in_a_row v vs p (p - first) core after low refl from start (λ s covers. stands s (subst (λ n. Covers (moved (p + n)) s) counted covers))
 
@@ -176,7 +176,7 @@ module _ {X T : Type 0} (R : X → Result (Next T) FlowFault → X → Type 0) w
   }
 
   pub drains_on : (Ends : X → Result Drained FlowFault → X → Type 0) (k most : ℕ) (old middle new : X) (list longer longest : List T) (result : Result Drained FlowFault) → k ≤ most → DrainsBy R k old list (Ok drained.Most) longer middle
-      → Takes R Ends (most - k) middle longer result longest new → Takes R Ends most old list result longest new
+      → TakesAtMost R Ends (most - k) middle longer result longest new → TakesAtMost R Ends most old list result longest new
   drains_on Ends k most old middle new list longer longest result within first rest =
       let all : length (first.values ++ rest.values) ≡ length first.values + length rest.values = length-append first.values rest.values in
       let counted : length first.values ≡ k = first.enough.0 refl in

@@ -51,8 +51,8 @@ abbrev pub next_reply : {T : Type 0} → Result (Next T) FlowFault → SharedRep
 next_reply = replied shared_flow reply.Received
 
 -- what one `next` of the subscriber of this number does
-abbrev pub Nexts : {T : Type 0} → ℕ → Core T → Result (Next T) FlowFault → Core T → Type 0
-Nexts number old result new = Conforms old (call.TakeNext number) (next_reply result) new
+abbrev pub SharedCoreNexts : {T : Type 0} → ℕ → Core T → Result (Next T) FlowFault → Core T → Type 0
+SharedCoreNexts number old result new = Conforms old (call.TakeNext number) (next_reply result) new
 
 -- what `replay_cache` returned, as a reply
 abbrev pub cache_reply : {T A : Type 0} → Result (Vec T A) FlowFault → SharedReply T
@@ -78,15 +78,15 @@ fields_of c = record {
 }
 
 -- each subscriber's position is within the last `window` values and not below the floor
-abbrev pub AreWithin : {T : Type 0} → ℕ → ℕ → ℕ → List (Subscriber T) → Type 0
-AreWithin floor emitted window = AllByRecursion (λ u. (floor ≤ u.position) × (u.position ≤ emitted) × (emitted ≤ u.position + window))
+abbrev pub AreInWindow : {T : Type 0} → ℕ → ℕ → ℕ → List (Subscriber T) → Type 0
+AreInWindow floor emitted window = AllByRecursion (λ u. (floor ≤ u.position) × (u.position ≤ emitted) × (emitted ≤ u.position + window))
 
 -- what holds of a core's fields between two calls
 pub record IsSound {T A : Type 0} (c : Inside T A) : Type 0 where
   pub window : c.subscribers.window ≡ window_of c.config
   pub capacity : c.values.capacity ≡ window_of c.config
   pub buffered : c.config.overflow ≡ DropOldest → 0 < c.config.replay + c.config.extra
-  pub within : AreWithin c.subscribers.floor c.subscribers.emitted (window_of c.config) c.subscribers.list
+  pub within : AreInWindow c.subscribers.floor c.subscribers.emitted (window_of c.config) c.subscribers.list
   pub floor : c.subscribers.floor ≤ kept_start (fields_of c)
   pub reset_mark : c.reset_mark ≤ c.subscribers.emitted
   -- the ring has every value that a present or a new subscriber may still receive
@@ -120,8 +120,8 @@ MayAppend DropsOldest core = (kept_full core ≡ true) × (core.config.overflow 
 MayAppend _ core = Unit {0}
 
 -- `read` gives this result in each state that the core covers
-abbrev pub Shows : {T R : Type 0} → Core T → (SharedFlowState T → R) → R → Type 0
-Shows {T} core read result = (s : SharedFlowState T) → Covers core s → result ≡ read s
+abbrev pub CoreShows : {T R : Type 0} → Core T → (SharedFlowState T → R) → R → Type 0
+CoreShows {T} core read result = (s : SharedFlowState T) → Covers core s → result ≡ read s
 
 -- the fault is `Exhausted`, and the core has issued all its numbers
 abbrev pub IsExhausted : {T : Type 0} → FlowFault → Core T → Type 0
@@ -142,8 +142,8 @@ abbrev pub Leads : {T : Type 0} → Core T → (SharedFlowState T → SharedFlow
 Leads {T} old step new = (s : SharedFlowState T) → Covers old s → Covers new (step s)
 
 -- from each state that the old core covers, this step leads to one that the new core stands for: it holds only the values needed there
-abbrev pub Reaches : {T : Type 0} → Core T → (SharedFlowState T → SharedFlowState T) → Core T → Type 0
-Reaches {T} old step new = (s : SharedFlowState T) → Covers old s → StandsFor new (step s)
+abbrev pub CoreReaches : {T : Type 0} → Core T → (SharedFlowState T → SharedFlowState T) → Core T → Type 0
+CoreReaches {T} old step new = (s : SharedFlowState T) → Covers old s → StandsFor new (step s)
 
 -- from each state that the old core stands for, this step leads to one that the new core stands for
 abbrev pub Keeps : {T : Type 0} → Core T → (SharedFlowState T → SharedFlowState T) → Core T → Type 0

@@ -21,34 +21,34 @@ module _ {T : Type 0} where
   value_reply = replied state_flow reply.Got
 
   -- what `subscribe` returned, as a reply: a history has only the number
-  abbrev pub subscribe_reply : Result SubId FlowFault → StateReply T
-  subscribe_reply = replied state_flow (λ id. reply.Subscribed (number_of id))
+  abbrev pub state_subscribe_reply : Result SubId FlowFault → StateReply T
+  state_subscribe_reply = replied state_flow (λ id. reply.Subscribed (number_of id))
 
   -- what `next` returned, as a reply
-  abbrev pub next_reply : Result (Next T) FlowFault → StateReply T
-  next_reply = replied state_flow reply.Received
+  abbrev pub state_next_reply : Result (Next T) FlowFault → StateReply T
+  state_next_reply = replied state_flow reply.Received
 
   -- what one `next` of the subscriber of this number does
-  abbrev pub Nexts : ℕ → StateFlowState T → Result (Next T) FlowFault → StateFlowState T → Type 0
-  Nexts number old result new = StateConforms old (call.TakeNext number) (next_reply result) new
+  abbrev pub StateCoreNexts : ℕ → StateFlowState T → Result (Next T) FlowFault → StateFlowState T → Type 0
+  StateCoreNexts number old result new = StateConforms old (call.TakeNext number) (state_next_reply result) new
 
   -- what `replay_cache` returned, as a reply
-  abbrev pub cache_reply : {A : Type 0} → Result (Vec T A) FlowFault → StateReply T
-  cache_reply = replied state_flow (λ values. reply.Cached values.items)
+  abbrev pub state_cache_reply : {A : Type 0} → Result (Vec T A) FlowFault → StateReply T
+  state_cache_reply = replied state_flow (λ values. reply.Cached values.items)
 
   -- what `reset_replay_cache` returned, as a reply: `Ok` stands for a reply that no state flow gives to a reset
   abbrev pub reset_reply : Result (Unit {0}) FlowFault → StateReply T
   reset_reply = replied state_flow (λ none. reply.Done)
 
   -- a subscriber as the definitions have it: its number, and the value that it received last
-  abbrev pub subscriber_of : Member (Option T) → StateSubscriber T
-  subscriber_of member = record { number = member.number; last = member.row }
+  abbrev pub state_subscriber_of : Member (Option T) → StateSubscriber T
+  state_subscriber_of member = record { number = member.number; last = member.row }
 
   -- a core's fields as a state of the documented flow
-  abbrev pub fields_of : {A : Type 0} → Inside T A → StateFlowState T
-  fields_of c = record {
+  abbrev pub state_fields_of : {A : Type 0} → Inside T A → StateFlowState T
+  state_fields_of c = record {
     limit = c.limit;
     value = c.value;
-    subscribers = map subscriber_of c.subscribers.members;
+    subscribers = map state_subscriber_of c.subscribers.members;
     issued = c.issued;
   }

@@ -29,7 +29,7 @@ trait TakesNext {
 impl<T: FlowValue, A: Allocator + Copy> TakesNext for SharedCore<T, A> {
     type Item = T;
 
-    ghost nexts = { shared.Nexts };
+    ghost nexts = { shared.SharedCoreNexts };
 
     fn take_next(&mut self, id: SubId) -> Result<Next<T>, FlowFault> {
         self.next(id)
@@ -39,7 +39,7 @@ impl<T: FlowValue, A: Allocator + Copy> TakesNext for SharedCore<T, A> {
 impl<T: FlowValue, A: Allocator + Copy> TakesNext for StateCore<T, A> {
     type Item = T;
 
-    ghost nexts = { state.Nexts };
+    ghost nexts = { state.StateCoreNexts };
 
     fn take_next(&mut self, id: SubId) -> Result<Next<T>, FlowFault> {
         self.next(id)
@@ -83,7 +83,7 @@ impl<T: FlowValue, A: Allocator + Copy> SharedCore<T, A> {
         most: usize,
         values: &mut Vec<T, B>,
     ) -> Result<Drained, FlowFault>
-        ensures documented { DrainsBy (shared.Nexts (number_of id)) most
+        ensures documented { DrainsBy (shared.SharedCoreNexts (number_of id)) most
             self.old values.old.items result values.new.items self.new }
         ensures full { T.IsAlwaysCopied → OnErr result (IsFull values.new) }
     {
@@ -101,7 +101,7 @@ impl<T: FlowValue, A: Allocator + Copy> StateCore<T, A> {
         most: usize,
         values: &mut Vec<T, B>,
     ) -> Result<Drained, FlowFault>
-        ensures documented { DrainsBy (state.Nexts (number_of id)) most
+        ensures documented { DrainsBy (state.StateCoreNexts (number_of id)) most
             self.old values.old.items result values.new.items self.new }
         ensures full { T.IsAlwaysCopied → OnErr result (IsFull values.new) }
     {

@@ -6,7 +6,7 @@ ghost use Rattle.flow_law.specs.SharedStep as step;
 ghost use Rattle.flow_law.specs.Standing.{StandsFor};
 ghost use Rattle.flow_law.specs.Covering.{Covers, kept_start, kept_need};
 ghost use Rattle.flow_law.specs.declared.states.SharedFlowState.{SharedFlowState};
-ghost use Rattle.flow_core.specs.SharedCore.{window_of, kept_full, pushed, Shows, Leads, Reaches, Admits, IsSettled};
+ghost use Rattle.flow_core.specs.SharedCore.{window_of, kept_full, pushed, CoreShows, Leads, CoreReaches, Admits, IsSettled};
 
 mod calls;
 mod counts;
@@ -136,7 +136,7 @@ impl<T: FlowValue, A: Allocator + Copy> SharedCore<T, A> {
     /// Returns whether a subscriber is a whole window behind.
     fn is_blocked(&self) -> bool
         ensures own { result ≡ kept_full self.now }
-        ensures shown { Shows self.now flow.is_blocked result }
+        ensures shown { CoreShows self.now flow.is_blocked result }
     {
         self.subscribers.is_blocked()
     }
@@ -145,7 +145,7 @@ impl<T: FlowValue, A: Allocator + Copy> SharedCore<T, A> {
     fn is_offering(&self) -> bool
         ensures own { OnTrue result
             ((self.now.config.replay + self.now.config.extra ≡ 0) × kept_full self.now ≡ true) }
-        ensures shown { Shows self.now flow.is_offering result }
+        ensures shown { CoreShows self.now flow.is_offering result }
     {
         self.capacity() == 0 && self.subscribers.is_blocked()
     }
@@ -168,7 +168,7 @@ impl<T: FlowValue, A: Allocator + Copy> SharedCore<T, A> {
 
     /// Drops the values that neither a present nor a new subscriber can receive.
     fn trim(&mut self)
-        ensures { Reaches self.old (λ s. s) self.new }
+        ensures { CoreReaches self.old (λ s. s) self.new }
     {
         let needed = self.subscribers.least(self.held_from(), self.cache_start());
         let count = self.subscribers.emitted() - needed;
@@ -233,7 +233,7 @@ impl<T: FlowValue, A: Allocator + Copy> SharedCore<T, A> {
 
     /// Emits queued values until the flow is blocked or none is queued, and then trims the ring.
     fn settle(&mut self)
-        ensures { Reaches self.old step.settle self.new }
+        ensures { CoreReaches self.old step.settle self.new }
     {
         while self.admit() {}
         self.trim();
@@ -268,7 +268,7 @@ impl<T: FlowValue, A: Allocator + Copy> SharedCore<T, A> {
     /// Returns the position of a new subscriber.
     fn entry(&self) -> u64
         ensures within { (kept_need self.now ≤ result) × (result ≤ self.now.appended) }
-        ensures shown { Shows self.now flow.entry result }
+        ensures shown { CoreShows self.now flow.entry result }
     {
         if self.is_offering() {
             self.subscribers.emitted().saturating_sub(1)

@@ -5,7 +5,7 @@ ghost use Rattle.flow_law.specs.Standing.{StateConforms};
 ghost use Rattle.flow_law.specs.declared.call.StateCall.TheVariants as call;
 ghost use Rattle.flow_law.specs.declared.call.StateReply.TheVariants as reply;
 ghost use Rattle.flow_core.specs.SubId.{number_of};
-ghost use Rattle.flow_core.specs.StateCore.{value_reply, subscribe_reply, next_reply, cache_reply, reset_reply};
+ghost use Rattle.flow_core.specs.StateCore.{value_reply, state_subscribe_reply, state_next_reply, state_cache_reply, reset_reply};
 
 mod kind;
 
@@ -48,9 +48,9 @@ impl<T: FlowValue, A: Allocator + Copy> Model for StateCore<T, A> {
 
     ghost Value = { StateFlowState T };
 
-    ghost use Rattle.flow_core.specs.StateCore.{fields_of};
+    ghost use Rattle.flow_core.specs.StateCore.{state_fields_of};
 
-    ghost view = { fields_of };
+    ghost view = { state_fields_of };
 
     ghost invariant = { λ c. (c.issued ≤ c.limit) × (c.subscribers.last ≤ c.issued) };
 }
@@ -136,7 +136,7 @@ impl<T: FlowValue, A: Allocator + Copy> StateCore<T, A> {
     /// `Exhausted` if the flow has issued as many numbers as its limit allows, else `OutOfMemory`.
     pub fn subscribe(&mut self) -> Result<SubId, FlowFault>
         ensures documented { (name : List ℕ)
-            → StateConforms self.old (call.Subscribe name) (subscribe_reply result) self.new }
+            → StateConforms self.old (call.Subscribe name) (state_subscribe_reply result) self.new }
     {
         if self.issued == self.limit {
             return Err(FlowFault::Exhausted);
@@ -155,7 +155,7 @@ impl<T: FlowValue, A: Allocator + Copy> StateCore<T, A> {
     /// between are skipped. The only error is `OutOfMemory`; a later call returns the value.
     pub fn next(&mut self, id: SubId) -> Result<Next<T>, FlowFault>
         ensures documented { StateConforms self.old (call.TakeNext (number_of id))
-            (next_reply result) self.new }
+            (state_next_reply result) self.new }
         ensures given { T.IsAlwaysCopied → IsOk result }
     {
         let Some(last) = self.subscribers.get(id.number, id.key) else {
@@ -183,7 +183,7 @@ impl<T: FlowValue, A: Allocator + Copy> StateCore<T, A> {
 
     /// Returns a list of the current value, which is a state flow's replay cache. The only error is `OutOfMemory`.
     pub fn replay_cache(&self) -> Result<Vec<T, A>, FlowFault>
-        ensures documented { StateConforms self.now call.ReplayCache (cache_reply result) self.now }
+        ensures documented { StateConforms self.now call.ReplayCache (state_cache_reply result) self.now }
     {
         match self.value.try_copy() {
             Err(fault) => Err(fault),

@@ -1,5 +1,5 @@
 -- Each step keeps the rule of the table.
-use Rattle.std.proofs.Common.{◌≡◌, ◌≢◌, ℕ, ◌≤◌, ◌⊎◌, Bool, true, false, List, [], ◌∷◌, ◌++◌, Option, Some, map, length, get_or, set, refl, sym, ap, ◌∙◌, subst, inl, inr, ⊎_elim, arith, le_refl, eqb, eq-eqb, ne_eqb, length-set, get_or-set_same, true≢false}
+use Rattle.std.proofs.Common.{◌≡◌, ◌≢◌, ℕ, ◌≤◌, Bool, true, false, List, [], ◌∷◌, ◌++◌, Option, Some, map, length, get_or, set, refl, sym, ap, ◌∙◌, subst, inl, inr, ⊎_elim, arith, le_refl, eqb, eq-eqb, ne_eqb, length-set, get_or-set_same, true≢false}
 use mathlib.Core.Option.{some, none, some-injective}
 use mathlib.Core.Logic.{dite}
 use native.Mathlib.Decide.{ℕ_discrete}
@@ -16,7 +16,7 @@ use Rattle.flow_law.specs.Growth.{IsApartFrom, Fits, NamesOnlyMade, events_of}
 use Rattle.flow_gate.specs.View.{seat_view}
 use Rattle.flow_gate.specs.Rule.{GateHolds, KnownAt, IsHeld}
 use Rattle.flow_law.specs.Growth.{sees, loses, adds, makes, child}
-use Rattle.flow_gate.specs.Steps.{stands_from, entered, observed, looked, left}
+use Rattle.flow_gate.specs.Steps.{stands_from, entered, observed, looked, left, first_known, others_known}
 use Rattle.flow_law.proofs.Names.{every_map, grew_refl, fits_more, fits_own, makes_fits, child_fits, child_apart, apart_child, makes_child, child_makes}
 use Rattle.flow_law.proofs.SeatLemmas.{Joined, joined_once, Parted, parted_once}
 use Rattle.flow_gate.proofs.Places.{at_only, at_two, at_none, at_inside, at_end, every_at, of_map, known_set, known_end, AllApart, apart_from}
@@ -27,7 +27,7 @@ off_of false never = refl
 
 module _ {S E : Type 0} (stands : S → List (HistoryEvent E) → Type 0) where
   abbrev St : Type 0
-  St = State (Option S) (SeatView E)
+  St = State S (SeatView E)
 
   abbrev Rule : St → Type 0
   Rule = GateHolds stands
@@ -71,7 +71,7 @@ module _ {S E : Type 0} (stands : S → List (HistoryEvent E) → Type 0) where
   all_fit s r id v at = every_at (Fits r.history) v.known (λ a t e. r.fits id a t (v, at, e))
 
   -- a step that does not change the word, by a seat that does not hold the state
-  unmoved : (s : St) (r : Rule s) (id : ℕ) (v w : SeatView E) (cs : List (ℕ × Option S)) → get_elem? s.views id ≡ some v → v.holds ≡ false → w.holds ≡ false
+  unmoved : (s : St) (r : Rule s) (id : ℕ) (v w : SeatView E) (cs : List (ℕ × S)) → get_elem? s.views id ≡ some v → v.holds ≡ false → w.holds ≡ false
       → ((i a : ℕ) (t : Knowledge E) → KnownAt (set s.views id w) i a t → Fits r.history t) → AllApart (set s.views id w)
       → Rule (stepped s 0 (word s) id cs w keeps)
   unmoved s r id v w cs at idle off fits apart = subst (λ (ws : List ℕ). Rule record { words = ws; homes = s.homes; views = set s.views id w }) (sym (set-get_or s.words 0 0)) record {
@@ -93,7 +93,7 @@ module _ {S E : Type 0} (stands : S → List (HistoryEvent E) → Type 0) where
   loses_fits : (log : List (HistoryEvent E)) (t : Knowledge E) → Fits log t → Fits log (loses t)
   loses_fits log t f = f
 
-  pub observes : (slots id : ℕ) (me : Me (Option S) (SeatView E)) → me.0.holds ≡ false → Allows Rule slots id me 0 (λ n. n) (observed stands (step slots 0 0 0 none) me)
+  pub observes : (slots id : ℕ) (me : Me S (SeatView E)) → me.0.holds ≡ false → Allows Rule slots id me 0 (λ n. n) (observed stands (step slots 0 0 0 none) me)
   observes slots id me off s r _ at _ = let v : SeatView E = me.0 in let w : SeatView E = seat_view (map (sees r.history) v.known) v.holds in let x = r.sound in (
     w,
     keeps,
@@ -104,7 +104,7 @@ module _ {S E : Type 0} (stands : S → List (HistoryEvent E) → Type 0) where
   )
 
   -- a step that changes nothing
-  pub looks : (slots id : ℕ) (me : Me (Option S) (SeatView E)) → Allows Rule slots id me 0 (λ n. n) (looked stands (step slots 0 0 0 none) me)
+  pub looks : (slots id : ℕ) (me : Me S (SeatView E)) → Allows Rule slots id me 0 (λ n. n) (looked stands (step slots 0 0 0 none) me)
   looks slots id me s r _ at _ = let x = r.sound in (
     me.0,
     keeps,
@@ -113,7 +113,7 @@ module _ {S E : Type 0} (stands : S → List (HistoryEvent E) → Type 0) where
     (r.history, x.0, x.1, all_fit s r id me.0 at, refl),
   )
 
-  pub enters : (slots id : ℕ) (t : Knowledge E) (me : Me (Option S) (SeatView E)) → me.0 ≡ seat_view (t ∷ []) false → Allows Rule slots id me 0 (λ n. either (eqb n 0) 1 n) (entered stands (step slots 0 0 1 none) me)
+  pub enters : (slots id : ℕ) (t : Knowledge E) (me : Me S (SeatView E)) → me.0 ≡ seat_view (t ∷ []) false → Allows Rule slots id me 0 (λ n. either (eqb n 0) 1 n) (entered stands (step slots 0 0 1 none) me)
   enters slots id t me is s r _ at _ = let off : me.0.holds ≡ false = ap (λ (z : SeatView E). z.holds) is in let n : ℕ = word s in let v : SeatView E = me.0 in dite (ℕ_discrete n 0)
       (λ hit. let x = r.free hit in let w : SeatView E = seat_view (map (sees r.history) v.known) true in let wide = r.wide in
       let one : get_or (set s.words 0 1) 0 0 ≡ 1 = get_or-set_same s.words 0 1 0 (omega arith) in
@@ -121,9 +121,9 @@ module _ {S E : Type 0} (stands : S → List (HistoryEvent E) → Type 0) where
       let is_id : (i : ℕ) (y : SeatView E) → get_elem? (set s.views id w) i ≡ some y → y.holds ≡ true → i ≡ id = λ i y p on. ⊎_elim (λ (h : (i ≡ id) × (w ≡ y)). h.0)
       (λ (h : (i ≢ id) × (get_elem? s.views i ≡ some y)). absurd (calm i y h.1 on)) (at_set s.views id i w y p) in (
         w,
-        takes 0 (Some x.0),
+        takes 0 x.0,
         x.1,
-        subst (λ b. Rule (stepped s 0 (either b 1 n) id me.1 w (takes 0 (Some x.0)))) (sym (eq-eqb n 0 hit)) record {
+        subst (λ b. Rule (stepped s 0 (either b 1 n) id me.1 w (takes 0 x.0))) (sym (eq-eqb n 0 hit)) record {
           history = r.history;
           wide = length-set s.words 0 1 ∙ wide;
           sound = r.sound;
@@ -148,9 +148,9 @@ module _ {S E : Type 0} (stands : S → List (HistoryEvent E) → Type 0) where
         ((λ hit. absurd (miss hit)), λ _. refl),
       ))
 
-  pub leaves : (slots id : ℕ) (t : Knowledge E) (x : S) (w : List E) (me : Me (Option S) (SeatView E)) → slots ≡ 1 → me ≡ (seat_view (t ∷ []) true, (0, Some x) ∷ []) → stands x (t.seen ++ events_of t.name w)
+  pub leaves : (slots id : ℕ) (t : Knowledge E) (x : S) (w : List E) (me : Me S (SeatView E)) → slots ≡ 1 → me ≡ (seat_view (t ∷ []) true, (0, x) ∷ []) → stands x (t.seen ++ events_of t.name w)
       → Allows Rule slots id me 0 (λ _. 0) (λ _. left w (step slots 0 0 0 none) me 0)
-  leaves slots id t x w me one is fine = subst (λ (m : Me (Option S) (SeatView E)). Allows Rule slots id m 0 (λ _. 0) (λ _. left w (step slots 0 0 0 none) m 0)) (sym is) (λ s r long at _.
+  leaves slots id t x w me one is fine = subst (λ (m : Me S (SeatView E)). Allows Rule slots id m 0 (λ _. 0) (λ _. left w (step slots 0 0 0 none) m 0)) (sym is) (λ s r long at _.
       let v : SeatView E = seat_view (t ∷ []) true in let v' : SeatView E = seat_view (adds w t ∷ []) false in let wide = r.wide in
       let seen : t.seen ≡ r.history = (r.holder id v at refl).0 in
       let log : List (HistoryEvent E) = t.seen ++ events_of t.name w in
@@ -160,7 +160,7 @@ module _ {S E : Type 0} (stands : S → List (HistoryEvent E) → Type 0) where
       let tu : IsApartFrom t u = r.apart id 0 i a t u mine p (inl (λ e. ne (sym e))) in let ut : IsApartFrom u t = r.apart i a id 0 u t p mine (inl ne) in
       subst (λ l. Fits l u) same (fits_more r.history u t.name w tu.0 ut.1 (r.fits i a u p)) in
       let own : Fits log (adds w t) = (grew_refl t.name log, subst (NamesOnlyMade t.name t.made) same (fits_own r.history t w (r.fits id 0 t mine))) in
-      let free : get_elem? (set s.homes 0 (some (Some x))) 0 ≡ some (some (Some x)) = set_here s.homes 0 (some (Some x)) (omega arith) in
+      let free : get_elem? (set s.homes 0 (some x)) 0 ≡ some (some x) = set_here s.homes 0 (some x) (omega arith) in
       let none_in : (i : ℕ) (y : SeatView E) → get_elem? (set s.views id v') i ≡ some y → y.holds ≡ true → ⊥ =
       λ i y p on. ⊎_elim (λ (h : (i ≡ id) × (v' ≡ y)). true≢false (sym on ∙ ap (λ (z : SeatView E). z.holds) (sym h.1)))
       (λ (h : (i ≢ id) × (get_elem? s.views i ≡ some y)). h.0 (r.single i id y v h.1 at on refl)) (at_set s.views id i v' y p) in (
@@ -202,7 +202,7 @@ module _ {S E : Type 0} (stands : S → List (HistoryEvent E) → Type 0) where
   abbrev HeldAt : List (SeatView E) → ℕ → SeatView E → Type 0
   HeldAt views i y = (v : SeatView E) × (get_elem? views i ≡ some v) × (v.holds ≡ true) × (v.known ≡ y.known)
 
-  pub joins : (id : ℕ) (t : Knowledge E) (other : ℕ) (u : Knowledge E) → Joins Rule id (seat_view (t ∷ []) false) other (seat_view (u ∷ []) false) (seat_view (t ∷ u ∷ []) false) (seat_view [] false)
+  joins : (id : ℕ) (t : Knowledge E) (other : ℕ) (u : Knowledge E) → Joins Rule id (seat_view (t ∷ []) false) other (seat_view (u ∷ []) false) (seat_view (t ∷ u ∷ []) false) (seat_view [] false)
   joins id t other u s r at ne there =
       let both : SeatView E = seat_view (t ∷ u ∷ []) false in let gone : SeatView E = seat_view [] false in let mid : List (SeatView E) = set s.views id both in let views : List (SeatView E) = set mid other gone in
       let was : get_elem? s.views other ≡ some (seat_view (u ∷ []) false) = sym (set_else s.views id other both ne) ∙ there in
@@ -228,7 +228,22 @@ module _ {S E : Type 0} (stands : S → List (HistoryEvent E) → Type 0) where
   ending views w off P old i v at on = ⊎_elim (λ (h : get_elem? views i ≡ some v). old i v h on)
       (λ (h : (i ≡ length views) × (w ≡ v)). absurd (true≢false (sym on ∙ (ap (λ (z : SeatView E). z.holds) (sym h.1) ∙ off)))) (at_end views w v i at)
 
-  pub parts : (id : ℕ) (t u : Knowledge E) → Splits Rule id (seat_view (t ∷ u ∷ []) false) (seat_view (t ∷ []) false) (seat_view (u ∷ []) false)
+  -- a seat without a token is made
+  pub spares : (id : ℕ) (v : SeatView E) → Splits Rule id v v (seat_view [] false)
+  spares id v s r at =
+      let right : SeatView E = seat_view [] false in
+      subst (λ (views : List (SeatView E)). Rule record { words = s.words; homes = s.homes; views = views ++ right ∷ [] }) (sym (set_again s.views id v at))
+      (reseated s r (s.views ++ right ∷ [])
+      (ending s.views right refl (HeldAt s.views) (λ i y p on. (y, p, on, refl)))
+      (held_end s.views right)
+      (λ i a x p. ⊎_elim (r.fits i a x) (λ (h : (i ≡ length s.views) × (get_elem? [] a ≡ some x)). absurd (at_none x a h.1)) (known_end s.views i a right x p))
+      (λ i a j b x y p q ne. ⊎_elim
+      (λ (h : KnownAt s.views i a x). ⊎_elim (λ (k : KnownAt s.views j b y). r.apart i a j b x y h k ne)
+      (λ (k : (j ≡ length s.views) × (get_elem? [] b ≡ some y)). absurd (at_none y b k.1)) (known_end s.views j b right y q))
+      (λ (h : (i ≡ length s.views) × (get_elem? [] a ≡ some x)). absurd (at_none x a h.1))
+      (known_end s.views i a right x p)))
+
+  parts : (id : ℕ) (t u : Knowledge E) → Splits Rule id (seat_view (t ∷ u ∷ []) false) (seat_view (t ∷ []) false) (seat_view (u ∷ []) false)
   parts id t u s r at =
       let left : SeatView E = seat_view (t ∷ []) false in let right : SeatView E = seat_view (u ∷ []) false in let mid : List (SeatView E) = set s.views id left in let views : List (SeatView E) = mid ++ right ∷ [] in
       let t_at : KnownAt s.views id 0 t = (seat_view (t ∷ u ∷ []) false, at, refl) in let u_at : KnownAt s.views id 1 u = (seat_view (t ∷ u ∷ []) false, at, refl) in
@@ -245,7 +260,7 @@ module _ {S E : Type 0} (stands : S → List (HistoryEvent E) → Type 0) where
       (λ i a x p. let o = from i a x p in r.fits o.0 o.1 x o.2)
       (apart_from s.views views (Parted id (length mid)) (parted_once id (length mid)) (λ i a x p. let o = from i a x p in (o.0, o.1, x, o.2, refl, le_refl x.made, o.3)) r.apart)
 
-  pub makes_one : (id : ℕ) (t : Knowledge E) → Splits Rule id (seat_view (t ∷ []) false) (seat_view (makes t ∷ []) false) (seat_view (child t ∷ []) false)
+  makes_one : (id : ℕ) (t : Knowledge E) → Splits Rule id (seat_view (t ∷ []) false) (seat_view (makes t ∷ []) false) (seat_view (child t ∷ []) false)
   makes_one id t s r at =
       let v : SeatView E = seat_view (t ∷ []) false in let left : SeatView E = seat_view (makes t ∷ []) false in let right : SeatView E = seat_view (child t ∷ []) false in
       let mid : List (SeatView E) = set s.views id left in let views : List (SeatView E) = mid ++ right ∷ [] in let t_at : KnownAt s.views id 0 t = (v, at, refl) in
@@ -269,13 +284,26 @@ module _ {S E : Type 0} (stands : S → List (HistoryEvent E) → Type 0) where
       (λ (k : (j ≡ length mid) × (get_elem? (child t ∷ []) b ≡ some y)). let za = (at_only (child t) x a h.1).0 in let zb = (at_only (child t) y b k.1).0 in ⊎_elim (λ n. absurd (n (h.0 ∙ sym k.0))) (λ n. absurd (n (za ∙ sym zb))) ne) (known_end mid j b right y q))
       (known_end mid i a right x p))
 
+-- The same for views that are equal to these.
+module _ {S E : Type 0} (stands : S → List (HistoryEvent E) → Type 0) (id : ℕ) (t : Knowledge E) (v : SeatView E) where
+  pub makes_seat : v ≡ seat_view (t ∷ []) false → Splits (GateHolds stands) id v (seat_view (map makes v.known) v.holds) (seat_view (map child v.known) false)
+  makes_seat is = subst (λ (x : SeatView E). Splits (GateHolds stands) id x (seat_view (map makes x.known) x.holds) (seat_view (map child x.known) false)) (sym is) (makes_one stands id t)
+
+  pub joins_seats : v ≡ seat_view (t ∷ []) false → (other : ℕ) (u : Knowledge E) (w : SeatView E) → w ≡ seat_view (u ∷ []) false
+      → Joins (GateHolds stands) id v other w (seat_view (v.known ++ w.known) false) (seat_view [] false)
+  joins_seats is other u w also =
+      subst (λ (x : SeatView E × SeatView E). Joins (GateHolds stands) id x.0 other x.1 (seat_view (x.0.known ++ x.1.known) false) (seat_view [] false)) (λ i. (sym is i, sym also i)) (joins stands id t other u)
+
+  pub parts_seats : (u : Knowledge E) → v ≡ seat_view (t ∷ u ∷ []) false → Splits (GateHolds stands) id v (seat_view (first_known v.known) false) (seat_view (others_known v.known) false)
+  parts_seats u is = subst (λ (x : SeatView E). Splits (GateHolds stands) id x (seat_view (first_known x.known) false) (seat_view (others_known x.known) false)) (sym is) (parts stands id t u)
+
 -- The same, if the step knows the first state by another name.
 module _ {F S E : Type 0} (stands : F → S → List (HistoryEvent E) → Type 0) (k : F) (f : Option F) (from : f ≡ Some k) (slots id : ℕ) where
-  pub enters_from : (t : Knowledge E) (me : Me (Option S) (SeatView E)) → me.0 ≡ seat_view (t ∷ []) false → Allows (GateHolds (stands k)) slots id me 0 (λ n. either (eqb n 0) 1 n) (entered (stands_from stands f) (step slots 0 0 1 none) me)
+  pub enters_from : (t : Knowledge E) (me : Me S (SeatView E)) → me.0 ≡ seat_view (t ∷ []) false → Allows (GateHolds (stands k)) slots id me 0 (λ n. either (eqb n 0) 1 n) (entered (stands_from stands f) (step slots 0 0 1 none) me)
   enters_from t me is = subst (λ (h : Option F). Allows (GateHolds (stands k)) slots id me 0 (λ n. either (eqb n 0) 1 n) (entered (stands_from stands h) (step slots 0 0 1 none) me)) (sym from) (enters (stands k) slots id t me is)
 
-  pub observes_from : (me : Me (Option S) (SeatView E)) → me.0.holds ≡ false → Allows (GateHolds (stands k)) slots id me 0 (λ n. n) (observed (stands_from stands f) (step slots 0 0 0 none) me)
+  pub observes_from : (me : Me S (SeatView E)) → me.0.holds ≡ false → Allows (GateHolds (stands k)) slots id me 0 (λ n. n) (observed (stands_from stands f) (step slots 0 0 0 none) me)
   observes_from me off = subst (λ (h : Option F). Allows (GateHolds (stands k)) slots id me 0 (λ n. n) (observed (stands_from stands h) (step slots 0 0 0 none) me)) (sym from) (observes (stands k) slots id me off)
 
-  pub looks_from : (me : Me (Option S) (SeatView E)) → Allows (GateHolds (stands k)) slots id me 0 (λ n. n) (looked (stands_from stands f) (step slots 0 0 0 none) me)
+  pub looks_from : (me : Me S (SeatView E)) → Allows (GateHolds (stands k)) slots id me 0 (λ n. n) (looked (stands_from stands f) (step slots 0 0 0 none) me)
   looks_from me = subst (λ (h : Option F). Allows (GateHolds (stands k)) slots id me 0 (λ n. n) (looked (stands_from stands h) (step slots 0 0 0 none) me)) (sym from) (looks (stands k) slots id me)

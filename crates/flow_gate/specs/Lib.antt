@@ -2,4 +2,5 @@ pub mod View
 pub mod Rule
 pub mod Steps
 pub mod Tokens
+pub mod Seats
 pub mod Lending

@@ -1,6 +1,6 @@
--- The rule of the gate's table. Word 0 is 0 while the gate is free, and the one slot has the state then. Otherwise the seat of one token
--- holds the state.
-use Rattle.std.specs.Prelude.{◌≡◌, ◌≢◌, ℕ, true, false, List, [], ◌∷◌, ◌⊎◌, Option, Some, length, slice_index}
+-- The rule of the gate's table. Word 0 is 0 while the gate is free, and the one slot has the state then. Otherwise the
+-- seat of one token holds the slot.
+use Rattle.std.specs.Prelude.{◌≡◌, ◌≢◌, ℕ, true, false, List, [], ◌∷◌, ◌⊎◌, length, slice_index}
 use Rattle.std.specs.List.{AllByRecursion}
 use mathlib.Core.Option.{some}
 use lib.ListN.{get_elem?}
@@ -19,13 +19,13 @@ KnownAt {E} views i a k = (v : SeatView E) × (get_elem? views i ≡ some v) × 
 abbrev pub IsHeld : {E : Type 0} → List (SeatView E) → Type 0
 IsHeld {E} views = (i : ℕ) × (k : Knowledge E) × (get_elem? views i ≡ some (seat_view (k ∷ []) true))
 
-pub record GateHolds {S E : Type 0} (stands : S → List (HistoryEvent E) → Type 0) (s : State (Option S) (SeatView E)) : Type 0 where
+pub record GateHolds {S E : Type 0} (stands : S → List (HistoryEvent E) → Type 0) (s : State S (SeatView E)) : Type 0 where
   -- the one history of the gate
   pub history : List (HistoryEvent E)
   pub wide : length s.words ≡ 1
   -- some state stood for the history, also while the gate is taken
   pub sound : (state : S) × stands state history
-  pub free : slice_index s.words 0 ≡ 0 → (state : S) × (get_elem? s.homes 0 ≡ some (some (Some state))) × stands state history
+  pub free : slice_index s.words 0 ≡ 0 → (state : S) × (get_elem? s.homes 0 ≡ some (some state)) × stands state history
   pub nobody : slice_index s.words 0 ≡ 0 → (i : ℕ) (v : SeatView E) → get_elem? s.views i ≡ some v → v.holds ≡ false
   -- while the gate is taken, the seat of one token holds the state: a seat without a token could be dropped unseen
   pub taken : slice_index s.words 0 ≢ 0 → IsHeld s.views

@@ -1,67 +1,69 @@
--- What contracts see of a seat, of a gate and of a caller inside.
-use Rattle.std.specs.Prelude.{◌≡◌, false, true, List, [], ◌∷◌, ◌++◌, Option, None}
+-- What contracts see of a gate and of its seats.
+-- Begin with `SeatState`, and with `Finds`: what a caller that enters finds.
+use Rattle.std.specs.Prelude.{◌≡◌, List, ◌++◌, Option, Some, None}
 use Rattle.atomic_table.specs.Seated.{TableId}
-use Rattle.atomic_table.specs.declared.shared.Seat.{Seat as TableSeat}
 use Rattle.flow_law.specs.declared.history.HistoryEvent.{HistoryEvent}
-use Rattle.flow_law.specs.declared.history.Knowledge.{Knowledge}
-use Rattle.flow_law.specs.Growth.{Fits, events_of, knowledge, first_knowledge, sees}
+use Rattle.flow_law.specs.Growth.{Fits, events_of, knowledge, sees}
 use Rattle.flow_law.specs.Tokens as flows
-use Rattle.flow_law.specs.Tokens.{token, knowing}
-use Rattle.flow_gate.specs.declared.view.SeatView.{SeatView}
-use Rattle.flow_gate.specs.View.{seat_view}
+use Rattle.flow_law.specs.Tokens.{knowing, Begins}
 
--- a seat: its gate, and what it knows
-abbrev pub Token : Type 0 → Type 0
-Token = flows.Token TableId
+-- the token of a seat: its gate, and what it knows
+abbrev pub GateToken : Type 0 → Type 0
+GateToken = flows.Token TableId
 
 -- a gate: which one it is, and the state that it began with
-abbrev pub Origin : Type 0 → Type 0
-Origin = flows.Origin TableId
+abbrev pub GateOrigin : Type 0 → Type 0
+GateOrigin = flows.Origin TableId
 
--- a caller inside: the state that its gate began with, its token, and the state that it holds
-pub record HeldState (S E : Type 0) : Type 0 where
-  pub first : S
-  pub token : Token E
-  pub state : S
-
--- what the one token of a view knows
-abbrev pub only_known : {E : Type 0} → List (Knowledge E) → Knowledge E
-only_known [] = first_knowledge
-only_known (k ∷ ks) = k
+-- a seat: its token and, while its caller is inside, the state that it holds
+pub record SeatState (S E : Type 0) : Type 0 where
+  pub token : GateToken E
+  pub held : Option S
 
 module _ {S E : Type 0} where
-  -- the token of a seat
-  abbrev pub token_of : TableSeat (Option S) (SeatView E) → Token E
-  token_of s = token s.table_id (only_known s.me.0.known)
+  -- a seat with this token, whose caller is not inside
+  abbrev pub idle_seat : GateToken E → SeatState S E
+  idle_seat t = record { token = t; held = None }
 
-  -- the seat has one token, and holds nothing
-  abbrev pub IsIdle : TableSeat (Option S) (SeatView E) → Type 0
-  IsIdle s = s.me ≡ (seat_view (only_known s.me.0.known ∷ []) false, [])
+  -- a seat with this token, whose caller is inside and holds this state
+  abbrev pub seat_holding : GateToken E → S → SeatState S E
+  seat_holding t state = record { token = t; held = Some state }
 
-  -- the seat has one token, and holds the state's slot, which is empty
-  abbrev pub IsInside : TableSeat (Option S) (SeatView E) → Type 0
-  IsInside s = s.me ≡ (seat_view (only_known s.me.0.known ∷ []) true, (0, None) ∷ [])
+  -- the caller of the seat is not inside
+  abbrev pub IsIdle : SeatState S E → Type 0
+  IsIdle seat = seat.held ≡ None
 
-  -- a caller inside, which has this token and this state
-  abbrev pub held_state : S → Token E → S → HeldState S E
-  held_state first t state = record { first = first; token = t; state = state }
+  -- the caller of the seat is inside, and holds some state
+  abbrev pub IsInside : SeatState S E → Type 0
+  IsInside seat = (state : S) × (seat.held ≡ Some state)
 
-module _ {S E : Type 0} (stands : S → S → List (HistoryEvent E) → Type 0) (gate : Origin S) where
-  -- A caller that enters finds a state that stands for a history. The history is what the token had seen, followed by
-  -- events of other callers, within the token's rule of names. The token has then seen this history.
-  pub record Finds (before : Token E) (held : HeldState S E) : Type 0 where
+  -- a new gate that began with this state, and its first seat, which has seen nothing
+  abbrev pub BeginsIdle : S → GateOrigin S × SeatState S E → Type 0
+  BeginsIdle first made = Begins first (made.0, made.1.token) × IsIdle made.1
+
+module _ {S E : Type 0} (stands : S → S → List (HistoryEvent E) → Type 0) (gate : GateOrigin S) where
+  -- A caller that enters finds a state that stands for a history, and holds it. The history is what its token had seen,
+  -- followed by events of other callers, within the token's rule of names. The token has then seen this history.
+  pub record Finds (before : GateToken E) (after : SeatState S E) : Type 0 where
     pub history : List (HistoryEvent E)
-    pub stood : stands gate.first held.state history
+    pub state : S
+    pub stood : stands gate.first state history
     pub fits : Fits history before.knows
-    pub first : held.first ≡ gate.first
-    pub token : held.token ≡ knowing before (knowledge before.knows.name before.knows.made held.token.knows.lost history)
+    pub held : after.held ≡ Some state
+    pub token : after.token ≡ knowing before
+        (knowledge before.knows.name before.knows.made after.token.knows.lost history)
 
   -- `Finds`, and no exchange was lost
-  abbrev pub FindsAtOnce : Token E → HeldState S E → Type 0
-  FindsAtOnce before held = Finds before held × (held.token.knows.lost ≡ before.knows.lost)
+  abbrev pub FindsAtOnce : GateToken E → SeatState S E → Type 0
+  FindsAtOnce before after = Finds before after × (after.token.knows.lost ≡ before.knows.lost)
+
+  -- the seat holds a state that stands for what its token has seen, followed by these events under its name
+  abbrev pub StandsWith : SeatState S E → List E → Type 0
+  StandsWith seat added = (state : S) × (seat.held ≡ Some state)
+      × stands gate.first state (seat.token.knows.seen ++ events_of seat.token.knows.name added)
 
   -- Two tokens meet: both have then seen one history, for which some state stood, and which fits what each had seen.
-  pub record MeetsAtGate (one other one_after other_after : Token E) : Type 0 where
+  pub record MeetsAtGate (one other one_after other_after : GateToken E) : Type 0 where
     pub history : List (HistoryEvent E)
     pub stood : (state : S) × stands gate.first state history
     pub fits_one : Fits history one.knows
@@ -75,13 +77,9 @@ module _ {S E : Type 0} (stands : S → S → List (HistoryEvent E) → Type 0) 
 
   -- the state stands for a history: what the token has seen, followed by events of other callers, within the token's
   -- rule of names
-  abbrev pub StandsAfter : Token E → S → Type 0
+  abbrev pub StandsAfter : GateToken E → S → Type 0
   StandsAfter t state = (history : List (HistoryEvent E)) × stands gate.first state history × Fits history t.knows
 
   -- some state satisfies `StandsAfter`
-  abbrev pub HasStood : Token E → Type 0
+  abbrev pub HasStood : GateToken E → Type 0
   HasStood t = (state : S) × StandsAfter t state
-
--- the state of a caller inside stands for what its token has seen, followed by these events under its name
-abbrev pub StandsWith : {S E : Type 0} → (S → S → List (HistoryEvent E) → Type 0) → HeldState S E → List E → Type 0
-StandsWith stands held added = stands held.first held.state (held.token.knows.seen ++ events_of held.token.knows.name added)

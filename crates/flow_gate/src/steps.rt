@@ -4,22 +4,21 @@ ghost use Rattle.flow_law.specs.declared.history.Knowledge.{Knowledge};
 ghost use Rattle.flow_law.specs.Growth.{makes, child};
 ghost use Rattle.flow_gate.specs.View.{first_view, seat_view};
 ghost use Rattle.flow_gate.specs.Rule.{GateHolds};
-ghost use Rattle.flow_gate.specs.Steps.{boxed, stands_from, entered, observed, looked, left, first_of, others_of};
+ghost use Rattle.flow_gate.specs.Steps.{stands_from, entered, observed, looked, left, first_known, others_known};
 
 use crate::view::SeatView;
 use atomic_table::{Join, Play, Split, TableRule};
 use flow_law::Guarded;
-use std::alloc::Allocator;
 use std::marker::{Brand, PhantomData};
 use std::snapshot::Snapshot;
 
-/// The events that a call adds to the history, for contracts only. A call at `Brand` chooses them in its proof.
-pub(crate) trait Adds<E> {
-    ghost adds: { List E };
-}
+/// The rule of a gate's table.
+pub struct GateRule;
 
-impl<E> Adds<E> for Brand {
-    ghost adds = { [] };
+impl<S: Guarded> TableRule<S, SeatView<S::Said>, Snapshot<S>> for GateRule {
+    ghost holds = { λ first. GateHolds (S.stands first.value) };
+
+    ghost first = { λ _. first_view };
 }
 
 /// Evidence of the events that a caller added while it was inside, such as the call that it made and the answer. For
@@ -32,16 +31,6 @@ pub trait NamesEvents<E> {
 /// Names no events.
 impl<E> NamesEvents<E> for () {
     ghost events = { λ _ _. [] };
-}
-
-/// The rule of a gate's table.
-pub struct GateRule;
-
-impl<S: Guarded, A: Allocator> TableRule<Option<Box<S, A>>, SeatView<S::Said>, Snapshot<S>>
-    for GateRule {
-    ghost holds = { λ first. GateHolds (boxed S.stands first.value) };
-
-    ghost first = { λ _. first_view };
 }
 
 /// The state with which the gate began. A step does not know it; a call at `Brand` chooses it in its proof.
@@ -58,9 +47,8 @@ pub(crate) struct Enter<B> {
     starts: PhantomData<B>,
 }
 
-impl<S: Guarded, A: Allocator, B: StartsFrom<S>> Play<Option<Box<S, A>>, SeatView<S::Said>>
-    for Enter<B> {
-    ghost then = { entered (stands_from (boxed S.stands) B.first) };
+impl<S: Guarded, B: StartsFrom<S>> Play<S, SeatView<S::Said>> for Enter<B> {
+    ghost then = { entered (stands_from S.stands B.first) };
 }
 
 /// A load, by which a joined view sees the whole history so far.
@@ -68,9 +56,8 @@ pub(crate) struct Observe<B> {
     starts: PhantomData<B>,
 }
 
-impl<S: Guarded, A: Allocator, B: StartsFrom<S>> Play<Option<Box<S, A>>, SeatView<S::Said>>
-    for Observe<B> {
-    ghost then = { observed (stands_from (boxed S.stands) B.first) };
+impl<S: Guarded, B: StartsFrom<S>> Play<S, SeatView<S::Said>> for Observe<B> {
+    ghost then = { observed (stands_from S.stands B.first) };
 }
 
 /// A load that changes nothing, and proves that what a seat has seen begins a history.
@@ -78,22 +65,30 @@ pub(crate) struct Look<B> {
     starts: PhantomData<B>,
 }
 
-impl<S: Guarded, A: Allocator, B: StartsFrom<S>> Play<Option<Box<S, A>>, SeatView<S::Said>>
-    for Look<B> {
-    ghost then = { looked (stands_from (boxed S.stands) B.first) };
+impl<S: Guarded, B: StartsFrom<S>> Play<S, SeatView<S::Said>> for Look<B> {
+    ghost then = { looked (stands_from S.stands B.first) };
 }
 
-/// The store of free.
+/// The events that a caller adds to the history, for contracts only. A call at `Brand` chooses them in its proof.
+pub(crate) trait Adds<E> {
+    ghost adds: { List E };
+}
+
+impl<E> Adds<E> for Brand {
+    ghost adds = { [] };
+}
+
+/// The store of free, by a caller that adds these events.
 pub(crate) struct Leave<W> {
     adds: PhantomData<W>,
 }
 
-impl<S, E, W: Adds<E>> Play<Option<S>, SeatView<E>> for Leave<W> {
+impl<S, E, W: Adds<E>> Play<S, SeatView<E>> for Leave<W> {
     ghost then = { left W.adds };
 }
 
 /// Making a seat through another one.
-pub struct Make;
+pub(crate) struct Make;
 
 impl<E> Split<SeatView<E>> for Make {
     ghost left = { λ v. seat_view (map makes v.known) v.holds };
@@ -101,8 +96,17 @@ impl<E> Split<SeatView<E>> for Make {
     ghost right = { λ v. seat_view (map child v.known) false };
 }
 
+/// Making a seat without a token.
+pub(crate) struct Spare;
+
+impl<E> Split<SeatView<E>> for Spare {
+    ghost left = { λ v. v };
+
+    ghost right = { λ _. seat_view [] false };
+}
+
 /// Joining two seats in one view.
-pub struct Meet;
+pub(crate) struct Meet;
 
 impl<E> Join<SeatView<E>> for Meet {
     ghost both = { λ v w. seat_view (v.known ++ w.known) false };
@@ -111,10 +115,10 @@ impl<E> Join<SeatView<E>> for Meet {
 }
 
 /// Splitting the view again.
-pub struct Part;
+pub(crate) struct Part;
 
 impl<E> Split<SeatView<E>> for Part {
-    ghost left = { λ v. seat_view (first_of v.known) false };
+    ghost left = { λ v. seat_view (first_known v.known) false };
 
-    ghost right = { λ v. seat_view (others_of v.known) false };
+    ghost right = { λ v. seat_view (others_known v.known) false };
 }

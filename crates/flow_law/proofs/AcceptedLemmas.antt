@@ -16,10 +16,10 @@ use Rattle.flow_law.specs.declared.call.SharedCall.{SharedCall}
 use Rattle.flow_law.specs.declared.call.SharedCall.TheVariants as call
 use Rattle.flow_law.specs.declared.call.SharedReply.{SharedReply}
 use Rattle.flow_law.specs.declared.call.SharedReply.TheVariants as reply
-use Rattle.flow_law.specs.SharedFlow.{Numbered, SharedFlowState, Answer, answer, issuing, first_state, is_blocked, is_exhausted, position_of, own_of, values}
+use Rattle.flow_law.specs.SharedFlow.{Numbered, SharedFlowState, Replied, answer, issuing, first_state, is_blocked, is_exhausted, position_of, own_of, values}
 use Rattle.flow_law.specs.EmitRule.{appends, offers, when_blocked, is_open, emit_case, numbered, append, suspend, emit_in, try_emit_in}
 use Rattle.flow_law.specs.SharedStep.{admit, settle, advance, leave, enroll, next_from, read, next}
-use Rattle.flow_law.specs.SharedHistory.{History, IsLegal, IsLegalFrom, Replies, is_refused, reply_by, answer_to, after, after_all, state_after}
+use Rattle.flow_law.specs.SharedHistory.{History, IsLegalShared, IsLegalFrom, Replies, is_refused, reply_by, answer_to, after, shared_after_all, state_after}
 use Rattle.flow_law.specs.Laws.{NoIdleQueue}
 use Rattle.flow_law.specs.Accepted.{accepted_by, accepted, is_cancel, NoneCancelled, emitted_and_queued}
 use Rattle.flow_law.proofs.Moves.{open_not_blocked, event_keeps}
@@ -33,10 +33,10 @@ module _ {T : Type 0} where
 
   -- ---- what a flow that suspends does with an emission
 
-  issued_or_full : {R : Type 0} (Q : Answer R T → Type 0) (s : SharedFlowState T) (a : Answer R T) → Q (record { reply = Err Exhausted; after = s }) → Q a → Q (issuing s a)
+  issued_or_full : {R : Type 0} (Q : Replied R T → Type 0) (s : SharedFlowState T) (a : Replied R T) → Q (record { reply = Err Exhausted; after = s }) → Q a → Q (issuing s a)
   issued_or_full Q s a full q = cond_both (is_exhausted s) (record { reply = Err Exhausted; after = s }) a Q (λ _. full) (λ _. q)
 
-  emit_cases : (Q : Answer Emit T → Type 0) (s : SharedFlowState T) (v : T) → s.config.overflow ≡ Suspend → Q (record { reply = Err Exhausted; after = s })
+  emit_cases : (Q : Replied Emit T → Type 0) (s : SharedFlowState T) (v : T) → s.config.overflow ≡ Suspend → Q (record { reply = Err Exhausted; after = s })
       → ((r : Emit) → is_blocked s ≡ false → Q (answer r (append v s))) → Q (answer (Queued (s.issued + 1)) (suspend v s)) → Q (emit_in (emit_case s) v s)
   emit_cases Q s v o full a b = cond_both (is_open s) appends (cond (is_blocked s) (when_blocked s.config.overflow) offers) (λ m. Q (emit_in m v s))
       (λ e. issued_or_full Q s (answer Done (append v s)) full (a Done (open_not_blocked s e)))
@@ -44,7 +44,7 @@ module _ {T : Type 0} where
       (λ _. subst (λ (p : Overflow). Q (emit_in (when_blocked p) v s)) (sym o) (issued_or_full Q s (answer (Queued (s.issued + 1)) (suspend v s)) full b))
       (λ e. issued_or_full Q s (answer (Queued (s.issued + 1)) (append v s)) full (a (Queued (s.issued + 1)) e)))
 
-  try_emit_cases : (Q : Answer Bool T → Type 0) (s : SharedFlowState T) (v : T) → s.config.overflow ≡ Suspend → Q (record { reply = Err Exhausted; after = s })
+  try_emit_cases : (Q : Replied Bool T → Type 0) (s : SharedFlowState T) (v : T) → s.config.overflow ≡ Suspend → Q (record { reply = Err Exhausted; after = s })
       → (is_blocked s ≡ false → Q (answer true (append v s))) → Q (answer false s) → Q (try_emit_in (emit_case s) v s)
   try_emit_cases Q s v o full a b = cond_both (is_open s) appends (cond (is_blocked s) (when_blocked s.config.overflow) offers) (λ m. Q (try_emit_in m v s))
       (λ e. issued_or_full Q s (answer true (append v s)) full (a (open_not_blocked s e)))
@@ -119,7 +119,7 @@ module _ {T : Type 0} where
   event_adds s o idle call.ResetReplayCache r legal kept = kept_line s call.ResetReplayCache r refl
   event_adds s o idle call.SubscriptionCount r legal kept = kept_line s call.SubscriptionCount r refl
 
-  all_add : (s : SharedFlowState T) (h : History T) → s.config.overflow ≡ Suspend → Calm s → IsLegalFrom s h → NoneCancelled h → emitted_and_queued (after_all s h) ≡ emitted_and_queued s ++ accepted (map (λ e. e.what) h)
+  all_add : (s : SharedFlowState T) (h : History T) → s.config.overflow ≡ Suspend → Calm s → IsLegalFrom s h → NoneCancelled h → emitted_and_queued (shared_after_all s h) ≡ emitted_and_queued s ++ accepted (map (λ e. e.what) h)
   all_add s [] o calm legal kept = same_line s
   all_add s (e ∷ es) o calm legal kept =
       let c = e.what.call in let r = e.what.reply in let t = after s c r in
@@ -127,5 +127,5 @@ module _ {T : Type 0} where
       ∙ ap (λ l. l ++ accepted (map (λ e. e.what) es)) (event_adds s o calm.idle c r legal.0 kept.0)
       ∙ append_assoc (emitted_and_queued s) (accepted_by c r) (accepted (map (λ e. e.what) es))
 
-  pub accepts : (config : Config) (h : History T) → IsLegal config h → config.overflow ≡ Suspend → NoneCancelled h → emitted_and_queued (state_after config h) ≡ accepted (map (λ e. e.what) h)
+  pub accepts : (config : Config) (h : History T) → IsLegalShared config h → config.overflow ≡ Suspend → NoneCancelled h → emitted_and_queued (state_after config h) ≡ accepted (map (λ e. e.what) h)
   accepts config h legal o kept = all_add (first_state config) h o (record { fits = opened_fits (Numbered T) config.overflow; idle = λ _. refl }) legal.1 kept

@@ -12,7 +12,7 @@ use Rattle.flow_law.specs.declared.config.Config.{Config}
 use Rattle.flow_law.specs.SharedFlow.{Numbered, SharedFlowState, first_state, capacity, window, lag, is_blocked, is_offering, is_offered_as, is_queued, newest, position_of, stand_at}
 use Rattle.flow_law.specs.EmitRule.{numbered, append}
 use Rattle.flow_law.specs.SharedStep.{settle, withdraw}
-use Rattle.flow_law.specs.SharedHistory.{History, IsLegal, IsLegalFrom, shared_flow, after, after_all, state_after}
+use Rattle.flow_law.specs.SharedHistory.{History, IsLegalShared, IsLegalFrom, shared_flow, after, shared_after_all, state_after}
 use Rattle.flow_law.specs.Laws.{RisesTo, numbers}
 use Rattle.flow_law.specs.Waiting.{from_flow_by, from_flow, ahead, HasSlowSubscriber, Waits, EachWaits}
 use Rattle.flow_law.proofs.Moves.{Keeps, event_keeps, history_keeps, admit_keeps}
@@ -40,7 +40,7 @@ module _ {T : Type 0} where
 
   pub moves_on : (u base n : ℕ) (s : SharedFlowState T) (h : History T) → Sound s → Keeping s → IsLegalFrom s h → base ≤ length s.emitted → (s.issued < u → n ≡ 0)
       → ((p : ℕ) → position_of u s.subscribers ≡ Some p → base + n ≤ p + window s)
-      → (p : ℕ) → position_of u (after_all s h).subscribers ≡ Some p → base + (n + length (from_flow u s h)) ≤ p + window s
+      → (p : ℕ) → position_of u (shared_after_all s h).subscribers ≡ Some p → base + (n + length (from_flow u s h)) ≤ p + window s
   moves_on u base n s [] sound keeping legal low fresh bound p at = let here = bound p at in omega (arith, here)
   moves_on u base n s (e ∷ es) sound keeping legal low fresh bound p at =
       let t : SharedFlowState T = after s e.what.call e.what.reply in
@@ -218,18 +218,18 @@ module _ {T : Type 0} where
   admitted_from : (s : SharedFlowState T) (since : History T) → Sound s → Keeping s → InOrder s → IsLegalFrom s since → (e : ℕ) → Waits e s since
   admitted_from s since sound keeping ordered legal e = record { in_queue = queued; let_in = let_in; offered = offered }
     where
-      count : (u p : ℕ) → position_of u (after_all s since).subscribers ≡ Some p → length s.emitted + length (from_flow u s since) ≤ p + window s
+      count : (u p : ℕ) → position_of u (shared_after_all s since).subscribers ≡ Some p → length s.emitted + length (from_flow u s since) ≤ p + window s
       count u p at = let all = moves_on u (length s.emitted) 0 s since sound keeping legal (omega arith) (λ _. refl) (λ q here. let near = behind u q s keeping here in omega (arith, near)) p at in omega (arith, all)
 
-      waited : is_queued e s ≡ true → Waited e (length s.emitted + ahead e s.queue) (after_all s since)
+      waited : is_queued e s ≡ true → Waited e (length s.emitted + ahead e s.queue) (shared_after_all s since)
       waited before =
           let top : ℕ = length s.emitted + ahead e s.queue in
           let rises = queue_rises 0 s.issued s.emitted s.queue sound.rises in
           history_keeps (Waited e top) (waited_keeps e top) s since (record { sound = sound; issued = queued_below e rises.0 s.issued s.queue rises.1 before; early = λ _. omega arith; arrived = λ _. omega arith })
 
-      queued : is_queued e s ≡ true → is_queued e (after_all s since) ≡ true → HasSlowSubscriber (ahead e s.queue) s since
+      queued : is_queued e s ≡ true → is_queued e (shared_after_all s since) ≡ true → HasSlowSubscriber (ahead e s.queue) s since
       queued before now =
-          let t : SharedFlowState T = after_all s since in
+          let t : SharedFlowState T = shared_after_all s since in
           let after_it = waited before in
           let blocked : is_blocked t ≡ true = split (is_blocked t) (λ b. is_blocked t ≡ b → is_blocked t ≡ true) (λ _ k. k) (λ _ free. absurd (none_queued e t (after_it.sound.calm.idle free) now)) refl in
           let slow = found_by_number (λ u. nat_le (window t) (lag t u)) 0 t.issued t.subscribers (history_keeps InOrder in_order_keeps s since ordered) blocked in
@@ -238,9 +238,9 @@ module _ {T : Type 0} where
           (slow.0.number, subst IsSome (sym slow.2) refl, omega (arith, far, wide, after_it.early now, count slow.0.number slow.0.position slow.2))
 
       -- while e is offered and at most n values were emitted since, some subscriber has received at most n
-      offering_to : (n : ℕ) → is_offered_as e (after_all s since) ≡ true → length (after_all s since).emitted ≤ length s.emitted + n → HasSlowSubscriber n s since
+      offering_to : (n : ℕ) → is_offered_as e (shared_after_all s since) ≡ true → length (shared_after_all s since).emitted ≤ length s.emitted + n → HasSlowSubscriber n s since
       offering_to n now short =
-          let t : SharedFlowState T = after_all s since in
+          let t : SharedFlowState T = shared_after_all s since in
           let offering = and_parts (capacity t == 0) (list_any (λ u. lag t u == 1) t.subscribers) (and_parts (is_offering t) (newest t == e) now).0 in
           let no_buffer : capacity t ≡ 0 = (Decides-eqb (capacity t) 0).0 offering.0 in
           let slow = found_by_number (λ u. lag t u == 1) 0 t.issued t.subscribers (history_keeps InOrder in_order_keeps s since ordered) offering.1 in
@@ -248,31 +248,31 @@ module _ {T : Type 0} where
           let wide : window t ≡ window s = same_window s t (history_grown s since) in
           (slow.0.number, subst IsSome (sym slow.2) refl, omega (arith, near, wide, no_buffer, short, count slow.0.number slow.0.position slow.2))
 
-      let_in : is_queued e s ≡ true → is_offered_as e (after_all s since) ≡ true → HasSlowSubscriber (ahead e s.queue + 1) s since
+      let_in : is_queued e s ≡ true → is_offered_as e (shared_after_all s since) ≡ true → HasSlowSubscriber (ahead e s.queue + 1) s since
       let_in before now =
-          let t : SharedFlowState T = after_all s since in
+          let t : SharedFlowState T = shared_after_all s since in
           let last : newest t ≡ e = (Decides-eqb (newest t) e).0 (and_parts (is_offering t) (newest t == e) now).1 in
           let bound = (waited before).arrived last in
           offering_to (ahead e s.queue + 1) now (omega (arith, bound))
 
-      none_came : (more : List (Numbered T)) → (after_all s since).emitted ≡ s.emitted ++ more → newest (after_all s since) ≡ newest s → length (after_all s since).emitted ≡ length s.emitted
+      none_came : (more : List (Numbered T)) → (shared_after_all s since).emitted ≡ s.emitted ++ more → newest (shared_after_all s since) ≡ newest s → length (shared_after_all s since).emitted ≡ length s.emitted
       none_came [] log same = ap length (log ∙ append-nil s.emitted)
       none_came (x ∷ more) log same =
-          let t : SharedFlowState T = after_all s since in
+          let t : SharedFlowState T = shared_after_all s since in
           let rises : RisesTo 0 (map (λ e. e.number) ((s.emitted ++ x ∷ more) ++ t.queue)) t.issued = subst (λ l. RisesTo 0 (map (λ (e : Numbered T). e.number) (l ++ t.queue)) t.issued) log (history_keeps Sound sound_keeps s since sound).rises in
           let later = last_rises 0 t.issued s.emitted x more t.queue rises in
           let same_last : newest t ≡ last_number (s.emitted ++ x ∷ more) = ap last_number log in
           absurd (omega (arith, later, same_last, same))
 
-      offered : is_offered_as e s ≡ true → is_offered_as e (after_all s since) ≡ true → HasSlowSubscriber 0 s since
+      offered : is_offered_as e s ≡ true → is_offered_as e (shared_after_all s since) ≡ true → HasSlowSubscriber 0 s since
       offered before now =
-          let t : SharedFlowState T = after_all s since in
+          let t : SharedFlowState T = shared_after_all s since in
           let grown = history_grown s since in
           let is_last : newest s ≡ e = (Decides-eqb (newest s) e).0 (and_parts (is_offering s) (newest s == e) before).1 in
           let still_last : newest t ≡ e = (Decides-eqb (newest t) e).0 (and_parts (is_offering t) (newest t == e) now).1 in
           let same_log = none_came grown.more grown.log (still_last ∙ sym is_last) in
           offering_to 0 now (omega (arith, same_log))
 
-  pub admits : (config : Config) (h : History T) → IsLegal config h → EachWaits config h
+  pub admits : (config : Config) (h : History T) → IsLegalShared config h → EachWaits config h
   admits config h legal before since is e = admitted_from (state_after config before) since (always_sound config before) (always_keeping config before) (always_in_order config before)
       (legal_right shared_flow (first_state config) before since (subst (IsLegalFrom (first_state config)) is legal.1)) e

@@ -15,7 +15,7 @@ use Rattle.flow_law.specs.declared.call.StateReply.{StateReply}
 use Rattle.flow_law.specs.declared.call.StateReply.TheVariants.{Answered, Subscribed, Received, Refused}
 use Rattle.flow_law.specs.SharedFlow.{Numbered, Subscriber, SharedFlowState, cache}
 use Rattle.flow_law.specs.SharedStep as flow
-use Rattle.flow_law.specs.StateFlow.{StateFlowState, StateHistory, first_state_flow, after, IsReply, Receives, MayNeedMemory, is_exhausted, last_of, with_last, without_subscriber, IsLegalState}
+use Rattle.flow_law.specs.StateFlow.{StateFlowState, StateHistory, first_state_flow, state_flow_after, IsReply, Receives, MayNeedMemory, is_state_exhausted, last_got_by, with_last, without_subscriber, IsLegalState}
 use Rattle.flow_law.specs.Conflation.{Beside, beside, newest_only, emitting, subscribing, reading, leaving, follows, Conflated, Agrees, AgreeAll, passed_on}
 use Rattle.flow_law.proofs.ReplyLemmas.{state_replies_cases}
 use Rattle.flow_law.proofs.Rows.{split}
@@ -34,7 +34,7 @@ untrue h = let both : false ≡ true = subst (λ b. IsTrue b) refl h in cc
 module _ {T : Type 0} where
   -- u is in neither flow
   abbrev Away : ℕ → StateFlowState T → List (Subscriber T) → Type 0
-  Away u s us = (us ≡ []) × (last_of u s.subscribers ≡ None)
+  Away u s us = (us ≡ []) × (last_got_by u s.subscribers ≡ None)
 
   -- u is in both. It has the newest value still to receive, or that is what it got last
   pub record Here (u : ℕ) (s : StateFlowState T) (m : Beside T) (n : ℕ) (us : List (Subscriber T)) : Type 0 where
@@ -42,7 +42,7 @@ module _ {T : Type 0} where
     pub p : ℕ
     pub number : m.number ≡ Some k
     pub row : us ≡ sole k p
-    pub last : last_of u s.subscribers ≡ Some m.last
+    pub last : last_got_by u s.subscribers ≡ Some m.last
     pub old : u ≤ s.issued
     pub place : ((p ≡ n) × (m.last ≡ Some s.value)) ⊎ (p + 1 ≡ n)
 
@@ -95,7 +95,7 @@ module _ {T : Type 0} where
       ]
 
   -- after a call that u did not make, which lets u's last value stay
-  others : (u limit room : ℕ) (s s2 : StateFlowState T) (m : Beside T) → s2.value ≡ s.value → s.issued ≤ s2.issued → last_of u s2.subscribers ≡ last_of u s.subscribers → Along u limit (suc room) s m → Along u limit room s2 m
+  others : (u limit room : ℕ) (s s2 : StateFlowState T) (m : Beside T) → s2.value ≡ s.value → s.issued ≤ s2.issued → last_got_by u s2.subscribers ≡ last_got_by u s.subscribers → Along u limit (suc room) s m → Along u limit room s2 m
   others u limit room s s2 m value more same a = record {
     emitted = a.emitted;
     us = a.us;
@@ -119,7 +119,7 @@ module _ {T : Type 0} where
   }
 
   abbrev pub Kept : ℕ → ℕ → ℕ → StateFlowState T → Beside T → StateCall T → StateReply T → Type 0
-  Kept u limit room s m c r = Agrees u m c r × Along u limit room (after s c r) (follows u m c r)
+  Kept u limit room s m c r = Agrees u m c r × Along u limit room (state_flow_after s c r) (follows u m c r)
 
   enlisted : (u limit room : ℕ) (s : StateFlowState T) (m : Beside T) (name : List ℕ) → Along u limit (suc room) s m → Kept u limit room s m (Subscribe name) (Subscribed (s.issued + 1))
   enlisted u limit room s m name a = (
@@ -135,12 +135,12 @@ module _ {T : Type 0} where
                 us = sole (a.issued + 1) (max 0 (length a.emitted - 1));
                 issued = a.issued + 1;
                 front = a.front;
-                is = ap (λ (t : flow.Answer ℕ T). t.after) done;
+                is = ap (λ (t : flow.Replied ℕ T). t.after) done;
                 newest = a.newest;
                 seat = inr (record {
                   k = a.issued + 1;
                   p = max 0 (length a.emitted - 1);
-                  number = ap (λ (t : flow.Answer ℕ T). Rattle.flow_law.specs.Conflation.given t.reply) done;
+                  number = ap (λ (t : flow.Replied ℕ T). Rattle.flow_law.specs.Conflation.given_number t.reply) done;
                   row = refl;
                   last = last-snoc u s.subscribers (record { number = s.issued + 1; last = None }) away.1 is;
                   old = omega (arith, is);
@@ -155,22 +155,22 @@ module _ {T : Type 0} where
   )
 
   -- u's own reads
-  read_away : (u limit room : ℕ) (s : StateFlowState T) (m : Beside T) (k : ℕ) → Along u limit (suc room) s m → last_of u s.subscribers ≡ None → (flow.next k m.shared ≡ flow.answer Gone m.shared)
+  read_away : (u limit room : ℕ) (s : StateFlowState T) (m : Beside T) (k : ℕ) → Along u limit (suc room) s m → last_got_by u s.subscribers ≡ None → (flow.next k m.shared ≡ flow.answer Gone m.shared)
   read_away u limit room s m k a none = elim a.seat as (λ _. flow.next k m.shared ≡ flow.answer Gone m.shared) [
     | inl away ↦ let is : m.shared ≡ built limit a.emitted [] a.issued = a.is ∙ ap (λ r. built limit a.emitted r a.issued) away.0 in
         subst (λ t. flow.next k t ≡ flow.answer Gone t) (sym is) refl
     | inr here ↦ absurd (none_or_some m.last (sym none ∙ here.last))
   ]
 
-  got_gone : (u limit room n : ℕ) (s : StateFlowState T) (m : Beside T) → Along u limit (suc room) s m → last_of n s.subscribers ≡ None → Kept u limit room s m (TakeNext n) (Received Gone)
+  got_gone : (u limit room n : ℕ) (s : StateFlowState T) (m : Beside T) → Along u limit (suc room) s m → last_got_by n s.subscribers ≡ None → Kept u limit room s m (TakeNext n) (Received Gone)
   got_gone u limit room n s m a none = split (n == u)
       (λ t. (n == u) ≡ t → (n ≡ u → (k : ℕ) → m.number ≡ Some k → Conflated m.last (flow.next k m.shared).reply Gone) × Along u limit room s (cond t (option_map_or (λ k. reading k m) m.number m) m))
       (λ e _. let is : n ≡ u = (Decides-eqb n u).0 e in
-      let gone : last_of u s.subscribers ≡ None = subst (λ j. last_of j s.subscribers ≡ None) is none in (
-        λ _ k _. subst (λ (x : flow.Answer _ T). Conflated m.last x.reply Gone) (sym (read_away u limit room s m k a gone)) refl,
+      let gone : last_got_by u s.subscribers ≡ None = subst (λ j. last_got_by j s.subscribers ≡ None) is none in (
+        λ _ k _. subst (λ (x : flow.Replied _ T). Conflated m.last x.reply Gone) (sym (read_away u limit room s m k a gone)) refl,
         stays m.number (λ k. read_away u limit room s m k a gone),
       ))
-      (λ e _. (λ is k _. subst (λ (x : flow.Answer _ T). Conflated m.last x.reply Gone) (sym (read_away u limit room s m k a (subst (λ j. last_of j s.subscribers ≡ None) is none))) refl, less u limit room s m a)) refl
+      (λ e _. (λ is k _. subst (λ (x : flow.Replied _ T). Conflated m.last x.reply Gone) (sym (read_away u limit room s m k a (subst (λ j. last_got_by j s.subscribers ≡ None) is none))) refl, less u limit room s m a)) refl
     where
       stays : (o : Option ℕ) → ((k : ℕ) → flow.next k m.shared ≡ flow.answer Gone m.shared) → Along u limit room s (option_map_or (λ k. reading k m) o m)
       stays None f = less u limit room s m a
@@ -179,14 +179,14 @@ module _ {T : Type 0} where
   abbrev OwnRead : ℕ → ℕ → ℕ → StateFlowState T → Beside T → Next T → Type 0
   OwnRead u limit room s m r =
       ((k : ℕ) → m.number ≡ Some k → Conflated m.last (flow.next k m.shared).reply r)
-      × Along u limit room (after s (TakeNext u) (Received r)) (option_map_or (λ k. reading k m) m.number m)
+      × Along u limit room (state_flow_after s (TakeNext u) (Received r)) (option_map_or (λ k. reading k m) m.number m)
 
-  own_read : (u limit room k : ℕ) (s : StateFlowState T) (m : Beside T) (r : Next T) (x : flow.Answer (Next T) T) → m.number ≡ Some k → flow.next k m.shared ≡ x → Conflated m.last x.reply r
-      → Along u limit room (after s (TakeNext u) (Received r)) (record m { shared = x.after; last = passed_on x.reply m.last }) → OwnRead u limit room s m r
+  own_read : (u limit room k : ℕ) (s : StateFlowState T) (m : Beside T) (r : Next T) (x : flow.Replied (Next T) T) → m.number ≡ Some k → flow.next k m.shared ≡ x → Conflated m.last x.reply r
+      → Along u limit room (state_flow_after s (TakeNext u) (Received r)) (record m { shared = x.after; last = passed_on x.reply m.last }) → OwnRead u limit room s m r
   own_read u limit room k s m r x number reads c a = (
-    λ j e. subst (λ i. Conflated m.last (flow.next i m.shared).reply r) (same_some k j (sym number ∙ e)) (subst (λ (y : flow.Answer (Next T) T). Conflated m.last y.reply r) (sym reads) c),
-    subst (λ o. Along u limit room (after s (TakeNext u) (Received r)) (option_map_or (λ k. reading k m) o m)) (sym number)
-        (subst (λ (y : flow.Answer (Next T) T). Along u limit room (after s (TakeNext u) (Received r)) (record m { shared = y.after; last = passed_on y.reply m.last })) (sym reads) a),
+    λ j e. subst (λ i. Conflated m.last (flow.next i m.shared).reply r) (same_some k j (sym number ∙ e)) (subst (λ (y : flow.Replied (Next T) T). Conflated m.last y.reply r) (sym reads) c),
+    subst (λ o. Along u limit room (state_flow_after s (TakeNext u) (Received r)) (option_map_or (λ k. reading k m) o m)) (sym number)
+        (subst (λ (y : flow.Replied (Next T) T). Along u limit room (state_flow_after s (TakeNext u) (Received r)) (record m { shared = y.after; last = passed_on y.reply m.last })) (sym reads) a),
   )
 
   reads_behind : (u limit room : ℕ) (s : StateFlowState T) (m : Beside T) (a : Along u limit (suc room) s m) (here : Here u s m (length a.emitted) a.us) → here.p ≡ length a.emitted → flow.next here.k m.shared ≡ flow.answer Empty m.shared
@@ -203,7 +203,7 @@ module _ {T : Type 0} where
 
   -- the one subscriber has now passed the newest value
   caught_up : (u limit room : ℕ) (s s2 : StateFlowState T) (m : Beside T) (a : Along u limit (suc room) s m) (here : Here u s m (length a.emitted) a.us) → here.p + 1 ≡ length a.emitted
-      → s2.value ≡ s.value → s2.issued ≡ s.issued → last_of u s2.subscribers ≡ Some (Some s.value)
+      → s2.value ≡ s.value → s2.issued ≡ s.issued → last_got_by u s2.subscribers ≡ Some (Some s.value)
       → Along u limit room s2 (record m { shared = built limit a.emitted (sole here.k (here.p + 1)) a.issued; last = Some s.value })
   caught_up u limit room s s2 m a here e value issued got = record {
     emitted = a.emitted;
@@ -230,13 +230,13 @@ module _ {T : Type 0} where
         (caught_up u limit room s (record s { subscribers = with_last u s.value s.subscribers }) m a here e refl refl (last-with u s.value m.last s.subscribers here.last))
   ]
 
-  here_from : (u limit room : ℕ) (s : StateFlowState T) (m : Beside T) (a : Along u limit (suc room) s m) (last : Option T) → last_of u s.subscribers ≡ Some last → Here u s m (length a.emitted) a.us
+  here_from : (u limit room : ℕ) (s : StateFlowState T) (m : Beside T) (a : Along u limit (suc room) s m) (last : Option T) → last_got_by u s.subscribers ≡ Some last → Here u s m (length a.emitted) a.us
   here_from u limit room s m a last at = elim a.seat as (λ _. Here u s m (length a.emitted) a.us) [
     | inl away ↦ absurd (none_or_some last (sym away.1 ∙ at))
     | inr here ↦ here
   ]
 
-  got_empty : (u limit room n : ℕ) (s : StateFlowState T) (m : Beside T) (last : Option T) → Along u limit (suc room) s m → last_of n s.subscribers ≡ Some last → last ≡ Some s.value → Kept u limit room s m (TakeNext n) (Received Empty)
+  got_empty : (u limit room n : ℕ) (s : StateFlowState T) (m : Beside T) (last : Option T) → Along u limit (suc room) s m → last_got_by n s.subscribers ≡ Some last → last ≡ Some s.value → Kept u limit room s m (TakeNext n) (Received Empty)
   got_empty u limit room n s m last a at same = split (n == u)
       (λ t. (n == u) ≡ t → (n ≡ u → (k : ℕ) → m.number ≡ Some k → Conflated m.last (flow.next k m.shared).reply Empty) × Along u limit room s (cond t (option_map_or (λ k. reading k m) m.number m) m))
       (λ e _. let is : n ≡ u = (Decides-eqb n u).0 e in (λ _. (own is).0, (own is).1))
@@ -244,10 +244,10 @@ module _ {T : Type 0} where
     where
       own : n ≡ u → OwnRead u limit room s m Empty
       own is =
-          let here = here_from u limit room s m a last (subst (λ j. last_of j s.subscribers ≡ Some last) is at) in
-          own_empty u limit room s m a here (same_some m.last last (sym here.last ∙ subst (λ j. last_of j s.subscribers ≡ Some last) is at) ∙ same)
+          let here = here_from u limit room s m a last (subst (λ j. last_got_by j s.subscribers ≡ Some last) is at) in
+          own_empty u limit room s m a here (same_some m.last last (sym here.last ∙ subst (λ j. last_got_by j s.subscribers ≡ Some last) is at) ∙ same)
 
-  got_value : (u limit room n : ℕ) (s : StateFlowState T) (m : Beside T) (last : Option T) → Along u limit (suc room) s m → last_of n s.subscribers ≡ Some last → last ≢ Some s.value → Kept u limit room s m (TakeNext n) (Received (Value s.value))
+  got_value : (u limit room n : ℕ) (s : StateFlowState T) (m : Beside T) (last : Option T) → Along u limit (suc room) s m → last_got_by n s.subscribers ≡ Some last → last ≢ Some s.value → Kept u limit room s m (TakeNext n) (Received (Value s.value))
   got_value u limit room n s m last a at other = split (n == u)
       (λ t. (n == u) ≡ t → (n ≡ u → (k : ℕ) → m.number ≡ Some k → Conflated m.last (flow.next k m.shared).reply (Value s.value))
       × Along u limit room (record s { subscribers = with_last n s.value s.subscribers }) (cond t (option_map_or (λ k. reading k m) m.number m) m))
@@ -259,8 +259,8 @@ module _ {T : Type 0} where
     where
       own : n ≡ u → OwnRead u limit room s m (Value s.value)
       own is =
-          let here = here_from u limit room s m a last (subst (λ j. last_of j s.subscribers ≡ Some last) is at) in
-          own_value u limit room s m a here (λ k. other (sym (same_some m.last last (sym here.last ∙ subst (λ j. last_of j s.subscribers ≡ Some last) is at)) ∙ k))
+          let here = here_from u limit room s m a last (subst (λ j. last_got_by j s.subscribers ≡ Some last) is at) in
+          own_value u limit room s m a here (λ k. other (sym (same_some m.last last (sym here.last ∙ subst (λ j. last_got_by j s.subscribers ≡ Some last) is at)) ∙ k))
 
   left_both : (u limit room k : ℕ) (s : StateFlowState T) (m : Beside T) (a : Along u limit (suc room) s m) → (o : Option ℕ) → m.number ≡ o → Along u limit room (record s { subscribers = without_subscriber u s.subscribers }) (option_map_or (λ k. leaving k m) o m)
   left_both u limit room k s m a o e = elim a.seat as (λ _. Along u limit room (record s { subscribers = without_subscriber u s.subscribers }) (option_map_or (λ k. leaving k m) o m)) [
@@ -296,7 +296,7 @@ module _ {T : Type 0} where
         (λ e. others u limit room s (record s { subscribers = without_subscriber n s.subscribers }) m refl (omega arith) (last-without_other u n s.subscribers e) a),
   )
 
-  received_kept : (u limit room n : ℕ) (s : StateFlowState T) (m : Beside T) (r : StateReply T) → Along u limit (suc room) s m → (o : Option (Option T)) → last_of n s.subscribers ≡ o → Receives s.value o r → Kept u limit room s m (TakeNext n) r
+  received_kept : (u limit room n : ℕ) (s : StateFlowState T) (m : Beside T) (r : StateReply T) → Along u limit (suc room) s m → (o : Option (Option T)) → last_got_by n s.subscribers ≡ o → Receives s.value o r → Kept u limit room s m (TakeNext n) r
   received_kept u limit room n s m r a None at is = subst (λ k. Kept u limit room s m (TakeNext n) k) (sym is) (got_gone u limit room n s m a at)
   received_kept u limit room n s m r a (Some last) at is = elim is as (λ _. Kept u limit room s m (TakeNext n) r) [
     | inl e ↦ subst (λ k. Kept u limit room s m (TakeNext n) k) (sym e.1) (got_empty u limit room n s m last a at e.0)
@@ -313,9 +313,9 @@ module _ {T : Type 0} where
     | inr e ↦ subst (λ k. Kept u limit room s m (CompareAndSet x y) k) (sym e.1) (tt, less u limit room s m a)
   ]
   answered u limit room s m (Subscribe name) r a is = subst (λ k. Kept u limit room s m (Subscribe name) k) (sym is)
-      (cond_both (is_exhausted s) (Refused Exhausted) (Subscribed (s.issued + 1)) (λ k. Kept u limit room s m (Subscribe name) k) (λ _. (tt, less u limit room s m a)) (λ _. enlisted u limit room s m name a))
-  answered u limit room s m (TakeNext n) r a is = received_kept u limit room n s m r a (last_of n s.subscribers) refl is
-  answered u limit room s m (Unsubscribe n) r a is = subst (λ k. Kept u limit room s m (Unsubscribe n) k) (sym is) (departed u limit room n (is_some (last_of n s.subscribers)) s m a)
+      (cond_both (is_state_exhausted s) (Refused Exhausted) (Subscribed (s.issued + 1)) (λ k. Kept u limit room s m (Subscribe name) k) (λ _. (tt, less u limit room s m a)) (λ _. enlisted u limit room s m name a))
+  answered u limit room s m (TakeNext n) r a is = received_kept u limit room n s m r a (last_got_by n s.subscribers) refl is
+  answered u limit room s m (Unsubscribe n) r a is = subst (λ k. Kept u limit room s m (Unsubscribe n) k) (sym is) (departed u limit room n (is_some (last_got_by n s.subscribers)) s m a)
   answered u limit room s m SubscriptionCount r a is = (tt, less u limit room s m a)
   answered u limit room s m ReplayCache r a is = subst (λ k. Kept u limit room s m ReplayCache k) (sym is) (cached u limit (suc room) s m a, less u limit room s m a)
   answered u limit room s m ResetReplayCache r a is = (tt, less u limit room s m a)
@@ -340,7 +340,7 @@ module _ {T : Type 0} where
         | inl is ↦ answered u limit (length es) s m e.what.call e.what.reply a is
         | inr is ↦ subst (λ k. Kept u limit (length es) s m e.what.call k) (sym is.0) (short u limit (length es) s m e.what.call a is.1)
       ] in
-      (step.0, agree u limit (after s e.what.call e.what.reply) (follows u m e.what.call e.what.reply) es step.1 legal.1)
+      (step.0, agree u limit (state_flow_after s e.what.call e.what.reply) (follows u m e.what.call e.what.reply) es step.1 legal.1)
 
   pub conflates : (limit : ℕ) (first : T) (h : StateHistory T) → IsLegalState (first_state_flow limit first) h → (u unreached : ℕ) → length h < unreached → AgreeAll u (beside unreached first) h
   conflates limit first h legal u unreached l = agree u unreached (first_state_flow limit first) (beside unreached first) h (record {

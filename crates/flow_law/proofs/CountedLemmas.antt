@@ -9,7 +9,7 @@ use Rattle.flow_law.specs.declared.call.StateReply.{StateReply}
 use Rattle.flow_law.specs.declared.states.StateFlowState.{StateFlowState}
 use Rattle.flow_law.specs.Growth.{child_name, first_knowledge}
 use Rattle.flow_law.specs.Tokens.{Token}
-use Rattle.flow_law.specs.Updates.{StateToken}
+use Rattle.flow_law.specs.Updates.{StateTokenOf}
 use Rattle.flow_law.specs.Done.{total, done_by}
 use Rattle.flow_law.specs.Closed.{AreAll, AreNumbered, makes_many, nth_child}
 use Rattle.flow_law.specs.UpdateCounts.{iterate, updates, OnlyUpdates, UpdatesTimes}
@@ -44,7 +44,7 @@ module _ {Id E W : Type 0} (seat : W → Token Id E) where
 abbrev Says : Type 0 → Type 0
 Says T = Said (StateCall T) (StateReply T)
 
-module _ {Id T W : Type 0} (seat : W → StateToken Id T) (g : T → T) where
+module _ {Id T W : Type 0} (seat : W → StateTokenOf Id T) (g : T → T) where
   only_by_place : (ws : List W) → ((i : ℕ) (d : W) → i < length ws → OnlyUpdates g (done_by (seat (get_or ws i d)).knows)) → AllByRecursion (λ (k : Knowledge (Says T)). OnlyUpdates g (done_by k)) (knows_all seat ws)
   only_by_place [] h = tt
   only_by_place (w ∷ ws) h = (h 0 w (omega arith), only_by_place ws (λ i d l. h (suc i) d (omega arith)))

@@ -9,7 +9,7 @@ use Rattle.flow_law.specs.declared.config.Overflow.TheVariants.{Suspend, DropOld
 use Rattle.flow_law.specs.declared.fault.FlowFault.TheVariants.{NeedsBuffer, TooLarge}
 use Rattle.flow_law.specs.SharedFlow.{SharedFlowState, first_state, capacity, config_fault, largest_capacity, needs_no_buffer, is_offered_as, stand_at}
 use Rattle.flow_law.specs.SharedStep.{withdraw, advance, leave}
-use Rattle.flow_law.specs.SharedHistory.{History, after, after_all, state_after, IsLegalFrom, IsLegal}
+use Rattle.flow_law.specs.SharedHistory.{History, after, shared_after_all, state_after, IsLegalFrom, IsLegalShared}
 use Rattle.flow_law.specs.Mailbox.{Mailbox, Beginning, mailbox_by, mailbox_from, received_by, received, began_by, began_from}
 use Rattle.flow_law.specs.Laws.{Delivers}
 use Rattle.flow_law.proofs.Moves.{Keeps, event_keeps, history_keeps}
@@ -46,7 +46,7 @@ module _ {T : Type 0} where
   }
 
   follow : (u : ℕ) (b : Beginning T) (config : Config) (s : SharedFlowState T) (m : Mailbox T) (h : History T) → config_fault config ≡ None → s.config ≡ config → Sound s → Boxed u s m b → IsLegalFrom s h
-      → Boxed u (after_all s h) (mailbox_from u s h m) (began_from u s h b) × ((mailbox_from u s h m).taken ≡ m.taken ++ received u h)
+      → Boxed u (shared_after_all s h) (mailbox_from u s h m) (began_from u s h b) × ((mailbox_from u s h m).taken ≡ m.taken ++ received u h)
   follow u b config s m [] ok is sound boxed legal = (boxed, sym (Rattle.std.proofs.Common.append-nil m.taken))
   follow u b config s m (e ∷ es) ok is sound boxed legal =
       let fits : s.config.overflow ≡ DropOldest → 0 < capacity s = λ o. subst (λ (g : Config). 0 < g.replay + g.extra) (sym is) (usable config ok (ap (λ (g : Config). g.overflow) (sym is) ∙ o)) in
@@ -56,7 +56,7 @@ module _ {T : Type 0} where
       (event_keeps Sound s sound (sound_keeps s sound) e.what.call e.what.reply) step.0 legal.1 in
       (rest.0, rest.1 ∙ ap (λ l. l ++ received u es) step.1 ∙ append_assoc m.taken (received_by u e.what.call e.what.reply) (received u es))
 
-  pub delivers : (config : Config) (h : History T) → IsLegal config h → (u : ℕ) → Delivers u config h
+  pub delivers : (config : Config) (h : History T) → IsLegalShared config h → (u : ℕ) → Delivers u config h
   delivers config h legal u =
       let empty : Mailbox T = record { taken = []; own = []; box = [] } in
       let nothing : Beginning T = record { first = []; entry = 0 } in

@@ -8,7 +8,7 @@ use Rattle.flow_law.specs.declared.outcome.Next.{Next}
 use Rattle.flow_law.specs.declared.outcome.Next.TheVariants as next
 use Rattle.flow_law.specs.declared.outcome.Drained.{Drained}
 use Rattle.flow_law.specs.declared.outcome.Drained.TheVariants as drained
-use Rattle.flow_law.specs.Draining.{NextsGive, Takes}
+use Rattle.flow_law.specs.Draining.{NextsGive, TakesAtMost}
 
 takes_more : {P A : Type 0} (R : P → A → P → Type 0) (p q r : P) (xs : List A) (x : A) → FoldsTo R p xs q → R q x r → FoldsTo R p (xs ++ x ∷ []) r
 takes_more R p q r [] x folds more = (r, subst (λ t. R t x r) (sym folds) more, refl)
@@ -37,7 +37,7 @@ module _ {X T : Type 0} (Nexts : X → Result (Next T) FlowFault → X → Type 
   -- how a drain ends, if `Ends` says what may end it
   module _ (Ends : X → Result Drained FlowFault → X → Type 0) where
     pub takes_most : (most : ℕ) (old now : X) (old_list list : List T) → HasTaken most old old_list list now → Ends now (Ok drained.Most) now
-        → Takes Nexts Ends most old old_list (Ok drained.Most) list now
+        → TakesAtMost Nexts Ends most old old_list (Ok drained.Most) list now
     takes_most most old now old_list list h ended = record {
       values = h.values;
       last = now;
@@ -49,7 +49,7 @@ module _ {X T : Type 0} (Nexts : X → Result (Next T) FlowFault → X → Type 
     }
 
     pub takes_before : (n most : ℕ) (old now after : X) (old_list list : List T) (result : Result Drained FlowFault) → HasTaken n old old_list list now → n < most
-        → Ends now result after → result ≢ Ok drained.Most → Takes Nexts Ends most old old_list result list after
+        → Ends now result after → result ≢ Ok drained.Most → TakesAtMost Nexts Ends most old old_list result list after
     takes_before n most old now after old_list list result h less ended other = record {
       values = h.values;
       last = now;

@@ -8,7 +8,7 @@ use Rattle.std.proofs.lemmas.Option.{slice_get_past, slice_get_within}
 use Rattle.flow_law.specs.declared.config.Config.{Config}
 use Rattle.flow_law.specs.declared.config.Overflow.TheVariants.{DropOldest}
 use Rattle.flow_law.specs.SharedFlow.{Numbered, SharedFlowState, first_state, capacity, entry, values, position_of}
-use Rattle.flow_law.specs.SharedHistory.{History, IsLegal, IsLegalFrom, after, after_all, state_after}
+use Rattle.flow_law.specs.SharedHistory.{History, IsLegalShared, IsLegalFrom, after, shared_after_all, state_after}
 use Rattle.flow_law.specs.Mailbox.{Beginning, began, began_by, began_from, box, keep_last}
 use Rattle.flow_law.specs.Waiting.{from_flow_by, from_flow}
 use Rattle.flow_law.specs.Lagging.{IsSubsequence, IsSuffix, Lags, EachLags}
@@ -145,7 +145,7 @@ module _ {T : Type 0} where
   Trail u g s entered got = (p : ℕ) → position_of u s.subscribers ≡ Some p → Read (values s) (g.replay + g.extra) entered p (NoSkip g) got
 
   trails : (u : ℕ) (g : Config) (b : Beginning T) (got : List T) (s : SharedFlowState T) (h : History T) → s.config ≡ g → Sound s → IsLegalFrom s h → (s.issued < u → got ≡ [])
-      → Trail u g s b.entry got → Trail u g (after_all s h) (began_from u s h b).entry (got ++ from_flow u s h)
+      → Trail u g s b.entry got → Trail u g (shared_after_all s h) (began_from u s h b).entry (got ++ from_flow u s h)
   trails u g b got s [] is sound legal fresh trail = λ p at. subst (Read (values s) (g.replay + g.extra) b.entry p (NoSkip g)) (sym (append-nil got)) (trail p at)
   trails u g b got s (e ∷ es) is sound legal fresh trail =
       let t : SharedFlowState T = after s e.what.call e.what.reply in
@@ -156,7 +156,7 @@ module _ {T : Type 0} where
       let rest = trails u g (began_by u s e.what.call e.what.reply b) (got ++ new) t es (grown.config ∙ is) sound_after legal.1
       (λ l. let l2 : s.issued < u = omega (arith, l, grown.issued) in ap (λ r. r ++ new) (fresh l2) ∙ step.early l2)
       (λ q at. moved t new (began_by u s e.what.call e.what.reply) grown q (stands_within u q t sound_after.placed at) (step.place q at)) in
-      λ p at. subst (Read (values (after_all t es)) (g.replay + g.extra) (began_from u t es (began_by u s e.what.call e.what.reply b)).entry p (NoSkip g)) (append_assoc got new (from_flow u t es)) (rest p at)
+      λ p at. subst (Read (values (shared_after_all t es)) (g.replay + g.extra) (began_from u t es (began_by u s e.what.call e.what.reply b)).entry p (NoSkip g)) (append_assoc got new (from_flow u t es)) (rest p at)
     where
       as_before : (t : SharedFlowState T) (new : List T) (begin : Beginning T → Beginning T) (q : ℕ) (now : List T) → begin b ≡ b → got ++ new ≡ now → Read (values t) (g.replay + g.extra) b.entry q (NoSkip g) now
           → Read (values t) (g.replay + g.extra) (begin b).entry q (NoSkip g) (got ++ new)
@@ -212,7 +212,7 @@ module _ {T : Type 0} where
         | inr near ↦ subst (λ l. IsSuffix l (got ++ drop p log)) (sym (from near)) (ends_both (drop p log) (drop (max entered (length log - room)) (take p log)) got h)
       ]
 
-  pub lags : (config : Config) (h : History T) → IsLegal config h → EachLags config h
+  pub lags : (config : Config) (h : History T) → IsLegalShared config h → EachLags config h
   lags config h legal u there = at (position_of u (state_after config h).subscribers) refl there
     where
       at : (o : Option ℕ) → position_of u (state_after config h).subscribers ≡ o → IsSome o → Lags u config h

@@ -7,7 +7,7 @@ use Rattle.flow_law.specs.declared.call.SharedCall.TheVariants.{TryEmit, Emit, C
 use Rattle.flow_law.specs.declared.call.StateCall.TheVariants as state_call
 use Rattle.flow_law.specs.declared.call.StateReply.TheVariants as state_reply
 use Rattle.flow_law.specs.SharedFlow.{SharedFlowState, first_state, is_queued, is_offered_as}
-use Rattle.flow_law.specs.SharedHistory.{History, after_all, state_after}
+use Rattle.flow_law.specs.SharedHistory.{History, shared_after_all, state_after}
 use Rattle.flow_law.specs.StateFlow.{StateHistory, first_state_flow, state_after_all}
 use Rattle.flow_law.specs.Mailbox.{found_at_entry, received, keep_last}
 use Rattle.flow_law.specs.Waiting.{ahead, from_flow}
@@ -32,20 +32,20 @@ one_ahead : (ahead 3 two_queued.queue ≡ 0) × (ahead 4 two_queued.queue ≡ 1)
 one_ahead = (refl, refl)
 
 -- with one value before it, an emission may wait while a subscriber has received one value, ..
-waits_after_one : (is_queued 4 (after_all two_queued (played_from two_queued (TakeNext 1 ∷ []))) ≡ true) × (from_flow 1 two_queued (played_from two_queued (TakeNext 1 ∷ [])) ≡ 1 ∷ [])
+waits_after_one : (is_queued 4 (shared_after_all two_queued (played_from two_queued (TakeNext 1 ∷ []))) ≡ true) × (from_flow 1 two_queued (played_from two_queued (TakeNext 1 ∷ [])) ≡ 1 ∷ [])
 waits_after_one = (refl, refl)
 
 -- .. and is let in when it has received two
-let_in_after_two : (is_queued 4 (after_all two_queued (played_from two_queued (TakeNext 1 ∷ TakeNext 1 ∷ []))) ≡ false)
+let_in_after_two : (is_queued 4 (shared_after_all two_queued (played_from two_queued (TakeNext 1 ∷ TakeNext 1 ∷ []))) ≡ false)
     × (from_flow 1 two_queued (played_from two_queued (TakeNext 1 ∷ TakeNext 1 ∷ [])) ≡ 1 ∷ 2 ∷ [])
 let_in_after_two = (refl, refl)
 
 -- it is also let in when the slow subscriber leaves
-let_in_by_unsubscribe : is_queued 4 (after_all two_queued (played_from two_queued (Unsubscribe 1 ∷ []))) ≡ false
+let_in_by_unsubscribe : is_queued 4 (shared_after_all two_queued (played_from two_queued (Unsubscribe 1 ∷ []))) ≡ false
 let_in_by_unsubscribe = refl
 
 -- a cancelled emission makes room in the queue for the ones after it
-nearer_by_cancel : ahead 4 (after_all two_queued (played_from two_queued (Cancel 3 ∷ []))).queue ≡ 0
+nearer_by_cancel : ahead 4 (shared_after_all two_queued (played_from two_queued (Cancel 3 ∷ []))).queue ≡ 0
 nearer_by_cancel = refl
 
 -- without a buffer, emission 2 is offered and emission 3 is in the queue
@@ -53,12 +53,12 @@ abbrev one_offered : SharedFlowState ℕ
 one_offered = state_of (suspending 0 0) (Subscribe [] (8 ∷ []) ∷ Emit 7 ∷ Emit 6 ∷ [])
 
 -- a subscriber's own first value is not one of the flow's, so the offer stays
-own_value_ends_no_offer : (is_offered_as 2 (after_all one_offered (played_from one_offered (TakeNext 1 ∷ []))) ≡ true)
+own_value_ends_no_offer : (is_offered_as 2 (shared_after_all one_offered (played_from one_offered (TakeNext 1 ∷ []))) ≡ true)
     × (from_flow 1 one_offered (played_from one_offered (TakeNext 1 ∷ [])) ≡ [])
 own_value_ends_no_offer = (refl, refl)
 
 -- emission 3 had no value before it, and is offered after one value was received
-offered_after_one : (is_offered_as 3 (after_all one_offered (played_from one_offered (TakeNext 1 ∷ TakeNext 1 ∷ []))) ≡ true)
+offered_after_one : (is_offered_as 3 (shared_after_all one_offered (played_from one_offered (TakeNext 1 ∷ TakeNext 1 ∷ []))) ≡ true)
     × (from_flow 1 one_offered (played_from one_offered (TakeNext 1 ∷ TakeNext 1 ∷ [])) ≡ 7 ∷ [])
 offered_after_one = (refl, refl)
 

@@ -10,10 +10,10 @@ use Rattle.flow_law.specs.declared.fault.FlowFault.TheVariants.{Exhausted}
 use Rattle.flow_law.specs.declared.call.SharedCall.{SharedCall}
 use Rattle.flow_law.specs.declared.call.SharedCall.TheVariants as call
 use Rattle.flow_law.specs.declared.call.SharedReply.{SharedReply}
-use Rattle.flow_law.specs.SharedFlow.{Numbered, Subscriber, SharedFlowState, Answer, capacity, window, lag, is_blocked, is_exhausted, issuing, answer, values, position_of, own_of}
+use Rattle.flow_law.specs.SharedFlow.{Numbered, Subscriber, SharedFlowState, Replied, capacity, window, lag, is_blocked, is_exhausted, issuing, answer, values, position_of, own_of}
 use Rattle.flow_law.specs.EmitRule.{appends, offers, when_blocked, is_open, emit_case, append, suspend, drop_oldest, emit_in, try_emit_in}
 use Rattle.flow_law.specs.SharedStep.{admit, settle, withdraw, advance, leave, enroll, forget, keep_own, next_from, read, next}
-use Rattle.flow_law.specs.SharedHistory.{answer_to, is_refused, after, History, after_all}
+use Rattle.flow_law.specs.SharedHistory.{answer_to, is_refused, after, History, shared_after_all}
 
 module _ {T : Type 0} where
   -- each move keeps P
@@ -41,7 +41,7 @@ module _ {T : Type 0} where
     | inr both ↦ not-true (is_blocked s) (and_parts (not (is_blocked s)) (nat_lt 0 (capacity s)) both).0
   ]
 
-  issued_or_kept : {R : Type 0} (P : SharedFlowState T → Type 0) (s : SharedFlowState T) (a : Answer R T) → P s → P a.after → P (issuing s a).after
+  issued_or_kept : {R : Type 0} (P : SharedFlowState T → Type 0) (s : SharedFlowState T) (a : Replied R T) → P s → P a.after → P (issuing s a).after
   issued_or_kept P s a h k = cond_both (is_exhausted s) (record { reply = Err Exhausted; after = s }) a (λ b. P b.after) (λ _. h) (λ _. k)
 
   pub emit_keeps : (P : SharedFlowState T → Type 0) (s : SharedFlowState T) (v : T) → P s → Keeps P s → P (emit_in (emit_case s) v s).after
@@ -101,7 +101,7 @@ module _ {T : Type 0} where
   event_keeps P s h k c r = cond_both (is_refused r) s (answer_to c s).after P (λ _. h) (λ _. call_keeps P s h k c)
 
   -- what every move keeps holds after each history
-  pub history_keeps : (P : SharedFlowState T → Type 0) → ((s : SharedFlowState T) → P s → Keeps P s) → (s : SharedFlowState T) (h : History T) → P s → P (after_all s h)
+  pub history_keeps : (P : SharedFlowState T → Type 0) → ((s : SharedFlowState T) → P s → Keeps P s) → (s : SharedFlowState T) (h : History T) → P s → P (shared_after_all s h)
   history_keeps P k s [] p = p
   history_keeps P k s (e ∷ es) p = history_keeps P k (after s e.what.call e.what.reply) es (event_keeps P s p (k s p) e.what.call e.what.reply)
 

@@ -10,7 +10,7 @@ use Rattle.flow_law.specs.declared.call.SharedCall.TheVariants as call
 use Rattle.flow_law.specs.declared.call.SharedReply.{SharedReply}
 use Rattle.flow_law.specs.declared.call.SharedReply.TheVariants as reply
 use Rattle.flow_law.specs.declared.outcome.Next.TheVariants.{Value, Empty, Gone}
-use Rattle.flow_law.specs.SharedFlow.{SharedFlowState, Answer, answer, issuing, is_exhausted, values, position_of, own_of}
+use Rattle.flow_law.specs.SharedFlow.{SharedFlowState, Replied, answer, issuing, is_exhausted, values, position_of, own_of}
 use Rattle.flow_law.specs.EmitRule.{EmitCase, appends, offers, queues, drops_latest, drops_oldest, emit_case, emit_in, try_emit_in}
 use Rattle.flow_law.specs.SharedStep.{settle, advance, enroll, read, next_from, next}
 use Rattle.flow_law.specs.SharedHistory.{Replies, reply_by}
@@ -20,7 +20,7 @@ module _ {T : Type 0} (s : SharedFlowState T) where
   Busied = reply.Refused Busy
 
   -- a call that issues a number is refused as Exhausted, or replies what it would
-  issuing_not_busy : {R : Type 0} (wrap : R → SharedReply T) (a : Answer R T) → Busied ≢ reply_by wrap a.reply → Busied ≢ reply_by wrap (issuing s a).reply
+  issuing_not_busy : {R : Type 0} (wrap : R → SharedReply T) (a : Replied R T) → Busied ≢ reply_by wrap a.reply → Busied ≢ reply_by wrap (issuing s a).reply
   issuing_not_busy wrap a h = cond_both (is_exhausted s) (record { reply = Err Exhausted; after = s }) a (λ b. Busied ≢ reply_by wrap b.reply) (λ _ e. absurd (cc)) (λ _. h)
 
   emit_not_busy : (m : EmitCase) (v : T) → Busied ≢ reply_by reply.Emitted (emit_in m v s).reply

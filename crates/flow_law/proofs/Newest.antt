@@ -11,7 +11,7 @@ use Rattle.flow_law.specs.declared.fault.FlowFault.TheVariants.{Exhausted}
 use Rattle.flow_law.specs.declared.outcome.Emit.{Emit}
 use Rattle.flow_law.specs.declared.outcome.Emit.TheVariants.{Done}
 use Rattle.flow_law.specs.declared.outcome.Next.TheVariants.{Value, Empty, Gone}
-use Rattle.flow_law.specs.SharedFlow.{Numbered, Subscriber, SharedFlowState, Answer, is_blocked, answer, values, cache}
+use Rattle.flow_law.specs.SharedFlow.{Numbered, Subscriber, SharedFlowState, Replied, is_blocked, answer, values, cache}
 use Rattle.flow_law.specs.EmitRule.{appends, offers, drops_oldest, emit_case, emit, emit_in, append, drop_oldest}
 use Rattle.flow_law.specs.SharedStep.{subscribe, enroll, next, next_from, read, unsubscribe, settle, advance}
 use Rattle.flow_law.specs.Conflation.{newest_only}
@@ -48,7 +48,7 @@ module _ {T : Type 0} where
   emit_one x limit emitted k p issued l where_it_stands =
       let s : SharedFlowState T = built limit emitted (sole k p) issued in
       let longer : length (emitted ++ entry_of x issued ∷ []) ≡ length emitted + 1 = length_push emitted (entry_of x issued) in
-      let issue : (a : Answer Emit T) → (cond (issued == limit) (record { reply = Err Exhausted; after = s }) a).after ≡ a.after =
+      let issue : (a : Replied Emit T) → (cond (issued == limit) (record { reply = Err Exhausted; after = s }) a).after ≡ a.after =
       λ a. ap (λ t. (cond t (record { reply = Err Exhausted; after = s }) a).after) (not_spent issued limit l) in
       elim where_it_stands as (λ _. (emit x (built limit emitted (sole k p) issued)).after ≡ built limit (emitted ++ entry_of x issued ∷ []) (sole k (length emitted)) (issued + 1)) [
         | inl e ↦

@@ -11,7 +11,7 @@ use Rattle.flow_law.specs.declared.call.SharedCall.TheVariants.{Emit, Poll, Subs
 use Rattle.flow_law.specs.declared.call.SharedReply.{SharedReply}
 use Rattle.flow_law.specs.declared.call.SharedReply.TheVariants.{Emitted, Tested, Subscribed, Received}
 use Rattle.flow_law.specs.History.{IsOwned}
-use Rattle.flow_law.specs.SharedHistory.{History, IsLegal, shared_flow}
+use Rattle.flow_law.specs.SharedHistory.{History, IsLegalShared, shared_flow}
 
 abbrev bufferless : Config
 bufferless = record { replay = 0; extra = 0; overflow = Suspend; limit = 1000 }
@@ -30,10 +30,10 @@ each_its_own = before (by (1 ∷ []) (TakeNext 1) (Received (Value 7)) ∷ by []
 abbrev crossed : History ℕ
 crossed = before (by [] (TakeNext 2) (Received Gone) ∷ by [] (Unsubscribe 2) (Tested false) ∷ by (1 ∷ []) (Poll 1) (Tested false) ∷ [])
 
-owns : IsLegal bufferless each_its_own × IsOwned shared_flow [] each_its_own
+owns : IsLegalShared bufferless each_its_own × IsOwned shared_flow [] each_its_own
 owns = ((refl, (refl, (refl, (refl, (refl, (refl, tt)))))), (tt, (tt, (refl, (refl, (refl, tt))))))
 
-crossed_is_legal : IsLegal bufferless crossed
+crossed_is_legal : IsLegalShared bufferless crossed
 crossed_is_legal = (refl, (refl, (refl, (refl, (refl, (refl, tt))))))
 
 crossed_is_not_owned : IsOwned shared_flow [] crossed → ⊥

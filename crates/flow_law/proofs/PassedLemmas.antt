@@ -12,7 +12,7 @@ use Rattle.flow_law.specs.declared.call.SharedCall.TheVariants as call
 use Rattle.flow_law.specs.declared.call.SharedReply.{SharedReply}
 use Rattle.flow_law.specs.declared.call.SharedReply.TheVariants as reply
 use Rattle.flow_law.specs.SharedFlow.{Numbered, SharedFlowState, first_state, capacity, entry, values, position_of}
-use Rattle.flow_law.specs.SharedHistory.{History, IsLegal, IsLegalFrom, shared_flow, after, state_after}
+use Rattle.flow_law.specs.SharedHistory.{History, IsLegalShared, IsLegalFrom, shared_flow, after, state_after}
 use Rattle.flow_law.specs.declared.history.Said.{Said}
 use Rattle.flow_law.specs.Done.{said_by}
 use Rattle.flow_law.specs.Mailbox.{Beginning, own, box, received_by, received, began, began_by, began_from}
@@ -70,7 +70,7 @@ module _ {T : Type 0} where
       ap (began_from u (after s c r) es) (event_first u s c r a.0) ∙ all_first u (after s c r) es a.1
 
   -- what a subscriber received is the beginning of what the flow accepted
-  pub passed : (config : Config) (h : History T) → IsLegal config h → config.overflow ≡ Suspend → 0 < config.replay + config.extra → NoneCancelled h → AllEnterFirst (first_state config) h
+  pub passed : (config : Config) (h : History T) → IsLegalShared config h → config.overflow ≡ Suspend → 0 < config.replay + config.extra → NoneCancelled h → AllEnterFirst (first_state config) h
       → (u p : ℕ) → position_of u (state_after config h).subscribers ≡ Some p → (rest : List T) × (received u h ++ rest ≡ accepted (map (λ e. e.what) h))
   passed config h legal o room kept enters u p at =
       let s = state_after config h in
@@ -154,7 +154,7 @@ module _ {T : Type 0} where
       )
 
   -- Nothing was accepted in the first part of a history, and no subscription was made in the second one.
-  pub passed_on : (config : Config) (h more : History T) → IsLegal config (h ++ more) → config.overflow ≡ Suspend → 0 < config.replay + config.extra → NoneCancelled (h ++ more)
+  pub passed_on : (config : Config) (h more : History T) → IsLegalShared config (h ++ more) → config.overflow ≡ Suspend → 0 < config.replay + config.extra → NoneCancelled (h ++ more)
       → accepted (map (λ e. e.what) h) ≡ [] → AllByRecursion (λ e. BringsNone e.what.call) h → AllByRecursion (λ e. SubscribesNone e.what.call) more
       → (u p : ℕ) → position_of u (state_after config (h ++ more)).subscribers ≡ Some p → (rest : List T) × (received u (h ++ more) ++ rest ≡ accepted (map (λ e. e.what) (h ++ more)))
   passed_on config h more legal o room kept none brings later = passed config (h ++ more) legal o room kept

@@ -13,7 +13,7 @@ use Rattle.flow_law.specs.declared.call.SharedCall.{SharedCall}
 use Rattle.flow_law.specs.declared.call.SharedCall.TheVariants as call
 use Rattle.flow_law.specs.declared.call.SharedReply.{SharedReply}
 use Rattle.flow_law.specs.declared.call.SharedReply.TheVariants as reply
-use Rattle.flow_law.specs.SharedFlow.{SharedFlowState, Answer, capacity, entry, values, is_exhausted, is_offered_as, position_of, own_of, stand_at, without, answer}
+use Rattle.flow_law.specs.SharedFlow.{SharedFlowState, Replied, capacity, entry, values, is_exhausted, is_offered_as, position_of, own_of, stand_at, without, answer}
 use Rattle.flow_law.specs.EmitRule.{append, suspend, drop_oldest}
 use Rattle.flow_law.specs.SharedStep.{settle, withdraw, advance, leave, enroll, keep_own, next_from, read, next}
 use Rattle.flow_law.specs.SharedHistory.{reply_by, answer_to, is_refused, Replies, after}
@@ -97,7 +97,7 @@ module _ {T : Type 0} where
 
   -- ---- next
 
-  abbrev NextPasses : ℕ → ℕ → SharedFlowState T → Answer (Next T) T → Type 0
+  abbrev NextPasses : ℕ → ℕ → SharedFlowState T → Replied (Next T) T → Type 0
   NextPasses u n s a = Passes u s (cond (is_refused (reply_by reply.Received a.reply)) s a.after) (from_flow_by u s (call.TakeNext n) (reply_by reply.Received a.reply)) (λ b. b)
 
   read_passes : (u n p : ℕ) (v : T) (s : SharedFlowState T) → Placed s → own_of n s.subscribers ≡ [] → position_of n s.subscribers ≡ Some p → slice_get (values s) p ≡ Some v
@@ -142,7 +142,7 @@ module _ {T : Type 0} where
 
   -- ---- each event
 
-  abbrev SubscribePasses : ℕ → SharedFlowState T → List ℕ → List T → Answer ℕ T → Type 0
+  abbrev SubscribePasses : ℕ → SharedFlowState T → List ℕ → List T → Replied ℕ T → Type 0
   SubscribePasses u s name first a = Passes u s (cond (is_refused {T = T} (reply_by reply.Subscribed a.reply)) s a.after) [] (began_by u s (call.Subscribe name first) (reply_by reply.Subscribed a.reply))
 
   any_reply : (u : ℕ) (s : SharedFlowState T) (c : SharedCall T) (r : SharedReply T) → Quiet u s (answer_to c s).after → Quiet u s (after s c r)

@@ -15,11 +15,11 @@ use Rattle.flow_law.specs.declared.call.StateCall.TheVariants as state_call
 use Rattle.flow_law.specs.declared.call.StateReply.{StateReply}
 use Rattle.flow_law.specs.declared.call.StateReply.TheVariants as state_reply
 use Rattle.flow_law.specs.declared.outcome.Next.TheVariants.{Value, Empty, Gone}
-use Rattle.flow_law.specs.SharedFlow.{SharedFlowState, Answer, answer, issuing, is_exhausted, values, position_of, own_of}
+use Rattle.flow_law.specs.SharedFlow.{SharedFlowState, Replied, answer, issuing, is_exhausted, values, position_of, own_of}
 use Rattle.flow_law.specs.EmitRule.{EmitCase, appends, offers, queues, drops_latest, drops_oldest, emit_case, emit_in, try_emit_in}
 use Rattle.flow_law.specs.SharedStep.{settle, advance, enroll, read, next_from, next}
 use Rattle.flow_law.specs.SharedHistory.{Replies, reply_by, answer_to}
-use Rattle.flow_law.specs.StateFlow.{StateFlowState, Receives, last_of}
+use Rattle.flow_law.specs.StateFlow.{StateFlowState, Receives, last_got_by}
 use Rattle.flow_law.specs.StateFlow as flow
 use Rattle.flow_law.proofs.ReplyLemmas.{replies_cases, state_replies_cases}
 
@@ -46,7 +46,7 @@ module _ {T : Type 0} (s : SharedFlowState T) (fault : FlowFault) where
   same_fault : (other : FlowFault) → Refuses (reply.Refused other) → fault ≡ other
   same_fault other e = cc
 
-  issuing_exhausted : {R : Type 0} (wrap : R → SharedReply T) (a : Answer R T) → (Refuses (reply_by wrap a.reply) → fault ≡ Exhausted) → Refuses (reply_by wrap (issuing s a).reply) → fault ≡ Exhausted
+  issuing_exhausted : {R : Type 0} (wrap : R → SharedReply T) (a : Replied R T) → (Refuses (reply_by wrap a.reply) → fault ≡ Exhausted) → Refuses (reply_by wrap (issuing s a).reply) → fault ≡ Exhausted
   issuing_exhausted wrap a h = cond_both (is_exhausted s) (record { reply = Err Exhausted; after = s }) a (λ b. Refuses (reply_by wrap b.reply) → fault ≡ Exhausted) (λ _ e. cc) (λ _. h)
 
   emit_exhausted : (m : EmitCase) (v : T) → Refuses (reply_by reply.Emitted (emit_in m v s).reply) → fault ≡ Exhausted
@@ -107,7 +107,7 @@ module _ {T : Type 0} (s : SharedFlowState T) (fault : FlowFault) where
 -- ---- state flows
 
 module _ {T : Type 0} (s : StateFlowState T) (fault : FlowFault) where
-  state_cases : (c : StateCall T) → flow.Replies s c (state_reply.Refused fault) → flow.IsReply s c (state_reply.Refused fault) ⊎ (fault ≡ OutOfMemory)
+  state_cases : (c : StateCall T) → flow.StateFlowReplies s c (state_reply.Refused fault) → flow.IsReply s c (state_reply.Refused fault) ⊎ (fault ≡ OutOfMemory)
   state_cases c h = elim (state_replies_cases s c (state_reply.Refused fault) h) as (λ _. flow.IsReply s c (state_reply.Refused fault) ⊎ (fault ≡ OutOfMemory)) [
     | inl is ↦ inl is
     | inr out ↦ inr (cc (out.0))
@@ -120,16 +120,16 @@ module _ {T : Type 0} (s : StateFlowState T) (fault : FlowFault) where
     | inr got ↦ absurd (cc (got.1))
   ]
 
-  pub value_refused : flow.Replies s state_call.GetValue (state_reply.Refused fault) → fault ≡ OutOfMemory
+  pub value_refused : flow.StateFlowReplies s state_call.GetValue (state_reply.Refused fault) → fault ≡ OutOfMemory
   value_refused h = memory_alone fault (λ e. absurd (cc)) (state_cases state_call.GetValue h)
 
-  pub state_cache_refused : flow.Replies s state_call.ReplayCache (state_reply.Refused fault) → fault ≡ OutOfMemory
+  pub state_cache_refused : flow.StateFlowReplies s state_call.ReplayCache (state_reply.Refused fault) → fault ≡ OutOfMemory
   state_cache_refused h = memory_alone fault (λ e. absurd (cc)) (state_cases state_call.ReplayCache h)
 
-  pub state_next_refused : (u : ℕ) → flow.Replies s (state_call.TakeNext u) (state_reply.Refused fault) → fault ≡ OutOfMemory
-  state_next_refused u h = memory_alone fault (received (last_of u s.subscribers)) (state_cases (state_call.TakeNext u) h)
+  pub state_next_refused : (u : ℕ) → flow.StateFlowReplies s (state_call.TakeNext u) (state_reply.Refused fault) → fault ≡ OutOfMemory
+  state_next_refused u h = memory_alone fault (received (last_got_by u s.subscribers)) (state_cases (state_call.TakeNext u) h)
 
-  pub state_subscribe_refused : (name : List ℕ) → flow.Replies s (state_call.Subscribe name) (state_reply.Refused fault) → (fault ≡ OutOfMemory) ⊎ (fault ≡ Exhausted)
+  pub state_subscribe_refused : (name : List ℕ) → flow.StateFlowReplies s (state_call.Subscribe name) (state_reply.Refused fault) → (fault ≡ OutOfMemory) ⊎ (fault ≡ Exhausted)
   state_subscribe_refused name h = memory_or fault
-      (cond_both (flow.is_exhausted s) (state_reply.Refused Exhausted) (state_reply.Subscribed (s.issued + 1)) (λ (r : StateReply T). ◌≡◌ {A = StateReply T} (state_reply.Refused fault) r → fault ≡ Exhausted) (λ _ e. cc) (λ _ e. absurd (cc)))
+      (cond_both (flow.is_state_exhausted s) (state_reply.Refused Exhausted) (state_reply.Subscribed (s.issued + 1)) (λ (r : StateReply T). ◌≡◌ {A = StateReply T} (state_reply.Refused fault) r → fault ≡ Exhausted) (λ _ e. cc) (λ _ e. absurd (cc)))
       (state_cases (state_call.Subscribe name) h)

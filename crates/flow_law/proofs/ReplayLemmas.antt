@@ -14,9 +14,9 @@ use Rattle.flow_law.specs.declared.call.SharedCall.{SharedCall}
 use Rattle.flow_law.specs.declared.call.SharedCall.TheVariants.{Subscribe, TakeNext}
 use Rattle.flow_law.specs.declared.call.SharedReply.{SharedReply}
 use Rattle.flow_law.specs.declared.call.SharedReply.TheVariants.{Subscribed, Received}
-use Rattle.flow_law.specs.SharedFlow.{Numbered, Subscriber, SharedFlowState, Answer, answer, first_state, window, lag, is_blocked, is_exhausted, entry, values, position_of, own_of, stand_at, move_to}
+use Rattle.flow_law.specs.SharedFlow.{Numbered, Subscriber, SharedFlowState, Replied, answer, first_state, window, lag, is_blocked, is_exhausted, entry, values, position_of, own_of, stand_at, move_to}
 use Rattle.flow_law.specs.SharedStep.{admit, settle, enroll, advance, keep_own, next_from, read, next}
-use Rattle.flow_law.specs.SharedHistory.{History, IsLegal, IsLegalFrom, Replies, shared_flow, is_refused, reply_by, after, after_all, state_after}
+use Rattle.flow_law.specs.SharedHistory.{History, IsLegalShared, IsLegalFrom, Replies, shared_flow, is_refused, reply_by, after, shared_after_all, state_after}
 use Rattle.flow_law.specs.Mailbox.{found_at_entry, received, received_by}
 use Rattle.flow_law.specs.Replaying.{OnlyReads, first_or_empty, EachReplays}
 use Rattle.flow_law.proofs.Owners.{legal_right}
@@ -77,7 +77,7 @@ module _ {T : Type 0} where
     pub closed : Closed u s
 
   -- `next` answers the first of these values
-  abbrev AnswersFirst : ℕ → List T → SharedFlowState T → Answer (Next T) T → Type 0
+  abbrev AnswersFirst : ℕ → List T → SharedFlowState T → Replied (Next T) T → Type 0
   AnswersFirst u [] s a = a ≡ answer Empty s
   AnswersFirst u (v ∷ rest) s a = (t : SharedFlowState T) × (a ≡ answer (Value v) t) × Reading u rest t
 
@@ -117,10 +117,10 @@ module _ {T : Type 0} where
   abbrev ReadsOn : ℕ → List T → SharedFlowState T → SharedCall T → SharedReply T → Type 0
   ReadsOn u rest s c r = (more : List T) × (rest ≡ received_by u c r ++ more) × Reading u more (after s c r)
 
-  abbrev AnswerReadsOn : ℕ → List T → SharedFlowState T → Answer (Next T) T → Type 0
+  abbrev AnswerReadsOn : ℕ → List T → SharedFlowState T → Replied (Next T) T → Type 0
   AnswerReadsOn u rest s a = (more : List T) × (rest ≡ received_by u (TakeNext u) (reply_by Received a.reply) ++ more) × Reading u more (cond (is_refused (reply_by Received a.reply)) s a.after)
 
-  answer_reads : (u : ℕ) (rest : List T) (s : SharedFlowState T) (a : Answer (Next T) T) → Reading u rest s → AnswersFirst u rest s a → AnswerReadsOn u rest s a
+  answer_reads : (u : ℕ) (rest : List T) (s : SharedFlowState T) (a : Replied (Next T) T) → Reading u rest s → AnswersFirst u rest s a → AnswerReadsOn u rest s a
   answer_reads u [] s a r is = subst (AnswerReadsOn u [] s) (sym is) ([], refl, r)
   answer_reads u (v ∷ rest) s a r is = subst (AnswerReadsOn u (v ∷ rest) s) (sym is.1) (rest, ap (λ l. l ++ rest) (sym (cond-true (u == u) (v ∷ []) [] (eq-eqb u u refl))), is.2)
 
@@ -132,7 +132,7 @@ module _ {T : Type 0} where
 
   -- ---- all reads
 
-  reads_all : (u : ℕ) (rest : List T) (s : SharedFlowState T) (h : History T) → Reading u rest s → IsLegalFrom s h → OnlyReads u h → (more : List T) × (rest ≡ received u h ++ more) × Reading u more (after_all s h)
+  reads_all : (u : ℕ) (rest : List T) (s : SharedFlowState T) (h : History T) → Reading u rest s → IsLegalFrom s h → OnlyReads u h → (more : List T) × (rest ≡ received u h ++ more) × Reading u more (shared_after_all s h)
   reads_all u rest s [] r legal only = (rest, refl, r)
   reads_all u rest s (e ∷ es) r legal only =
       let step : ReadsOn u rest s e.what.call e.what.reply = subst (λ c. ReadsOn u rest s c e.what.reply) (sym only.0) (event_reads u rest s e.what.reply r (subst (λ c. Replies s c e.what.reply) only.0 legal.0)) in
@@ -146,8 +146,8 @@ module _ {T : Type 0} where
       same a b e = cc
 
       by : (rest : List T) → AnswersFirst u rest s (next u s) → Received r ≡ reply_by Received (next u s).reply → r ≡ first_or_empty rest
-      by [] is e = same r Empty (e ∙ ap (λ (a : Answer (Next T) T). reply_by Received a.reply) is)
-      by (v ∷ rest) is e = same r (Value v) (e ∙ ap (λ (a : Answer (Next T) T). reply_by Received a.reply) is.1)
+      by [] is e = same r Empty (e ∙ ap (λ (a : Replied (Next T) T). reply_by Received a.reply) is)
+      by (v ∷ rest) is e = same r (Value v) (e ∙ ap (λ (a : Replied (Next T) T). reply_by Received a.reply) is.1)
 
   -- ---- the entry
 
@@ -185,7 +185,7 @@ module _ {T : Type 0} where
       same : (a b : ℕ) (r : SharedReply T) → r ≡ Subscribed a → r ≡ Subscribed b → a ≡ b
       same a b r first second = cc
 
-  pub replays : (config : Config) (h : History T) → IsLegal config h → EachReplays config h
+  pub replays : (config : Config) (h : History T) → IsLegalShared config h → EachReplays config h
   replays config h legal before reads e u first whole is only =
       let s : SharedFlowState T = state_after config before in
       let t : SharedFlowState T = after s e.what.call e.what.reply in
@@ -195,4 +195,4 @@ module _ {T : Type 0} where
       let entered : t ≡ enroll first s = ap (λ c. after s c e.what.reply) is.1 ∙ ap (λ r. after s (Subscribe is.0 first) r) is.2 ∙ came.1 in
       let start : Reading u (first ++ found_at_entry s) t = subst (Reading u (first ++ found_at_entry s)) (sym entered) (entered_reading u first s (always_sound config before) came.0) in
       let all = reads_all u (first ++ found_at_entry s) t reads start legal_then.1 only in
-      record { rest = all.0; in_order = all.1; next = λ r replies. gives_first u all.0 (after_all t reads) r (next_first u all.0 (after_all t reads) all.2) replies }
+      record { rest = all.0; in_order = all.1; next = λ r replies. gives_first u all.0 (shared_after_all t reads) r (next_first u all.0 (shared_after_all t reads) all.2) replies }

@@ -19,7 +19,7 @@ module _ {T : Type 0} where
   replies_cases s c (shared.Refused OutOfMemory) h = inr (refl, h)
   replies_cases s c r h = inl h
 
-  pub state_replies_cases : (s : StateFlowState T) (c : StateCall T) (r : StateReply T) → flow.Replies s c r
+  pub state_replies_cases : (s : StateFlowState T) (c : StateCall T) (r : StateReply T) → flow.StateFlowReplies s c r
       → IsReply s c r ⊎ ((r ≡ state.Refused OutOfMemory) × flow.MayNeedMemory s c)
   state_replies_cases s c (state.Refused OutOfMemory) h = inr (refl, h)
   state_replies_cases s c r h = inl h

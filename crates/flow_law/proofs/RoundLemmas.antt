@@ -14,7 +14,7 @@ use Rattle.flow_law.specs.declared.states.StateFlowState.{StateFlowState}
 use Rattle.flow_law.specs.History.{Kind, IsHistory, after_all}
 use Rattle.flow_law.specs.OneHistory.{said}
 use Rattle.flow_law.specs.StateFlow.{state_flow, state_after_all}
-use Rattle.flow_law.specs.Updates.{StateToken}
+use Rattle.flow_law.specs.Updates.{StateTokenOf}
 use Rattle.flow_law.proofs.Names.{every_append}
 use Rattle.flow_law.proofs.Owners.{history_left, legal_right}
 use Rattle.flow_law.specs.Tokens.{Token, MeetsIn, CallsIn}
@@ -166,12 +166,12 @@ module _ {Id T S C R : Type 0} (kind : Kind T S C R) (first : S) where
     ),
   )
 
-module _ {Id T W : Type 0} (first : StateFlowState T) (seat : W → StateToken Id T) where
+module _ {Id T W : Type 0} (first : StateFlowState T) (seat : W → StateTokenOf Id T) where
   same_value : (a b : T) → reply.Got a ≡ reply.Got b → a ≡ b
   same_value a b e = cc
 
   -- a value that is read between two rounds
-  pub final_value : (one met read end : StateToken Id T) (xs ys zs : List W) (x : T) → OnlyMeets one met
+  pub final_value : (one met read end : StateTokenOf Id T) (xs ys zs : List W) (x : T) → OnlyMeets one met
       → ((i : ℕ) (d : W) → i < length xs → MeetsInTurn state_flow first one.knows met.knows (seat (get_or xs i d)) (seat (get_or ys i d)))
       → CallsIn state_flow first met call.GetValue (reply.Got x) read
       → ((i : ℕ) (d : W) → i < length xs → MeetsInTurn state_flow first read.knows end.knows (seat (get_or ys i d)) (seat (get_or zs i d)))

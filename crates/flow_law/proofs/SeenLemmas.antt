@@ -8,7 +8,7 @@ use Rattle.flow_law.specs.declared.call.StateReply.{StateReply}
 use Rattle.flow_law.specs.declared.history.Knowledge.{Knowledge}
 use Rattle.flow_law.specs.declared.history.Said.{Said}
 use Rattle.flow_law.specs.SharedFlow.{SharedFlowState, position_of}
-use Rattle.flow_law.specs.SharedHistory.{History, IsLegal, IsLegalFrom, after_all, shared_flow, state_after}
+use Rattle.flow_law.specs.SharedHistory.{History, IsLegalShared, IsLegalFrom, shared_after_all, shared_flow, state_after}
 use Rattle.flow_law.specs.StateFlow.{StateFlowState, StateHistory, IsLegalState, IsStateHistory, state_after_all, state_flow}
 use Rattle.flow_law.specs.History.{IsHistory, IsSubscription}
 use Rattle.flow_law.specs.Conflation.{Conflates}
@@ -26,7 +26,7 @@ use Rattle.flow_law.proofs.Delivered.{delivers}
 use Rattle.flow_law.proofs.Queue.{always_calm}
 
 module _ {T : Type 0} where
-  pub legal_of : (first : SharedFlowState T) (h : History T) → IsHistory shared_flow first h → IsLegal first.config h
+  pub legal_of : (first : SharedFlowState T) (h : History T) → IsHistory shared_flow first h → IsLegalShared first.config h
   legal_of first h is = (is.begins.1, subst (λ (s : SharedFlowState T). IsLegalFrom s h) is.begins.0 is.legal)
 
   pub history_delivers : (first : SharedFlowState T) (h : History T) → IsHistory shared_flow first h → (u : ℕ) → Delivers u first.config h
@@ -54,7 +54,7 @@ module _ {T : Type 0} where
   -- after all that its token has seen, a subscription is subscribed
   pub shared_has : (first : SharedFlowState T) (k : Knowledge (Said (SharedCall T) (SharedReply T))) (u : ℕ) → IsHistory shared_flow first k.seen → IsSubscription shared_flow k u
       → IsSome (position_of u (state_after first.config k.seen).subscribers)
-  shared_has first k u is subscription = subst (λ (s : SharedFlowState T). IsSome (position_of u (after_all s k.seen).subscribers)) is.begins.0 (subscription.1 first is.legal)
+  shared_has first k u is subscription = subst (λ (s : SharedFlowState T). IsSome (position_of u (shared_after_all s k.seen).subscribers)) is.begins.0 (subscription.1 first is.legal)
 
   pub state_has : (first : StateFlowState T) (k : Knowledge (Said (StateCall T) (StateReply T))) (u : ℕ) → IsStateHistory first k.seen → IsSubscription state_flow k u
       → IsThere u (state_after_all first k.seen)

@@ -14,7 +14,7 @@ use Rattle.flow_law.specs.declared.call.SharedCall.TheVariants as call
 use Rattle.flow_law.specs.declared.call.SharedReply.{SharedReply}
 use Rattle.flow_law.specs.declared.call.SharedReply.TheVariants as reply
 use Rattle.flow_law.specs.Lawful.{Lawful, Subscribing, IsNew}
-use Rattle.flow_law.specs.SharedFlow.{Subscriber, SharedFlowState, Answer, capacity, values, is_exhausted, is_offered_as, answer, issuing, position_of, own_of, stand_at, move_to}
+use Rattle.flow_law.specs.SharedFlow.{Subscriber, SharedFlowState, Replied, capacity, values, is_exhausted, is_offered_as, answer, issuing, position_of, own_of, stand_at, move_to}
 use Rattle.flow_law.specs.EmitRule.{EmitCase, appends, offers, queues, drops_latest, drops_oldest, emit_case, emit_in, append, suspend, drop_oldest}
 use Rattle.flow_law.specs.SharedStep.{settle, withdraw, advance, leave, enroll, subscribe, read, next_from, next}
 use Rattle.flow_law.specs.SharedHistory.{reply_by, answer_to, is_refused, Replies, after, gives, speaks_of, shared_flow}
@@ -73,10 +73,10 @@ module _ {T : Type 0} where
     forgets = omega arith;
   }) c r
 
-  abbrev Waits : ℕ → SharedFlowState T → Answer Emit T → Type 0
+  abbrev Waits : ℕ → SharedFlowState T → Replied Emit T → Type 0
   Waits e s a = ◌≡◌ {A = SharedReply T} (reply.Emitted (Queued e)) (reply_by reply.Emitted a.reply) → (e ≡ s.issued + 1) × (e ≡ a.after.issued)
 
-  issuing_waits : (e : ℕ) (s : SharedFlowState T) (a : Answer Emit T) → Waits e s a → Waits e s (issuing s a)
+  issuing_waits : (e : ℕ) (s : SharedFlowState T) (a : Replied Emit T) → Waits e s a → Waits e s (issuing s a)
   issuing_waits e s a w f = cond_both (is_exhausted s) (record { reply = Err Exhausted; after = s }) a (Waits e s) (λ _ f. absurd (cc)) (λ _. w) f
 
   -- an emission that waits has the next number
@@ -87,7 +87,7 @@ module _ {T : Type 0} where
   waits s v e drops_latest f = absurd (cc)
   waits s v e drops_oldest f = issuing_waits e s (answer Done (drop_oldest (append v s))) (λ f. absurd (cc)) f
 
-  abbrev Enrolls : ℕ → List T → SharedFlowState T → Answer ℕ T → Type 0
+  abbrev Enrolls : ℕ → List T → SharedFlowState T → Replied ℕ T → Type 0
   Enrolls u first s a = ◌≡◌ {A = SharedReply T} (reply.Subscribed u) (reply_by reply.Subscribed a.reply) → (u ≡ s.issued + 1) × (a.after ≡ enroll first s)
 
   -- a new subscriber has the next number

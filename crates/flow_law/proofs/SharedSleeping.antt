@@ -12,16 +12,17 @@ use Rattle.flow_law.specs.declared.call.SharedCall.{SharedCall}
 use Rattle.flow_law.specs.declared.call.SharedCall.TheVariants as call
 use Rattle.flow_law.specs.declared.call.SharedReply.{SharedReply}
 use Rattle.flow_law.specs.declared.call.SharedReply.TheVariants as reply
-use Rattle.flow_law.specs.SharedFlow.{Numbered, Subscriber, SharedFlowState, Answer, answer, values, is_offered_as, entry, position_of, own_of, stand_at}
+use Rattle.flow_law.specs.SharedFlow.{Numbered, Subscriber, SharedFlowState, Replied, answer, values, is_offered_as, entry, position_of, own_of, stand_at}
 use Rattle.flow_law.specs.EmitRule.{numbered}
 use Rattle.flow_law.specs.SharedStep.{is_waiting, settle, withdraw, advance, leave, enroll, read, keep_own, next_from, next}
 use Rattle.flow_law.specs.SharedHistory.{reply_by, after, shared_flow}
+use Rattle.flow_law.specs.declared.touch.Touch.TheVariants as touch
 use Rattle.flow_law.specs.Sleeping.{FindsNothing, Sleeping, first_waiting}
 use Rattle.flow_law.proofs.Boxes.{admit_subscribers}
 use Rattle.flow_law.proofs.Moves.{Keeps, event_keeps}
 use Rattle.flow_law.proofs.Rows.{split, position-move_to_other, position-without, position-without_other, position-with_own, position-map, own-with_own_other, own-move_to, own-map, own-without_other}
 use Rattle.flow_law.proofs.SharedLawful.{event_has}
-use Rattle.flow_law.proofs.SharedWaiting.{cancels, Lasting, lasting_begins, lasting_keeps, event_goes, first_first}
+use Rattle.flow_law.proofs.SharedWaiting.{Lasting, touches, lasting_begins, lasting_keeps, event_goes, first_first}
 use Rattle.flow_law.proofs.Steps.{past_here}
 
 -- a new subscriber does not change the position of one that is subscribed
@@ -38,18 +39,13 @@ own-snoc_some number (u ∷ us) v h = split (u.number == number)
     (λ _ _. refl) (λ _ k. own-snoc_some number us v k) h
 
 module _ {T : Type 0} where
-  -- the subscriber that a call ends
-  abbrev pub ends : SharedCall T → Option ℕ
-  ends (call.Unsubscribe u) = Some u
-  ends _ = None
-
   -- nothing is left for the subscriber: neither of its own first values nor of the emitted ones
   record HasAll (u : ℕ) (s : SharedFlowState T) : Type 0 where
     own : own_of u s.subscribers ≡ []
     emitted : (p : ℕ) → position_of u s.subscribers ≡ Some p → length s.emitted ≤ p
 
   -- what an answer to `next` replies
-  abbrev replies : Answer (Next T) T → SharedReply T
+  abbrev replies : Replied (Next T) T → SharedReply T
   replies a = reply_by reply.Received a.reply
 
   -- ---- a subscriber has nothing to receive exactly if it has all
@@ -167,11 +163,11 @@ module _ {T : Type 0} where
       forgets = λ _ _. record { own = h.own; emitted = h.emitted };
     }
 
-  pub stays : (u : ℕ) (s : SharedFlowState T) (c : SharedCall T) (r : SharedReply T) → ends c ≢ Some u → length (after s c r).emitted ≡ length s.emitted
+  pub stays : (u : ℕ) (s : SharedFlowState T) (c : SharedCall T) (r : SharedReply T) → touches c r ≢ touch.Subscriber u → length (after s c r).emitted ≡ length s.emitted
       → FindsNothing shared_flow u s → FindsNothing shared_flow u (after s c r)
   stays u s c r others same f =
       let old = has_all u s f in
-      let there : IsSome (position_of u (after s c r).subscribers) = event_has u s c r (λ e. others (ap ends e)) old.1 in
+      let there : IsSome (position_of u (after s c r).subscribers) = event_has u s c r (λ e. others (ap (λ d. touches d r) e)) old.1 in
       finds_nothing u (after s c r) (event_keeps (Still u s) s (λ _ _. old.0) (keeps u s old.0 old.1) c r same there) there
 
   -- a `next` that finds nothing changes nothing
@@ -190,23 +186,13 @@ module _ {T : Type 0} where
   abbrev pub shared_sleeping : Sleeping (shared_flow {T = T})
   shared_sleeping = record {
     mark = λ s. length s.emitted;
-    is_set = λ c r. false;
     waits = is_waiting;
     first_waiting = first_waiting;
-    ends = ends;
-    cancels = cancels;
-    next_sets = λ u r. refl;
-    subscribe_sets = λ name r. refl;
-    unsubscribe_sets = λ u r. refl;
-    count_sets = λ r. refl;
-    next_ends = λ u. refl;
-    subscribe_ends = λ name. refl;
-    unsubscribe_ends = λ u. refl;
-    count_ends = refl;
-    next_cancels = λ u. refl;
-    subscribe_cancels = λ name. refl;
-    unsubscribe_cancels = λ u. refl;
-    count_cancels = refl;
+    touches = touches;
+    next_touches = λ u r. refl;
+    subscribe_touches = λ name r. refl;
+    unsubscribe_touches = λ u r. refl;
+    count_touches = λ r. refl;
     stays = λ u s c r _ others _ same f. stays u s c r others same f;
     found = found;
     IsSound = Lasting;

@@ -15,7 +15,9 @@ use Rattle.flow_law.specs.SharedFlow.{Numbered, Subscriber, SharedFlowState, ans
 use Rattle.flow_law.specs.EmitRule.{numbered, append, suspend, drop_oldest}
 use Rattle.flow_law.specs.SharedStep.{admit, settle, is_waiting, withdraw, advance, leave, enroll, read, keep_own, next_from, next}
 use Rattle.flow_law.specs.SharedHistory.{is_refused, answer_to, after, MayBegin}
-use Rattle.flow_law.specs.Sleeping.{first_of, first_waiting}
+use Rattle.flow_law.specs.declared.touch.Touch.{Touch}
+use Rattle.flow_law.specs.declared.touch.Touch.TheVariants as touch
+use Rattle.flow_law.specs.Sleeping.{first_queued, first_waiting}
 use Rattle.flow_law.specs.Laws.{RisesTo, numbers}
 use Rattle.flow_law.proofs.CoveringLemmas.{slice_get_last}
 use Rattle.flow_law.proofs.Delivered.{usable}
@@ -42,10 +44,11 @@ or_right true b e = refl
 or_right false b e = e
 
 module _ {T : Type 0} where
-  -- the emission whose wait a call ends
-  abbrev pub cancels : SharedCall T → Option ℕ
-  cancels (call.Cancel e) = Some e
-  cancels _ = None
+  -- whom a call may wake
+  abbrev pub touches : SharedCall T → SharedReply T → Touch
+  touches (call.Unsubscribe u) r = touch.Subscriber u
+  touches (call.Cancel e) r = touch.Emission e
+  touches _ _ = touch.Nobody
 
   -- what holds of each state that a history leads to
   pub record Lasting (s : SharedFlowState T) : Type 0 where
@@ -106,13 +109,13 @@ module _ {T : Type 0} where
 
   past_goes : (e : ℕ) (t : SharedFlowState T) → Past e t → Goes e t
   past_goes e t p = split (is_offering t)
-      (λ b. is_offering t ≡ b → IsSomeAnd (cond b (Some (newest t)) (first_of t.queue)) (λ f. f ≤ e) → is_waiting e t ≡ true)
+      (λ b. is_offering t ≡ b → IsSomeAnd (cond b (Some (newest t)) (first_queued t.queue)) (λ f. f ≤ e) → is_waiting e t ≡ true)
       (λ _ offering up. or_right (is_queued e t) (is_offered_as e t) (
       let same : newest t ≡ e = omega (arith, up, p.newest) in
       subst (λ b. (b && (newest t == e)) ≡ true) (sym offering) (eq-eqb (newest t) e same)))
       (λ _ _ up. absurd (behind t.queue p.rises up)) refl
     where
-      behind : (q : List (Numbered T)) → RisesTo e (map (λ x. x.number) q) t.issued → IsSomeAnd (first_of q) (λ f. f ≤ e) → ⊥
+      behind : (q : List (Numbered T)) → RisesTo e (map (λ x. x.number) q) t.issued → IsSomeAnd (first_queued q) (λ f. f ≤ e) → ⊥
       behind [] rises up = up
       behind (x ∷ q) rises up = omega (arith, rises.0, up)
 
@@ -262,23 +265,23 @@ module _ {T : Type 0} where
     answer_goes call.ResetReplayCache other = λ _. waits
     answer_goes call.SubscriptionCount other = still
 
-    pub event_goes : (c : SharedCall T) (r : SharedReply T) → cancels c ≢ Some e → Goes e (after s c r)
-    event_goes c r other = cond_both (is_refused r) s (answer_to c s).after (Goes e) (λ _. still) (λ _. answer_goes c (λ is. other (ap cancels is)))
+    pub event_goes : (c : SharedCall T) (r : SharedReply T) → touches c r ≢ touch.Emission e → Goes e (after s c r)
+    event_goes c r other = cond_both (is_refused r) s (answer_to c s).after (Goes e) (λ _. still) (λ _. answer_goes c (λ is. other (ap (λ d. touches d r) is)))
 
     -- it is not before the first that waits
     pub first_first : IsSomeAnd (first_waiting s) (λ f. f ≤ e)
     first_first = split (is_offering s)
-        (λ b. is_offering s ≡ b → IsSomeAnd (cond b (Some (newest s)) (first_of s.queue)) (λ f. f ≤ e))
+        (λ b. is_offering s ≡ b → IsSomeAnd (cond b (Some (newest s)) (first_queued s.queue)) (λ f. f ≤ e))
         (λ _ offering. elim (or_cases (is_queued e s) (is_offered_as e s) waits) as (λ _. newest s ≤ e) [
           | inl queued ↦ omega (arith, within e (newest s) s.issued s.queue queued (above_newest s h.sound))
           | inr offered ↦ omega (arith, offered_last e s offered)
         ])
-        (λ _ idle. elim (or_cases (is_queued e s) (is_offered_as e s) waits) as (λ _. IsSomeAnd (first_of s.queue) (λ f. f ≤ e)) [
+        (λ _ idle. elim (or_cases (is_queued e s) (is_offered_as e s) waits) as (λ _. IsSomeAnd (first_queued s.queue) (λ f. f ≤ e)) [
           | inl queued ↦ at s.queue queued (above_newest s h.sound)
           | inr offered ↦ absurd (both_ways (is_offering s) idle (and_parts (is_offering s) (newest s == e) offered).0)
         ]) refl
       where
-        at : (q : List (Numbered T)) → has e q ≡ true → RisesTo (newest s) (map (λ x. x.number) q) s.issued → IsSomeAnd (first_of q) (λ f. f ≤ e)
+        at : (q : List (Numbered T)) → has e q ≡ true → RisesTo (newest s) (map (λ x. x.number) q) s.issued → IsSomeAnd (first_queued q) (λ f. f ≤ e)
         at [] there rises = absurd (cc)
         at (x ∷ q) there rises = elim (or_cases (x.number == e) (has e q) there) as (λ _. x.number ≤ e) [
           | inl here ↦ omega (arith, (Decides-eqb x.number e).0 here)

@@ -9,7 +9,7 @@ use Rattle.flow_law.specs.declared.call.StateCall.{StateCall}
 use Rattle.flow_law.specs.declared.call.StateCall.TheVariants as call
 use Rattle.flow_law.specs.declared.call.StateReply.{StateReply}
 use Rattle.flow_law.specs.declared.call.StateReply.TheVariants as reply
-use Rattle.flow_law.specs.StateFlow.{StateSubscriber, StateFlowState, StateHistory, first_state_flow, last_of, with_last, without_subscriber, is_exhausted, after, Replies, state_after_all, IsLegalState}
+use Rattle.flow_law.specs.StateFlow.{StateSubscriber, StateFlowState, StateHistory, first_state_flow, last_got_by, with_last, without_subscriber, is_state_exhausted, state_flow_after, StateFlowReplies, state_after_all, IsLegalState}
 use Rattle.flow_law.proofs.Rows.{split}
 use Rattle.flow_law.proofs.StateLawful.{enrolls, some-with_last}
 use Rattle.flow_law.proofs.StateSubscriberLemmas.{last-snoc_other, last-without, last-without_other}
@@ -19,7 +19,7 @@ module _ {T : Type 0} where
   -- each number is in the list once
   abbrev pub Once : List (StateSubscriber T) → Type 0
   Once [] = Unit {0}
-  Once (u ∷ us) = (is_some (last_of u.number us) ≡ false) × Once us
+  Once (u ∷ us) = (is_some (last_got_by u.number us) ≡ false) × Once us
 
   abbrev pub UpTo : ℕ → List (StateSubscriber T) → Type 0
   UpTo n = AllByRecursion (λ (u : StateSubscriber T). u.number ≤ n)
@@ -49,10 +49,10 @@ module _ {T : Type 0} where
       (ap is_some (last-snoc_other u.number us v (ne_eqb v.number u.number other)) ∙ o.0, once-snoc n us v e h.1 o.1)
 
   -- no subscriber has a number that was not issued
-  pub none_above : (m n : ℕ) (us : List (StateSubscriber T)) → UpTo m us → m < n → last_of n us ≡ None
+  pub none_above : (m n : ℕ) (us : List (StateSubscriber T)) → UpTo m us → m < n → last_got_by n us ≡ None
   none_above m n [] h l = refl
   none_above m n (u ∷ us) h l = let small = h.0 in let other : u.number ≢ n = λ q. absurd (omega arith) in
-      cond-false (u.number == n) (Some u.last) (last_of n us) (ne_eqb u.number n other) ∙ none_above m n us h.1 l
+      cond-false (u.number == n) (Some u.last) (last_got_by n us) (ne_eqb u.number n other) ∙ none_above m n us h.1 l
 
   -- ---- one that gets a value
 
@@ -75,9 +75,9 @@ module _ {T : Type 0} where
   up_to-without m n [] h = tt
   up_to-without m n (u ∷ us) h = split (u.number == n) (λ t. UpTo m (cond (not t) (u ∷ without_subscriber n us) (without_subscriber n us))) (λ _. up_to-without m n us h.1) (λ _. (h.0, up_to-without m n us h.1))
 
-  none-without : (m n : ℕ) (us : List (StateSubscriber T)) → is_some (last_of m us) ≡ false → is_some (last_of m (without_subscriber n us)) ≡ false
-  none-without m n us h = split (n == m) (λ t. (n == m) ≡ t → is_some (last_of m (without_subscriber n us)) ≡ false)
-      (λ _ e. ap is_some (subst (λ k. last_of k (without_subscriber n us) ≡ None) ((Decides-eqb n m).0 e) (last-without n us)))
+  none-without : (m n : ℕ) (us : List (StateSubscriber T)) → is_some (last_got_by m us) ≡ false → is_some (last_got_by m (without_subscriber n us)) ≡ false
+  none-without m n us h = split (n == m) (λ t. (n == m) ≡ t → is_some (last_got_by m (without_subscriber n us)) ≡ false)
+      (λ _ e. ap is_some (subst (λ k. last_got_by k (without_subscriber n us) ≡ None) ((Decides-eqb n m).0 e) (last-without n us)))
       (λ _ e. ap is_some (last-without_other m n us e) ∙ h) refl
 
   once-without : (n : ℕ) (us : List (StateSubscriber T)) → Once us → Once (without_subscriber n us)
@@ -90,25 +90,25 @@ module _ {T : Type 0} where
   length-without n (u ∷ us) = let l = length-without n us in
       split (u.number == n) (λ t. length (cond (not t) (u ∷ without_subscriber n us) (without_subscriber n us)) ≤ suc (length us)) (λ _. omega arith) (λ _. omega arith)
 
-  without_none : (n : ℕ) (us : List (StateSubscriber T)) → is_some (last_of n us) ≡ false → without_subscriber n us ≡ us
+  without_none : (n : ℕ) (us : List (StateSubscriber T)) → is_some (last_got_by n us) ≡ false → without_subscriber n us ≡ us
   without_none n [] h = refl
-  without_none n (u ∷ us) h = split (u.number == n) (λ t. is_some (cond t (Some u.last) (last_of n us)) ≡ false → cond (not t) (u ∷ without_subscriber n us) (without_subscriber n us) ≡ u ∷ us)
+  without_none n (u ∷ us) h = split (u.number == n) (λ t. is_some (cond t (Some u.last) (last_got_by n us)) ≡ false → cond (not t) (u ∷ without_subscriber n us) (without_subscriber n us) ≡ u ∷ us)
       (λ _ q. absurd (cc)) (λ _ q. ap (λ l. u ∷ l) (without_none n us q)) h
 
   -- without one that was subscribed there is one subscriber fewer
-  pub one_fewer : (n : ℕ) (us : List (StateSubscriber T)) → Once us → is_some (last_of n us) ≡ true → suc (length (without_subscriber n us)) ≡ length us
+  pub one_fewer : (n : ℕ) (us : List (StateSubscriber T)) → Once us → is_some (last_got_by n us) ≡ true → suc (length (without_subscriber n us)) ≡ length us
   one_fewer n [] o h = absurd (cc)
-  one_fewer n (u ∷ us) o h = split (u.number == n) (λ t. (u.number == n) ≡ t → is_some (cond t (Some u.last) (last_of n us)) ≡ true → suc (length (cond (not t) (u ∷ without_subscriber n us) (without_subscriber n us))) ≡ suc (length us))
-      (λ _ e _. ap (λ l. suc (length l)) (without_none n us (subst (λ k. is_some (last_of k us) ≡ false) ((Decides-eqb u.number n).0 e) o.0)))
+  one_fewer n (u ∷ us) o h = split (u.number == n) (λ t. (u.number == n) ≡ t → is_some (cond t (Some u.last) (last_got_by n us)) ≡ true → suc (length (cond (not t) (u ∷ without_subscriber n us) (without_subscriber n us))) ≡ suc (length us))
+      (λ _ e _. ap (λ l. suc (length l)) (without_none n us (subst (λ k. is_some (last_got_by k us) ≡ false) ((Decides-eqb u.number n).0 e) o.0)))
       (λ _ _ q. ap suc (one_fewer n us o.1 q)) refl h
 
   -- ---- histories
 
-  room : (s : StateFlowState T) (given : List ℕ) (u : ℕ) → Replies s (call.Subscribe given) (reply.Subscribed u) → s.issued ≢ s.limit
-  room s given u l e = cond_both (is_exhausted s) (reply.Refused Exhausted) (reply.Subscribed (s.issued + 1)) (λ (r : StateReply T). ◌≡◌ {A = StateReply T} (reply.Subscribed u) r → ⊥)
-      (λ _ q. absurd (cc)) (λ f _. let t : is_exhausted s ≡ true = (Decides-eqb s.issued s.limit).1 e in absurd (cc)) l
+  room : (s : StateFlowState T) (given : List ℕ) (u : ℕ) → StateFlowReplies s (call.Subscribe given) (reply.Subscribed u) → s.issued ≢ s.limit
+  room s given u l e = cond_both (is_state_exhausted s) (reply.Refused Exhausted) (reply.Subscribed (s.issued + 1)) (λ (r : StateReply T). ◌≡◌ {A = StateReply T} (reply.Subscribed u) r → ⊥)
+      (λ _ q. absurd (cc)) (λ f _. let t : is_state_exhausted s ≡ true = (Decides-eqb s.issued s.limit).1 e in absurd (cc)) l
 
-  counted_after : (limit : ℕ) (s : StateFlowState T) (c : StateCall T) (r : StateReply T) → Replies s c r → IsCounted limit s → IsCounted limit (after s c r)
+  counted_after : (limit : ℕ) (s : StateFlowState T) (c : StateCall T) (r : StateReply T) → StateFlowReplies s c r → IsCounted limit s → IsCounted limit (state_flow_after s c r)
   counted_after limit s (call.Set x) r l h = record { limit_is = h.limit_is; issued = h.issued; numbers = h.numbers; once = h.once; live = h.live }
   counted_after limit s (call.TryEmit x) r l h = record { limit_is = h.limit_is; issued = h.issued; numbers = h.numbers; once = h.once; live = h.live }
   counted_after limit s (call.CompareAndSet a b) (reply.Answered true) l h = record { limit_is = h.limit_is; issued = h.issued; numbers = h.numbers; once = h.once; live = h.live }
@@ -143,7 +143,7 @@ module _ {T : Type 0} where
 
   counted_all : (limit : ℕ) (s : StateFlowState T) (h : StateHistory T) → IsLegalState s h → IsCounted limit s → IsCounted limit (state_after_all s h)
   counted_all limit s [] l c = c
-  counted_all limit s (e ∷ es) l c = counted_all limit (after s e.what.call e.what.reply) es l.1 (counted_after limit s e.what.call e.what.reply l.0 c)
+  counted_all limit s (e ∷ es) l c = counted_all limit (state_flow_after s e.what.call e.what.reply) es l.1 (counted_after limit s e.what.call e.what.reply l.0 c)
 
   pub is_counted : (limit : ℕ) (x : T) (h : StateHistory T) → IsLegalState (first_state_flow limit x) h → IsCounted limit (state_after_all (first_state_flow limit x) h)
   is_counted limit x h l = counted_all limit (first_state_flow limit x) h l (record { limit_is = refl; issued = omega arith; numbers = tt; once = tt; live = omega arith })

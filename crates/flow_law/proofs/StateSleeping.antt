@@ -7,8 +7,10 @@ use Rattle.flow_law.specs.declared.call.StateCall.{StateCall}
 use Rattle.flow_law.specs.declared.call.StateCall.TheVariants as call
 use Rattle.flow_law.specs.declared.call.StateReply.{StateReply}
 use Rattle.flow_law.specs.declared.call.StateReply.TheVariants as reply
+use Rattle.flow_law.specs.declared.touch.Touch.{Touch}
+use Rattle.flow_law.specs.declared.touch.Touch.TheVariants as touch
 use Rattle.flow_law.specs.Sleeping.{FindsNothing, Sleeping}
-use Rattle.flow_law.specs.StateFlow.{StateSubscriber, StateFlowState, last_of, after, Receives, Replies, state_flow}
+use Rattle.flow_law.specs.StateFlow.{StateSubscriber, StateFlowState, last_got_by, state_flow_after, Receives, StateFlowReplies, state_flow}
 use Rattle.flow_law.proofs.Rows.{split}
 use Rattle.flow_law.proofs.StateSubscriberLemmas.{last-with_other, last-without_other}
 
@@ -16,23 +18,19 @@ pub never : ◌≡◌ {A = Bool} false true → ⊥
 never e = cc
 
 module _ {T : Type 0} where
-  -- the subscriber that a call ends
-  abbrev pub ends : StateCall T → Option ℕ
-  ends (call.Unsubscribe u) = Some u
-  ends _ = None
-
-  -- the call sets the value
-  abbrev pub is_set : StateCall T → StateReply T → Bool
-  is_set (call.Set x) r = true
-  is_set (call.TryEmit x) r = true
-  is_set (call.CompareAndSet a b) (reply.Answered true) = true
-  is_set _ _ = false
+  -- whom a call may wake
+  abbrev pub touches : StateCall T → StateReply T → Touch
+  touches (call.Set x) r = touch.Subscribers
+  touches (call.TryEmit x) r = touch.Subscribers
+  touches (call.CompareAndSet a b) (reply.Answered true) = touch.Subscribers
+  touches (call.Unsubscribe u) r = touch.Subscriber u
+  touches _ _ = touch.Nobody
 
   -- a new subscriber does not change the last value of one that is subscribed
-  last-snoc_some : (number : ℕ) (us : List (StateSubscriber T)) (v : StateSubscriber T) → IsSome (last_of number us) → last_of number (us ++ v ∷ []) ≡ last_of number us
+  last-snoc_some : (number : ℕ) (us : List (StateSubscriber T)) (v : StateSubscriber T) → IsSome (last_got_by number us) → last_got_by number (us ++ v ∷ []) ≡ last_got_by number us
   last-snoc_some number [] v h = absurd (cc)
   last-snoc_some number (u ∷ us) v h = split (u.number == number)
-      (λ t. IsSome (cond t (Some u.last) (last_of number us)) → cond t (Some u.last) (last_of number (us ++ v ∷ [])) ≡ cond t (Some u.last) (last_of number us))
+      (λ t. IsSome (cond t (Some u.last) (last_got_by number us)) → cond t (Some u.last) (last_got_by number (us ++ v ∷ [])) ≡ cond t (Some u.last) (last_got_by number us))
       (λ _ _. refl) (λ _ k. last-snoc_some number us v k) h
 
   there : (v : T) (o : Option (Option T)) → Receives v o (reply.Received Empty) → IsSome o
@@ -50,43 +48,33 @@ module _ {T : Type 0} where
     | inr got ↦ absurd (cc (got.1))
   ]
 
-  pub stays : (u : ℕ) (s : StateFlowState T) (c : StateCall T) (r : StateReply T) → Replies s c r → ends c ≢ Some u → is_set c r ≡ false
-      → FindsNothing state_flow u s → FindsNothing state_flow u (after s c r)
-  stays u s (call.Set x) r told others unset f = absurd (cc)
-  stays u s (call.TryEmit x) r told others unset f = absurd (cc)
-  stays u s (call.CompareAndSet a b) (reply.Answered true) told others unset f = absurd (cc)
+  pub stays : (u : ℕ) (s : StateFlowState T) (c : StateCall T) (r : StateReply T) → StateFlowReplies s c r → touches c r ≢ touch.Subscriber u → touches c r ≢ touch.Subscribers
+      → FindsNothing state_flow u s → FindsNothing state_flow u (state_flow_after s c r)
+  stays u s (call.Set x) r told others unset f = absurd (unset refl)
+  stays u s (call.TryEmit x) r told others unset f = absurd (unset refl)
+  stays u s (call.CompareAndSet a b) (reply.Answered true) told others unset f = absurd (unset refl)
   stays u s (call.Subscribe given) (reply.Subscribed n) told others unset f =
-      subst (λ o. Receives s.value o (reply.Received Empty)) (sym (last-snoc_some u s.subscribers _ (there s.value (last_of u s.subscribers) f))) f
+      subst (λ o. Receives s.value o (reply.Received Empty)) (sym (last-snoc_some u s.subscribers _ (there s.value (last_got_by u s.subscribers) f))) f
   stays u s (call.TakeNext n) (reply.Received (Value x)) told others unset f =
-      split (n == u) (λ t. (n == u) ≡ t → FindsNothing state_flow u (after s (call.TakeNext n) (reply.Received (Value x))))
-      (λ same _. absurd (not_both s.value x (last_of u s.subscribers) f (subst (λ m. Receives s.value (last_of m s.subscribers) (reply.Received (Value x))) ((Decides-eqb n u).0 same) told)))
+      split (n == u) (λ t. (n == u) ≡ t → FindsNothing state_flow u (state_flow_after s (call.TakeNext n) (reply.Received (Value x))))
+      (λ same _. absurd (not_both s.value x (last_got_by u s.subscribers) f (subst (λ m. Receives s.value (last_got_by m s.subscribers) (reply.Received (Value x))) ((Decides-eqb n u).0 same) told)))
       (λ other _. subst (λ o. Receives s.value o (reply.Received Empty)) (sym (last-with_other u n x s.subscribers other)) f) refl
   stays u s (call.Unsubscribe n) (reply.Answered b) told others unset f =
-      split (n == u) (λ t. (n == u) ≡ t → FindsNothing state_flow u (after s (call.Unsubscribe n) (reply.Answered b)))
-      (λ same _. absurd (others (ap Some ((Decides-eqb n u).0 same))))
+      split (n == u) (λ t. (n == u) ≡ t → FindsNothing state_flow u (state_flow_after s (call.Unsubscribe n) (reply.Answered b)))
+      (λ same _. absurd (others (ap touch.Subscriber ((Decides-eqb n u).0 same))))
       (λ other _. subst (λ o. Receives s.value o (reply.Received Empty)) (sym (last-without_other u n s.subscribers other)) f) refl
   stays u s c r told others unset f = f
 
   abbrev pub state_sleeping : Sleeping (state_flow {T = T})
   state_sleeping = record {
     mark = λ s. 0;
-    is_set = is_set;
     waits = λ e s. false;
     first_waiting = λ s. None;
-    ends = ends;
-    cancels = λ c. None;
-    next_sets = λ u r. refl;
-    subscribe_sets = λ name r. refl;
-    unsubscribe_sets = λ u r. refl;
-    count_sets = λ r. refl;
-    next_ends = λ u. refl;
-    subscribe_ends = λ name. refl;
-    unsubscribe_ends = λ u. refl;
-    count_ends = refl;
-    next_cancels = λ u. refl;
-    subscribe_cancels = λ name. refl;
-    unsubscribe_cancels = λ u. refl;
-    count_cancels = refl;
+    touches = touches;
+    next_touches = λ u r. refl;
+    subscribe_touches = λ name r. refl;
+    unsubscribe_touches = λ u r. refl;
+    count_touches = λ r. refl;
     stays = λ u s c r told others unset _ f. stays u s c r told others unset f;
     found = λ u s f. f;
     IsSound = λ s. Unit {0};

@@ -19,7 +19,7 @@ use Rattle.flow_law.specs.declared.call.SharedCall.{SharedCall}
 use Rattle.flow_law.specs.declared.call.SharedCall.TheVariants as call
 use Rattle.flow_law.specs.declared.call.SharedReply.{SharedReply}
 use Rattle.flow_law.specs.declared.call.SharedReply.TheVariants as reply
-use Rattle.flow_law.specs.SharedFlow.{SharedFlowState, Answer, capacity, cache_start, entry, values, cache, is_blocked, is_exhausted, is_offering, is_offered_as, window, stand_at, without, position_of, own_of, Subscriber, answer, issuing}
+use Rattle.flow_law.specs.SharedFlow.{SharedFlowState, Replied, capacity, cache_start, entry, values, cache, is_blocked, is_exhausted, is_offering, is_offered_as, window, stand_at, without, position_of, own_of, Subscriber, answer, issuing}
 use Rattle.flow_law.specs.EmitRule.{appends, offers, when_blocked, is_open, emit_case, append, suspend, drop_oldest, emit_in, try_emit_in}
 use Rattle.flow_law.specs.SharedStep.{is_waiting, settle, withdraw, enroll, advance, leave, forget, keep_own, next_from, read, next}
 use Rattle.flow_law.specs.SharedHistory.{SharedOutcome, outcome_of, answer_to, is_refused, Replies, after}
@@ -50,7 +50,7 @@ past_here zero (x ∷ xs) e = absurd (none_or_some x (sym e))
 past_here (suc p) (x ∷ xs) e = omega (arith, past_here p xs e)
 
 module _ {T : Type 0} where
-  pub emit_split : (Q : Answer Emit T → Type 0) (s : SharedFlowState T) (v : T) → Q (record { reply = Err Exhausted; after = s })
+  pub emit_split : (Q : Replied Emit T → Type 0) (s : SharedFlowState T) (v : T) → Q (record { reply = Err Exhausted; after = s })
       → ((r : Emit) → is_blocked s ≡ false → Q (answer r (append v s)))
       → Q (answer (Queued (s.issued + 1)) (suspend v s))
       → (s.config.overflow ≡ DropOldest → Q (answer Done (drop_oldest (append v s))))
@@ -61,7 +61,7 @@ module _ {T : Type 0} where
       (λ e. blocked s.config.overflow c)
       (λ e. issue (answer (Queued (s.issued + 1)) (append v s)) (a (Queued (s.issued + 1)) e)))
     where
-      issue : (x : Answer Emit T) → Q x → Q (issuing s x)
+      issue : (x : Replied Emit T) → Q x → Q (issuing s x)
       issue x q = cond_both (is_exhausted s) (record { reply = Err Exhausted; after = s }) x Q (λ _. full) (λ _. q)
 
       blocked : (o : Overflow) → (o ≡ DropOldest → Q (answer Done (drop_oldest (append v s)))) → Q (emit_in (when_blocked o) v s)
@@ -69,7 +69,7 @@ module _ {T : Type 0} where
       blocked DropOldest c = cond_both (is_exhausted s) (record { reply = Err Exhausted; after = s }) (answer Done (drop_oldest (append v s))) Q (λ _. full) (λ _. c refl)
       blocked DropLatest c = d
 
-  pub try_emit_split : (Q : Answer Bool T → Type 0) (s : SharedFlowState T) (v : T) → Q (record { reply = Err Exhausted; after = s })
+  pub try_emit_split : (Q : Replied Bool T → Type 0) (s : SharedFlowState T) (v : T) → Q (record { reply = Err Exhausted; after = s })
       → (is_blocked s ≡ false → Q (answer true (append v s)))
       → (s.config.overflow ≡ DropOldest → Q (answer true (drop_oldest (append v s))))
       → ((r : Bool) → Q (answer r s)) → Q (try_emit_in (emit_case s) v s)
@@ -79,7 +79,7 @@ module _ {T : Type 0} where
       (λ e. blocked s.config.overflow c)
       (λ e. d false))
     where
-      issue : (x : Answer Bool T) → Q x → Q (issuing s x)
+      issue : (x : Replied Bool T) → Q x → Q (issuing s x)
       issue x q = cond_both (is_exhausted s) (record { reply = Err Exhausted; after = s }) x Q (λ _. full) (λ _. q)
 
       blocked : (o : Overflow) → (o ≡ DropOldest → Q (answer true (drop_oldest (append v s)))) → Q (try_emit_in (when_blocked o) v s)
@@ -194,7 +194,7 @@ module _ {T : Type 0} where
         ap (λ (n : Mailbox T). n.taken) now,
       )
 
-  abbrev pub ReadGood : ℕ → ℕ → SharedFlowState T → Mailbox T → Beginning T → Answer (Next T) T → Type 0
+  abbrev pub ReadGood : ℕ → ℕ → SharedFlowState T → Mailbox T → Beginning T → Replied (Next T) T → Type 0
   ReadGood n u s m b a = Stepped u s m b (call.TakeNext n) (outcome_of reply.Received a)
 
   read_good : (n u : ℕ) (b : Beginning T) (p : ℕ) (s : SharedFlowState T) (m : Mailbox T) → Sound s → Boxed u s m b → own_of n s.subscribers ≡ [] → position_of n s.subscribers ≡ Some p → ReadGood n u s m b (read n p s)

@@ -17,7 +17,7 @@ use Rattle.flow_law.specs.Sharing.{newest_command, last_moment, command_of, is_r
 use Rattle.flow_law.specs.Steps.{Takes}
 use Rattle.flow_law.specs.SharingCalls.{HubCall, HubAnswer, ChainAnswer, counts, puts, polls, cancels, resets, item, pending, end, AskDoes, ChainAndHub, CallDoes}
 use Rattle.flow_law.specs.SharingTurn.{SharingState, Turned, refusal, reported, after_put, after_ask, send, after_poll, collect_while_running, after_reset, reset_if_due, after_cancel, work, begin, after_count, turn_steps}
-use Rattle.flow_law.specs.TurnMeaning.{Accounts, HasAccount, BetweenTurns, since_start, rest_at, WasRefused, OutcomeMeans, TurnMeans}
+use Rattle.flow_law.specs.TurnMeaning.{ChainAccounts, HasAccount, BetweenTurns, since_start, rest_at, WasRefused, OutcomeMeans, TurnMeans}
 use Rattle.flow_law.proofs.TurnLemmas.{by-if, Leads, leads-takes, leads-so}
 
 pub not-both : {b : Bool} → b ≡ true → b ≡ false → ⊥
@@ -78,7 +78,7 @@ module _ {T H : Type 0} (does : (c : HubCall T) → H → HubAnswer c → H → 
         refused-means fault (record s { kept = Some x }) (record both { hub = h }) (λ g r u. held g) (both.hub, (puts x, told)) (between-running _ _ runs on)
 
     ask-means : (s : SharingState T) (both : ChainAndHub T H) → s.runs ≡ true → s.completed ≡ false → s.kept ≡ None → before ≡ both.rest
-        → (Given → Accounts accepted s both)
+        → (Given → ChainAccounts accepted s both)
         → (a : ChainAnswer T) (rest : ChainRun T) → AskDoes both.rest a rest → Leads does Comes (after_ask command seen s a) (record both { rest = rest })
     ask-means s both runs on none same held (item x) rest is =
         put-means x s (record both { rest = rest }) runs on
@@ -112,12 +112,12 @@ module _ {T H : Type 0} (does : (c : HubCall T) → H → HubAnswer c → H → 
     )
 
     send-means : (k : Option T) (s : SharingState T) (both : ChainAndHub T H) → s.kept ≡ k → s.runs ≡ true → s.completed ≡ false → before ≡ both.rest
-        → (Given → Accounts accepted s both) → Leads does Comes (send command seen k s) both
+        → (Given → ChainAccounts accepted s both) → Leads does Comes (send command seen k s) both
     send-means None s both is runs on same held = ask-means s both runs on is same held
     send-means (Some x) s both is runs on same held =
         put-means x s both runs on (λ g. held g ∙ ap (λ k. accepted ++ (kept_items k ++ items both.rest)) is)
 
-    poll-means : (s : SharingState T) (both : ChainAndHub T H) → s.runs ≡ true → s.completed ≡ false → before ≡ both.rest → (Given → Accounts accepted s both)
+    poll-means : (s : SharingState T) (both : ChainAndHub T H) → s.runs ≡ true → s.completed ≡ false → before ≡ both.rest → (Given → ChainAccounts accepted s both)
         → (a : Result Bool FlowFault) (h : H) → does polls both.hub a h → Leads does Comes (after_poll command seen s a) (record both { hub = h })
     poll-means s both runs on same held (Ok true) h told =
         (Ok Waiting, refl, λ g. (held g, (both.hub, told)), between-running _ _ runs on)

@@ -12,8 +12,8 @@ use Rattle.flow_law.specs.declared.outcome.Next.TheVariants.{Value, Empty, Gone}
 use Rattle.flow_law.specs.OneHistory.{said}
 use Rattle.flow_law.specs.History.{IsHistory}
 use Rattle.flow_law.specs.declared.states.StateFlowState.{StateFlowState}
-use Rattle.flow_law.specs.StateFlow.{StateHistory, state_flow, state_after_all, IsLegalState, after, Replies}
-use Rattle.flow_law.specs.Updates.{StateToken, IsRound, LosesRounds, none_lost, one_lost, Updates}
+use Rattle.flow_law.specs.StateFlow.{StateHistory, state_flow, state_after_all, IsLegalState, state_flow_after, StateFlowReplies}
+use Rattle.flow_law.specs.Updates.{StateTokenOf, IsRound, LosesRounds, none_lost, one_lost, Updates}
 use Rattle.flow_law.specs.Done.{total, done_by}
 use Rattle.flow_law.specs.Closed.{AreAll, IsClosed}
 use Rattle.flow_law.specs.UpdateCounts.{iterate, update_by, updates, UpdatesBy, OnlyUpdates, UpdatesTimes}
@@ -28,7 +28,7 @@ module _ {T : Type 0} (g : T → T) where
   iterate_plus zero n v = let e : zero + n ≡ n = omega arith in ap (λ x. iterate g x v) e
   iterate_plus (suc m) n v = let e : suc m + n ≡ suc (m + n) = omega arith in ap (λ x. iterate g x v) e ∙ iterate_plus m n (g v)
 
-  step : (s : StateFlowState T) (c : StateCall T) (r : StateReply T) → Replies s c r → UpdatesBy g c r → (after s c r).value ≡ iterate g (update_by c r) s.value
+  step : (s : StateFlowState T) (c : StateCall T) (r : StateReply T) → StateFlowReplies s c r → UpdatesBy g c r → (state_flow_after s c r).value ≡ iterate g (update_by c r) s.value
   step s call.GetValue r p u = refl
   step s (call.Set x) r p u = absurd u
   step s (call.TryEmit x) r p u = absurd u
@@ -78,7 +78,7 @@ module _ {T : Type 0} (g : T → T) where
   value_updated s [] legal all = refl
   value_updated s (e ∷ es) legal all =
       let c = e.what.call in let r = e.what.reply in let n = total (λ (e : HistoryEvent (Says T)). update_by e.what.call e.what.reply) es in
-      value_updated (after s c r) es legal.1 all.1 ∙ ap (iterate g n) (step s c r legal.0 all.0) ∙ sym (iterate_plus (update_by c r) n s.value)
+      value_updated (state_flow_after s c r) es legal.1 all.1 ∙ ap (iterate g n) (step s c r legal.0 all.0) ∙ sym (iterate_plus (update_by c r) n s.value)
 
   pub all_updated : (first : StateFlowState T) (ks : List (Knowledge (Says T))) (h : StateHistory T) → IsLegalState first h → AreAll ks → IsClosed h ks
       → AllByRecursion (λ (k : Knowledge (Says T)). OnlyUpdates g (done_by k)) ks
@@ -107,7 +107,7 @@ module _ {T : Type 0} (g : T → T) where
       (subst (OnlyUpdates g) (sym e) x.2, ap updates e ∙ x.3)
 
   module _ {Id : Type 0} (first : StateFlowState T) (Gives : T → T → Type 0) (gives : (x y : T) → Gives x y → y ≡ g x) where
-    times_lost : (t u : StateToken Id T) (x y : T) → IsRound first Gives false t x y u → UpdatesTimes g 0 t.knows u.knows
+    times_lost : (t u : StateTokenOf Id T) (x y : T) → IsRound first Gives false t x y u → UpdatesTimes g 0 t.knows u.knows
     times_lost t u x y r = (
       said call.GetValue (reply.Got x) ∷ said (call.CompareAndSet x y) (reply.Answered false) ∷ [],
       made_more (said call.GetValue (reply.Got x) ∷ []) (said (call.CompareAndSet x y) (reply.Answered false) ∷ []) t.knows r.between.knows u.knows
@@ -117,7 +117,7 @@ module _ {T : Type 0} (g : T → T) where
       refl,
     )
 
-    times_won : (t u : StateToken Id T) (x y : T) → IsRound first Gives true t x y u → UpdatesTimes g 1 t.knows u.knows
+    times_won : (t u : StateTokenOf Id T) (x y : T) → IsRound first Gives true t x y u → UpdatesTimes g 1 t.knows u.knows
     times_won t u x y r = (
       said call.GetValue (reply.Got x) ∷ said (call.CompareAndSet x y) (reply.Answered true) ∷ [],
       made_more (said call.GetValue (reply.Got x) ∷ []) (said (call.CompareAndSet x y) (reply.Answered true) ∷ []) t.knows r.between.knows u.knows
@@ -127,10 +127,10 @@ module _ {T : Type 0} (g : T → T) where
       refl,
     )
 
-    times_rounds : (t u : StateToken Id T) → LosesRounds first Gives t u → UpdatesTimes g 0 t.knows u.knows
+    times_rounds : (t u : StateTokenOf Id T) → LosesRounds first Gives t u → UpdatesTimes g 0 t.knows u.knows
     times_rounds t u (none_lost {t = s}) = times_none s.knows
     times_rounds t u (one_lost {s = s} {t = w} {u = v} {x = x} {y = y} l r) = times_more 0 0 s.knows w.knows v.knows (times_rounds s w l) (times_lost w v x y r)
 
     -- an update is one
-    pub times_one : (t u : StateToken Id T) (x y : T) → Updates first Gives t x y u → UpdatesTimes g 1 t.knows u.knows
+    pub times_one : (t u : StateTokenOf Id T) (x y : T) → Updates first Gives t x y u → UpdatesTimes g 1 t.knows u.knows
     times_one t u x y p = times_more 0 1 t.knows p.between.knows u.knows (times_rounds t p.between p.lost) (times_won p.between u x y p.won)

@@ -10,7 +10,7 @@ use Rattle.flow_law.specs.declared.call.SharedCall.TheVariants as call
 use Rattle.flow_law.specs.declared.call.SharedReply.{SharedReply}
 use Rattle.flow_law.specs.declared.call.SharedReply.TheVariants as reply
 use Rattle.flow_law.specs.SharedFlow.{SharedFlowState}
-use Rattle.flow_law.specs.SharedHistory.{History, IsLegal, state_after}
+use Rattle.flow_law.specs.SharedHistory.{History, IsLegalShared, state_after}
 
 module _ {T : Type 0} where
   -- the value that a call gave to the flow, if its reply says that the flow took it (under `DropLatest` the flow may have dropped it)
@@ -39,5 +39,5 @@ module _ {T : Type 0} where
 -- the law: in a flow that suspends, the emitted values and then the queued ones are what the flow accepted, in order, if no
 -- `cancel` was called
 abbrev pub LawAccepted : Type 0 → Type 0
-LawAccepted T = (config : Config) (h : History T) → IsLegal config h → config.overflow ≡ Suspend → NoneCancelled h
+LawAccepted T = (config : Config) (h : History T) → IsLegalShared config h → config.overflow ≡ Suspend → NoneCancelled h
     → emitted_and_queued (state_after config h) ≡ accepted (map (λ e. e.what) h)

@@ -27,9 +27,9 @@ pub record Beside (T : Type 0) : Type 0 where
   pub last : Option T
 
 -- the number of a new subscriber, if it was not refused
-abbrev pub given : Result ℕ FlowFault → Option ℕ
-given (Ok number) = Some number
-given (Err fault) = None
+abbrev pub given_number : Result ℕ FlowFault → Option ℕ
+given_number (Ok number) = Some number
+given_number (Err fault) = None
 
 module _ {T : Type 0} where
   -- the shared flow after it emitted the first value of the state flow
@@ -42,7 +42,7 @@ module _ {T : Type 0} where
 
   -- the watched subscriber subscribes to the shared flow, too
   abbrev pub subscribing : Beside T → Beside T
-  subscribing m = record { shared = (flow.subscribe [] m.shared).after; number = given (flow.subscribe [] m.shared).reply; last = None }
+  subscribing m = record { shared = (flow.subscribe [] m.shared).after; number = given_number (flow.subscribe [] m.shared).reply; last = None }
 
   -- the last value that the subscriber got, after this answer of the shared flow
   abbrev pub passed_on : Result (Next T) FlowFault → Option T → Option T

@@ -9,7 +9,7 @@ use Rattle.flow_law.specs.declared.call.StateCall.{StateCall}
 use Rattle.flow_law.specs.declared.call.StateCall.TheVariants.{TakeNext}
 use Rattle.flow_law.specs.declared.call.StateReply.{StateReply}
 use Rattle.flow_law.specs.declared.call.StateReply.TheVariants.{Received}
-use Rattle.flow_law.specs.StateFlow.{StateFlowState, StateHistory, first_state_flow, last_of, after, Replies, state_after_all, IsLegalState}
+use Rattle.flow_law.specs.StateFlow.{StateFlowState, StateHistory, first_state_flow, last_got_by, state_flow_after, StateFlowReplies, state_after_all, IsLegalState}
 
 module _ {T : Type 0} where
   -- the last value that u got, after an event before which it was `last`
@@ -30,8 +30,8 @@ module _ {T : Type 0} where
   abbrev pub IsSteady : StateFlowState T → StateHistory T → Type 0
   IsSteady s [] = Unit {0}
   IsSteady s (e ∷ es) =
-      ((after s e.what.call e.what.reply).value ≡ s.value)
-      × IsSteady (after s e.what.call e.what.reply) es
+      ((state_flow_after s e.what.call e.what.reply).value ≡ s.value)
+      × IsSteady (state_flow_after s e.what.call e.what.reply) es
 
   -- `next` gives Empty if the subscriber has the current value, and the current value otherwise
   abbrev pub GivesCurrent : T → Option T → Next T → Type 0
@@ -44,19 +44,19 @@ module _ {T : Type 0} where
 
   -- u is a subscriber in this state
   abbrev pub IsThere : ℕ → StateFlowState T → Type 0
-  IsThere u s = IsSome (last_of u s.subscribers)
+  IsThere u s = IsSome (last_got_by u s.subscribers)
 
   -- how u gets the current value of a flow that had this history
   pub record Converges (u : ℕ) (first : StateFlowState T) (before : StateHistory T) : Type 0 where
     -- `next` gives Empty if the last value that u got is the current one, else the current one
     pub gives : (r : Next T) → IsThere u (state_after_all first before)
-        → Replies (state_after_all first before) (TakeNext u) (Received r)
+        → StateFlowReplies (state_after_all first before) (TakeNext u) (Received r)
         → GivesCurrent (state_after_all first before).value (last_got u before) r
     -- after one `next`, the last value that u got is the current one until an event changes it
     pub settles : (r : Next T) (e : HistoryEvent (Said (StateCall T) (StateReply T)))
         (since : StateHistory T) → IsThere u (state_after_all first before) → IsNext u r e
         → IsLegalState first (before ++ e ∷ since)
-        → IsSteady (after (state_after_all first before) e.what.call e.what.reply) since
+        → IsSteady (state_flow_after (state_after_all first before) e.what.call e.what.reply) since
         → last_got u (before ++ e ∷ since)
         ≡ Some (state_after_all first (before ++ e ∷ since)).value
 

@@ -29,7 +29,7 @@ module _ {X T : Type 0} (Nexts : X → Result (Next T) FlowFault → X → Type 
   EndsBy before (Err fault) after = EndsByCall before (Err fault) after ⊎ ((fault ≡ OutOfMemory) × (before ≡ after))
 
   -- a drain took at most `most` values; `Ends` says how it ended
-  pub record Takes (Ends : X → Result Drained FlowFault → X → Type 0) (most : ℕ) (old : X) (old_list : List T) (result : Result Drained FlowFault) (new_list : List T) (new : X) : Type 0 where
+  pub record TakesAtMost (Ends : X → Result Drained FlowFault → X → Type 0) (most : ℕ) (old : X) (old_list : List T) (result : Result Drained FlowFault) (new_list : List T) (new : X) : Type 0 where
     pub values : List T
     -- the state after the last of them
     pub last : X
@@ -41,11 +41,11 @@ module _ {X T : Type 0} (Nexts : X → Result (Next T) FlowFault → X → Type 
 
   -- a drain into a list that may have no room
   abbrev pub DrainsBy : ℕ → X → List T → Result Drained FlowFault → List T → X → Type 0
-  DrainsBy = Takes EndsBy
+  DrainsBy = TakesAtMost EndsBy
 
   -- a drain into a list that has room for all
   abbrev pub TakesBy : ℕ → X → List T → Result Drained FlowFault → List T → X → Type 0
-  TakesBy = Takes EndsByCall
+  TakesBy = TakesAtMost EndsByCall
 
 -- the list has no room for one more value
 abbrev pub IsFull : {T A : Type 0} → Vec T A → Type 0

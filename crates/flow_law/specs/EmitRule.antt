@@ -10,7 +10,7 @@ use Rattle.flow_law.specs.declared.config.Overflow.{Overflow}
 use Rattle.flow_law.specs.declared.config.Overflow.TheVariants.{Suspend, DropOldest, DropLatest}
 use Rattle.flow_law.specs.declared.outcome.Emit.{Emit}
 use Rattle.flow_law.specs.declared.outcome.Emit.TheVariants.{Done, Queued}
-use Rattle.flow_law.specs.SharedFlow.{Numbered, SharedFlowState, Answer, answer, issuing, capacity, is_blocked, raise_to}
+use Rattle.flow_law.specs.SharedFlow.{Numbered, SharedFlowState, Replied, answer, issuing, capacity, is_blocked, raise_to}
 
 -- what an emission does
 pub data EmitCase : Type 0 where
@@ -57,7 +57,7 @@ module _ {T : Type 0} where
   drop_oldest s = record s { subscribers = raise_to (length s.emitted - capacity s) s.subscribers }
 
   -- `emit` in each case
-  abbrev pub emit_in : EmitCase → T → SharedFlowState T → Answer Emit T
+  abbrev pub emit_in : EmitCase → T → SharedFlowState T → Replied Emit T
   emit_in appends v s = issuing s (answer Done (append v s))
   emit_in offers v s = issuing s (answer (Queued (s.issued + 1)) (append v s))
   emit_in queues v s = issuing s (answer (Queued (s.issued + 1)) (suspend v s))
@@ -65,7 +65,7 @@ module _ {T : Type 0} where
   emit_in drops_oldest v s = issuing s (answer Done (drop_oldest (append v s)))
 
   -- `try_emit` in each case
-  abbrev pub try_emit_in : EmitCase → T → SharedFlowState T → Answer Bool T
+  abbrev pub try_emit_in : EmitCase → T → SharedFlowState T → Replied Bool T
   try_emit_in appends v s = issuing s (answer true (append v s))
   try_emit_in offers v s = answer false s
   try_emit_in queues v s = answer false s
@@ -73,9 +73,9 @@ module _ {T : Type 0} where
   try_emit_in drops_oldest v s = issuing s (answer true (drop_oldest (append v s)))
 
   -- `emit`
-  abbrev pub emit : T → SharedFlowState T → Answer Emit T
+  abbrev pub emit : T → SharedFlowState T → Replied Emit T
   emit v s = emit_in (emit_case s) v s
 
   -- `try_emit`
-  abbrev pub try_emit : T → SharedFlowState T → Answer Bool T
+  abbrev pub try_emit : T → SharedFlowState T → Replied Bool T
   try_emit v s = try_emit_in (emit_case s) v s

@@ -4,7 +4,7 @@ use Rattle.std.specs.Prelude.{◌≡◌, ◌≢◌, ◌⊎◌, ℕ, ◌+◌, ◌
 use Rattle.flow_law.specs.declared.config.Config.{Config}
 use Rattle.flow_law.specs.declared.config.Overflow.TheVariants.{DropOldest}
 use Rattle.flow_law.specs.SharedFlow.{first_state, values, position_of}
-use Rattle.flow_law.specs.SharedHistory.{History, IsLegal, state_after}
+use Rattle.flow_law.specs.SharedHistory.{History, IsLegalShared, state_after}
 use Rattle.flow_law.specs.Mailbox.{box, began, keep_last}
 use Rattle.flow_law.specs.Waiting.{from_flow}
 
@@ -47,4 +47,4 @@ module _ {T : Type 0} where
 
 -- the law: after every legal history, each subscriber misses no more than `Lags` allows
 abbrev pub LawLagged : Type 0 → Type 0
-LawLagged T = (config : Config) (h : History T) → IsLegal config h → EachLags config h
+LawLagged T = (config : Config) (h : History T) → IsLegalShared config h → EachLags config h

@@ -3,7 +3,7 @@ use Rattle.std.specs.Prelude.{◌≡◌, ◌≢◌, ℕ, ◌<◌, ◌≤◌, fal
 use Rattle.flow_law.specs.declared.config.Config.{Config}
 use Rattle.flow_law.specs.declared.config.Overflow.TheVariants.{DropOldest}
 use Rattle.flow_law.specs.SharedFlow.{SharedFlowState, is_blocked, capacity, values, position_of, own_of}
-use Rattle.flow_law.specs.SharedHistory.{History, IsLegal, state_after}
+use Rattle.flow_law.specs.SharedHistory.{History, IsLegalShared, state_after}
 use Rattle.flow_law.specs.Mailbox.{taken, own, box, delivered, received, began}
 
 -- the numbers rise, the first one above the floor, and none is above the top
@@ -36,8 +36,8 @@ module _ {T : Type 0} where
 
 -- the law: after every legal history, no emission waits in the queue of a flow that is not blocked
 abbrev pub LawNoIdleQueue : Type 0 → Type 0
-LawNoIdleQueue T = (config : Config) (h : History T) → IsLegal config h → NoIdleQueue (state_after config h)
+LawNoIdleQueue T = (config : Config) (h : History T) → IsLegalShared config h → NoIdleQueue (state_after config h)
 
 -- the law: after every legal history, each subscriber was given what `Delivers` says
 abbrev pub LawDelivered : Type 0 → Type 0
-LawDelivered T = (config : Config) (h : History T) → IsLegal config h → (u : ℕ) → Delivers u config h
+LawDelivered T = (config : Config) (h : History T) → IsLegalShared config h → (u : ℕ) → Delivers u config h

@@ -11,7 +11,7 @@ use Rattle.flow_law.specs.declared.call.SharedCall.TheVariants.{Subscribe, TakeN
 use Rattle.flow_law.specs.declared.call.SharedReply.{SharedReply}
 use Rattle.flow_law.specs.declared.call.SharedReply.TheVariants.{Subscribed, Received}
 use Rattle.flow_law.specs.SharedFlow.{SharedFlowState}
-use Rattle.flow_law.specs.SharedHistory.{History, IsLegal, Replies, after_all, state_after}
+use Rattle.flow_law.specs.SharedHistory.{History, IsLegalShared, Replies, shared_after_all, state_after}
 use Rattle.flow_law.specs.Mailbox.{found_at_entry, received}
 
 module _ {T : Type 0} where
@@ -37,7 +37,7 @@ module _ {T : Type 0} where
     -- what it has still to receive after these reads
     pub rest : List T
     pub in_order : first ++ found_at_entry s ≡ received u reads ++ rest
-    pub next : (r : Next T) → Replies (after_all s (e ∷ reads)) (TakeNext u) (Received r)
+    pub next : (r : Next T) → Replies (shared_after_all s (e ∷ reads)) (TakeNext u) (Received r)
         → r ≡ first_or_empty rest
 
   -- `Replays` holds of each subscriber that entered and then read until the end of the history while no other call was made
@@ -49,4 +49,4 @@ module _ {T : Type 0} where
 
 -- the law: in every legal history, a new subscriber that only reads receives what `Replays` says
 abbrev pub LawReplay : Type 0 → Type 0
-LawReplay T = (config : Config) (h : History T) → IsLegal config h → EachReplays config h
+LawReplay T = (config : Config) (h : History T) → IsLegalShared config h → EachReplays config h

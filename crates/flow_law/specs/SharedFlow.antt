@@ -152,15 +152,15 @@ module _ {T : Type 0} where
 -- ---- what a call gives
 
 -- the reply, and the state after the call
-pub record Answer (R T : Type 0) : Type 0 where
+pub record Replied (R T : Type 0) : Type 0 where
   pub reply : Result R FlowFault
   pub after : SharedFlowState T
 
 module _ {T : Type 0} where
   -- the answer of a call that is not refused
-  abbrev pub answer : {R : Type 0} → R → SharedFlowState T → Answer R T
+  abbrev pub answer : {R : Type 0} → R → SharedFlowState T → Replied R T
   answer reply after = record { reply = Ok reply; after = after }
 
   -- a call that would issue a number when none is left is refused and changes nothing
-  abbrev pub issuing : {R : Type 0} → SharedFlowState T → Answer R T → Answer R T
+  abbrev pub issuing : {R : Type 0} → SharedFlowState T → Replied R T → Replied R T
   issuing s a = if is_exhausted s then record { reply = Err Exhausted; after = s } else a

@@ -11,7 +11,7 @@ use Rattle.flow_law.specs.declared.call.SharedCall.{SharedCall}
 use Rattle.flow_law.specs.declared.call.SharedCall.TheVariants as call
 use Rattle.flow_law.specs.declared.call.SharedReply.{SharedReply}
 use Rattle.flow_law.specs.declared.call.SharedReply.TheVariants as reply
-use Rattle.flow_law.specs.SharedFlow.{SharedFlowState, Answer, first_state, config_fault, position_of, own_of}
+use Rattle.flow_law.specs.SharedFlow.{SharedFlowState, Replied, first_state, config_fault, position_of, own_of}
 use Rattle.flow_law.specs.EmitRule.{emit_case, is_suspended}
 use Rattle.flow_law.specs.SharedStep as flow
 use Rattle.flow_law.specs.History.{Number, subscriber, emission, Owner, Kind}
@@ -29,7 +29,7 @@ module _ {T : Type 0} where
   reply_by wrap (Err fault) = reply.Refused fault
 
   -- an answer as an outcome
-  abbrev pub outcome_of : {R : Type 0} → (R → SharedReply T) → Answer R T → SharedOutcome T
+  abbrev pub outcome_of : {R : Type 0} → (R → SharedReply T) → Replied R T → SharedOutcome T
   outcome_of wrap a = record { reply = reply_by wrap a.reply; after = a.after }
 
   -- what the documented flow replies to a call, and the state after it
@@ -123,8 +123,8 @@ History T = List (HistoryEvent (Said (SharedCall T) (SharedReply T)))
 
 module _ {T : Type 0} where
   -- the state after all events of a history
-  abbrev pub after_all : SharedFlowState T → History T → SharedFlowState T
-  after_all = histories.after_all shared_flow
+  abbrev pub shared_after_all : SharedFlowState T → History T → SharedFlowState T
+  shared_after_all = histories.after_all shared_flow
 
   -- each reply of the history is one that a flow that begins in this state may give
   abbrev pub IsLegalFrom : SharedFlowState T → History T → Type 0
@@ -132,12 +132,12 @@ module _ {T : Type 0} where
 
   -- the state that a history of a flow of this configuration leads to
   abbrev pub state_after : Config → History T → SharedFlowState T
-  state_after config h = after_all (first_state config) h
+  state_after config h = shared_after_all (first_state config) h
 
   -- a legal history of a flow of this configuration, of which a flow can be made
-  abbrev pub IsLegal : Config → History T → Type 0
-  IsLegal config h = (config_fault config ≡ None) × IsLegalFrom (first_state config) h
+  abbrev pub IsLegalShared : Config → History T → Type 0
+  IsLegalShared config h = (config_fault config ≡ None) × IsLegalFrom (first_state config) h
 
   -- a history that a flow of this configuration may have had: legal and owned
-  abbrev pub IsHistory : Config → History T → Type 0
-  IsHistory config = histories.IsHistory shared_flow (first_state config)
+  abbrev pub IsSharedHistory : Config → History T → Type 0
+  IsSharedHistory config = histories.IsHistory shared_flow (first_state config)

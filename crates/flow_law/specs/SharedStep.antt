@@ -5,7 +5,7 @@ use Rattle.std.specs.Option.{option_map_or}
 use Rattle.flow_law.specs.declared.outcome.Next.{Next}
 use Rattle.flow_law.specs.declared.outcome.Next.TheVariants.{Value, Empty, Gone}
 use Rattle.flow_law.specs.SharedFlow.{Numbered, SharedFlowState, issuing, is_blocked, cache, entry, values, is_queued, is_offered_as, position_of, stand_at, move_to, without, own_of, with_own}
-pub use Rattle.flow_law.specs.SharedFlow.{Answer, answer}
+pub use Rattle.flow_law.specs.SharedFlow.{Replied, answer}
 pub use Rattle.flow_law.specs.EmitRule.{emit, try_emit}
 
 module _ {T : Type 0} where
@@ -25,7 +25,7 @@ module _ {T : Type 0} where
   is_waiting e s = is_queued e s || is_offered_as e s
 
   -- `poll`: whether the emitter of this number waits
-  abbrev pub poll : ℕ → SharedFlowState T → Answer Bool T
+  abbrev pub poll : ℕ → SharedFlowState T → Replied Bool T
   poll e s = answer (is_waiting e s) s
 
   -- the emission is withdrawn: subscribers that have not received an offered value miss it, and a queued value is dropped
@@ -35,7 +35,7 @@ module _ {T : Type 0} where
       else record s { queue = filter (λ q. not (q.number == e)) s.queue }
 
   -- `cancel`: whether the emitter waited, and the state after its emission is withdrawn
-  abbrev pub cancel : ℕ → SharedFlowState T → Answer Bool T
+  abbrev pub cancel : ℕ → SharedFlowState T → Replied Bool T
   cancel e s = answer (is_waiting e s) (settle (withdraw e s))
 
   -- ---- subscribers
@@ -48,7 +48,7 @@ module _ {T : Type 0} where
   }
 
   -- `subscribe_with` these first values; `subscribe` if there are none
-  abbrev pub subscribe : List T → SharedFlowState T → Answer ℕ T
+  abbrev pub subscribe : List T → SharedFlowState T → Replied ℕ T
   subscribe first s = issuing s (answer (s.issued + 1) (enroll first s))
 
   -- the state after the subscriber of this number moved to this position
@@ -56,13 +56,13 @@ module _ {T : Type 0} where
   advance number position s = record s { subscribers = move_to number position s.subscribers }
 
   -- the value at this position, which the subscriber passes; Empty if there is none
-  abbrev pub read : ℕ → ℕ → SharedFlowState T → Answer (Next T) T
+  abbrev pub read : ℕ → ℕ → SharedFlowState T → Replied (Next T) T
   read number position s =
       option_map_or (λ value. answer (Value value) (settle (advance number (position + 1) s)))
       (slice_get (values s) position) (answer Empty s)
 
   -- `next` of a subscriber without own values: the value at its position, or `Gone` if there is no such subscriber
-  abbrev pub next_emitted : ℕ → SharedFlowState T → Answer (Next T) T
+  abbrev pub next_emitted : ℕ → SharedFlowState T → Replied (Next T) T
   next_emitted number s = option_map_or (λ position. read number position s) (position_of number s.subscribers) (answer Gone s)
 
   -- the state with these own first values left to the subscriber of this number
@@ -70,12 +70,12 @@ module _ {T : Type 0} where
   keep_own number own s = record s { subscribers = with_own number own s.subscribers }
 
   -- `next` of a subscriber with these own values left: the first of them, or an emitted value if there are none
-  abbrev pub next_from : ℕ → List T → SharedFlowState T → Answer (Next T) T
+  abbrev pub next_from : ℕ → List T → SharedFlowState T → Replied (Next T) T
   next_from number [] s = next_emitted number s
   next_from number (value ∷ own) s = answer (Value value) (keep_own number own s)
 
   -- `next`
-  abbrev pub next : ℕ → SharedFlowState T → Answer (Next T) T
+  abbrev pub next : ℕ → SharedFlowState T → Replied (Next T) T
   next number s = next_from number (own_of number s.subscribers) s
 
   -- the state without the subscriber of this number
@@ -83,13 +83,13 @@ module _ {T : Type 0} where
   leave number s = record s { subscribers = without number s.subscribers }
 
   -- `unsubscribe`: whether there was such a subscriber
-  abbrev pub unsubscribe : ℕ → SharedFlowState T → Answer Bool T
+  abbrev pub unsubscribe : ℕ → SharedFlowState T → Replied Bool T
   unsubscribe number s = answer (is_some (position_of number s.subscribers)) (settle (leave number s))
 
   -- ---- the cache and the count
 
   -- `replay_cache`
-  abbrev pub replay_cache : SharedFlowState T → Answer (List T) T
+  abbrev pub replay_cache : SharedFlowState T → Replied (List T) T
   replay_cache s = answer (cache s) s
 
   -- the state with an empty replay cache: it begins after all values emitted so far
@@ -97,9 +97,9 @@ module _ {T : Type 0} where
   forget s = record s { reset_mark = length s.emitted }
 
   -- `reset_replay_cache`
-  abbrev pub reset_replay_cache : SharedFlowState T → Answer (Unit {0}) T
+  abbrev pub reset_replay_cache : SharedFlowState T → Replied (Unit {0}) T
   reset_replay_cache s = answer tt (forget s)
 
   -- `subscription_count`
-  abbrev pub subscription_count : SharedFlowState T → Answer ℕ T
+  abbrev pub subscription_count : SharedFlowState T → Replied ℕ T
   subscription_count s = answer (length s.subscribers) s

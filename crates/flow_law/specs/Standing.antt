@@ -86,4 +86,4 @@ Conforms = ConformsBy StandsFor shared.Replies shared.after shared.is_refused
 
 -- a call of a state core is a step of the documented state flow; a state core is seen as the state itself
 abbrev pub StateConforms : {T : Type 0} → StateFlowState T → StateCall T → StateReply T → StateFlowState T → Type 0
-StateConforms = ConformsBy (λ core s. core ≡ s) state.Replies state.after state.is_refused
+StateConforms = ConformsBy (λ core s. core ≡ s) state.StateFlowReplies state.state_flow_after state.is_state_refused

@@ -19,9 +19,9 @@ module _ {T : Type 0} where
   first_state_flow limit first = record { limit = limit; value = first; subscribers = []; issued = 0 }
 
   -- the last value that the subscriber of this number got, if there is such a subscriber
-  abbrev pub last_of : ℕ → List (StateSubscriber T) → Option (Option T)
-  last_of number [] = None
-  last_of number (r ∷ rs) = if r.number == number then Some r.last else last_of number rs
+  abbrev pub last_got_by : ℕ → List (StateSubscriber T) → Option (Option T)
+  last_got_by number [] = None
+  last_got_by number (r ∷ rs) = if r.number == number then Some r.last else last_got_by number rs
 
   -- the subscribers, with this as the last value that the one of this number got
   abbrev pub with_last : ℕ → T → List (StateSubscriber T) → List (StateSubscriber T)
@@ -33,18 +33,18 @@ module _ {T : Type 0} where
   without_subscriber number = filter (λ r. not (r.number == number))
 
   -- no number is left to issue
-  abbrev pub is_exhausted : StateFlowState T → Bool
-  is_exhausted s = s.issued == s.limit
+  abbrev pub is_state_exhausted : StateFlowState T → Bool
+  is_state_exhausted s = s.issued == s.limit
 
   -- the state after a call that had this reply. A refused call changes nothing
-  abbrev pub after : StateFlowState T → StateCall T → StateReply T → StateFlowState T
-  after s (Set x) r = record s { value = x }
-  after s (TryEmit x) r = record s { value = x }
-  after s (CompareAndSet a b) (Answered true) = record s { value = b }
-  after s (Subscribe name) (Subscribed n) = record s { subscribers = s.subscribers ++ record { number = n; last = None } ∷ []; issued = n }
-  after s (TakeNext u) (Received (Value x)) = record s { subscribers = with_last u x s.subscribers }
-  after s (Unsubscribe u) (Answered _) = record s { subscribers = without_subscriber u s.subscribers }
-  after s _ _ = s
+  abbrev pub state_flow_after : StateFlowState T → StateCall T → StateReply T → StateFlowState T
+  state_flow_after s (Set x) r = record s { value = x }
+  state_flow_after s (TryEmit x) r = record s { value = x }
+  state_flow_after s (CompareAndSet a b) (Answered true) = record s { value = b }
+  state_flow_after s (Subscribe name) (Subscribed n) = record s { subscribers = s.subscribers ++ record { number = n; last = None } ∷ []; issued = n }
+  state_flow_after s (TakeNext u) (Received (Value x)) = record s { subscribers = with_last u x s.subscribers }
+  state_flow_after s (Unsubscribe u) (Answered _) = record s { subscribers = without_subscriber u s.subscribers }
+  state_flow_after s _ _ = s
 
   -- what `next` replies, by the flow's value and the last value that the subscriber got
   abbrev pub Receives : T → Option (Option T) → StateReply T → Type 0
@@ -57,17 +57,17 @@ module _ {T : Type 0} where
   IsReply s (Set x) r = r ≡ Done
   IsReply s (TryEmit x) r = r ≡ Answered true
   IsReply s (CompareAndSet a b) r = ((s.value ≡ a) × (r ≡ Answered true)) ⊎ ((s.value ≢ a) × (r ≡ Answered false))
-  IsReply s (Subscribe name) r = r ≡ (if is_exhausted s then Refused Exhausted else Subscribed (s.issued + 1))
-  IsReply s (TakeNext u) r = Receives s.value (last_of u s.subscribers) r
-  IsReply s (Unsubscribe u) r = r ≡ Answered (is_some (last_of u s.subscribers))
+  IsReply s (Subscribe name) r = r ≡ (if is_state_exhausted s then Refused Exhausted else Subscribed (s.issued + 1))
+  IsReply s (TakeNext u) r = Receives s.value (last_got_by u s.subscribers) r
+  IsReply s (Unsubscribe u) r = r ≡ Answered (is_some (last_got_by u s.subscribers))
   IsReply s SubscriptionCount r = r ≡ Counted (length s.subscribers)
   IsReply s ReplayCache r = r ≡ Cached (s.value ∷ [])
   IsReply s ResetReplayCache r = r ≡ Refused Unsupported
 
   -- the reply is a refusal
-  abbrev pub is_refused : StateReply T → Bool
-  is_refused (Refused fault) = true
-  is_refused _ = false
+  abbrev pub is_state_refused : StateReply T → Bool
+  is_state_refused (Refused fault) = true
+  is_state_refused _ = false
 
   -- there is such a subscriber, and this value is not the last that it got
   abbrev pub IsDue : T → Option (Option T) → Type 0
@@ -78,39 +78,39 @@ module _ {T : Type 0} where
   abbrev pub MayNeedMemory : StateFlowState T → StateCall T → Type 0
   MayNeedMemory s GetValue = Unit {0}
   MayNeedMemory s ReplayCache = Unit {0}
-  MayNeedMemory s (TakeNext u) = IsDue s.value (last_of u s.subscribers)
-  MayNeedMemory s (Subscribe name) = is_exhausted s ≡ false
+  MayNeedMemory s (TakeNext u) = IsDue s.value (last_got_by u s.subscribers)
+  MayNeedMemory s (Subscribe name) = is_state_exhausted s ≡ false
   MayNeedMemory s _ = ⊥
 
   -- the flow may give this reply: `OutOfMemory` to a call that may need memory, and else only its one reply
-  abbrev pub Replies : StateFlowState T → StateCall T → StateReply T → Type 0
-  Replies s c (Refused OutOfMemory) = MayNeedMemory s c
-  Replies s c r = IsReply s c r
+  abbrev pub StateFlowReplies : StateFlowState T → StateCall T → StateReply T → Type 0
+  StateFlowReplies s c (Refused OutOfMemory) = MayNeedMemory s c
+  StateFlowReplies s c r = IsReply s c r
 
   -- the number that a token is given by a call, if one is: the subscription owns the subscriber's number
-  abbrev pub gives : List ℕ → StateCall T → StateReply T → Option Owner
-  gives name (Subscribe given) (Subscribed u) = Some (record { number = subscriber u; name = given })
-  gives name _ _ = None
+  abbrev pub state_flow_gives : List ℕ → StateCall T → StateReply T → Option Owner
+  state_flow_gives name (Subscribe given) (Subscribed u) = Some (record { number = subscriber u; name = given })
+  state_flow_gives name _ _ = None
 
   -- the number that a call names
-  abbrev pub speaks_of : StateCall T → Option Number
-  speaks_of (TakeNext u) = Some (subscriber u)
-  speaks_of (Unsubscribe u) = Some (subscriber u)
-  speaks_of _ = None
+  abbrev pub state_flow_speaks_of : StateCall T → Option Number
+  state_flow_speaks_of (TakeNext u) = Some (subscriber u)
+  state_flow_speaks_of (Unsubscribe u) = Some (subscriber u)
+  state_flow_speaks_of _ = None
 
   -- a state flow may begin in this state: it is the first state of its limit and its value
-  abbrev pub MayBegin : StateFlowState T → Type 0
-  MayBegin s = s ≡ first_state_flow s.limit s.value
+  abbrev pub StateFlowMayBegin : StateFlowState T → Type 0
+  StateFlowMayBegin s = s ≡ first_state_flow s.limit s.value
 
   -- state flows as a kind of flow
   abbrev pub state_flow : Kind T (StateFlowState T) (StateCall T) (StateReply T)
   state_flow = record {
-    MayBegin = MayBegin;
-    Replies = Replies;
-    after = after;
-    gives = gives;
-    speaks_of = speaks_of;
-    HasSubscriber = λ u s. IsSome (last_of u s.subscribers);
+    MayBegin = StateFlowMayBegin;
+    Replies = StateFlowReplies;
+    after = state_flow_after;
+    gives = state_flow_gives;
+    speaks_of = state_flow_speaks_of;
+    HasSubscriber = λ u s. IsSome (last_got_by u s.subscribers);
     subscribe = Subscribe;
     take_next = TakeNext;
     unsubscribe = Unsubscribe;

@@ -1,6 +1,6 @@
 -- The tokens of any flow for several threads, and what a call adds to what its token knows.
 -- Begin with `CallsIn`: one word for every call that is an event. `Id` identifies a flow.
-use Rattle.std.specs.Prelude.{◌≡◌, ◌≢◌, ℕ, ◌+◌, true, List, Result, Ok, Err}
+use Rattle.std.specs.Prelude.{◌≡◌, ◌≢◌, ℕ, ◌+◌, true, List, ◌++◌, Result, Ok, Err}
 use Rattle.flow_law.specs.declared.fault.FlowFault.{FlowFault}
 use Rattle.flow_law.specs.declared.fault.FlowFault.TheVariants.{Busy}
 use Rattle.flow_law.specs.declared.history.HistoryEvent.{HistoryEvent}
@@ -38,8 +38,8 @@ module _ {Id E : Type 0} where
   token id knows = record { table_id = id; knows = knows }
 
   -- a token with the number of its subscription or emission
-  abbrev pub numbered : Token Id E → ℕ → NumberedToken Id E
-  numbered t number = record { token = t; number = number }
+  abbrev pub numbered_token : Token Id E → ℕ → NumberedToken Id E
+  numbered_token t number = record { token = t; number = number }
 
   -- the token, with this knowledge instead of its own
   abbrev pub knowing : Token Id E → Knowledge E → Token Id E
@@ -48,6 +48,12 @@ module _ {Id E : Type 0} where
   -- another caller was inside: the token has counted one failed attempt, and nothing else has changed
   abbrev pub IsBusy : Token Id E → Token Id E → Type 0
   IsBusy before after = after ≡ knowing before (loses before.knows)
+
+  -- the same token, later: what it has seen begins with all that it had seen before
+  abbrev pub HasSeenMore : Token Id E → Token Id E → Type 0
+  HasSeenMore before after =
+      (after.table_id ≡ before.table_id) × (after.knows.name ≡ before.knows.name)
+      × ((more : List (HistoryEvent E)) × (after.knows.seen ≡ before.knows.seen ++ more))
 
 -- a new flow that began in this state, and its first token, which has seen nothing
 abbrev pub Begins : {Id S E : Type 0} → S → Origin Id S × Token Id E → Type 0

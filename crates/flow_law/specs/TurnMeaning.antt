@@ -24,12 +24,12 @@ use Rattle.flow_law.specs.SharingTurn.{SharingState}
 
 module _ {T H : Type 0} where
   -- the chain's list is the items that the hub accepted, then the kept one, then those that the chain still has
-  abbrev pub Accounts : List T → SharingState T → ChainAndHub T H → Type 0
-  Accounts accepted s both = IsAccountOf (items both.whole) s.kept (items both.rest) accepted
+  abbrev pub ChainAccounts : List T → SharingState T → ChainAndHub T H → Type 0
+  ChainAccounts accepted s both = IsAccountOf (items both.whole) s.kept (items both.rest) accepted
 
   -- while the sharing runs and has not ended, these are the items that the hub accepted since the last start
   abbrev pub HasAccount : List T → SharingState T → ChainAndHub T H → Type 0
-  HasAccount accepted s both = s.runs ≡ true → s.ended ≡ false → Accounts accepted s both
+  HasAccount accepted s both = s.runs ≡ true → s.ended ≡ false → ChainAccounts accepted s both
 
 -- What is true between turns, whatever is done through the hub meanwhile.
 pub record BetweenTurns {T H : Type 0} (s : SharingState T) (both : ChainAndHub T H) : Type 0 where
@@ -70,7 +70,7 @@ resets_at Keep was_due = was_due
 module _ {T H : Type 0} (does : (c : HubCall T) → H → HubAnswer c → H → Type 0) where
   -- the hub accepted one more item, which is the next one of the chain's list, and answered whether its emission waits
   abbrev pub AcceptsOne : List T → Bool → SharingState T → ChainAndHub T H → Type 0
-  AcceptsOne accepted waits t new = (x : T) × ((h : H) × does (puts x) h (Ok waits) new.hub) × Accounts (accepted ++ x ∷ []) t new
+  AcceptsOne accepted waits t new = (x : T) × ((h : H) × does (puts x) h (Ok waits) new.hub) × ChainAccounts (accepted ++ x ∷ []) t new
 
   -- the last call of the hub was refused with this fault
   abbrev pub WasRefused : FlowFault → ChainAndHub T H → Type 0
@@ -82,13 +82,13 @@ module _ {T H : Type 0} (does : (c : HubCall T) → H → HubAnswer c → H → 
   OutcomeMeans before accepted (Ok Queued) t new = AcceptsOne accepted true t new
   OutcomeMeans before accepted (Ok Busy) t new = HasAccount accepted t new × WasRefused LockTaken new
   OutcomeMeans before accepted (Ok Idle) t new = (t.runs ≡ false) × (t.kept ≡ None)
-  OutcomeMeans before accepted (Ok Waiting) t new = Accounts accepted t new × ((h : H) × does polls h (Ok true) new.hub)
-  OutcomeMeans before accepted (Ok Pending) t new = Accounts accepted t new × (before ≡ pends new.rest)
-  OutcomeMeans before accepted (Ok Completed) t new = Accounts accepted t new × (t.kept ≡ None) × (before ≡ ends AtEnd)
+  OutcomeMeans before accepted (Ok Waiting) t new = ChainAccounts accepted t new × ((h : H) × does polls h (Ok true) new.hub)
+  OutcomeMeans before accepted (Ok Pending) t new = ChainAccounts accepted t new × (before ≡ pends new.rest)
+  OutcomeMeans before accepted (Ok Completed) t new = ChainAccounts accepted t new × (t.kept ≡ None) × (before ≡ ends AtEnd)
   OutcomeMeans before accepted (Err (Flow fault)) t new = HasAccount accepted t new × WasRefused fault new × (fault ≢ LockTaken)
   -- after `OutOfMemory` the position of the chain is lost, and nothing is claimed of what is left
   OutcomeMeans before accepted (Err (Chain fault)) t new =
-      (fault ≢ OutOfMemory → Accounts accepted t new × (before ≡ ends (Failed fault))) × (t.ended ≡ true)
+      (fault ≢ OutOfMemory → ChainAccounts accepted t new × (before ≡ ends (Failed fault))) × (t.ended ≡ true)
   OutcomeMeans before accepted (Err Ended) t new = ⊥
   OutcomeMeans before accepted (Err (Backwards last)) t new = ⊥
 

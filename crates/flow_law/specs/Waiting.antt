@@ -8,7 +8,7 @@ use Rattle.flow_law.specs.declared.call.SharedCall.TheVariants as call
 use Rattle.flow_law.specs.declared.call.SharedReply.{SharedReply}
 use Rattle.flow_law.specs.declared.call.SharedReply.TheVariants as reply
 use Rattle.flow_law.specs.SharedFlow.{Numbered, SharedFlowState, position_of, own_of, is_queued, is_offered_as}
-use Rattle.flow_law.specs.SharedHistory.{History, IsLegal, after, after_all, state_after}
+use Rattle.flow_law.specs.SharedHistory.{History, IsLegalShared, after, shared_after_all, state_after}
 
 module _ {T : Type 0} where
   -- the emitted value that an event gave to the subscriber u. Its own first values do not count
@@ -31,19 +31,19 @@ module _ {T : Type 0} where
   -- some subscriber after these events received at most `most` emitted values in them
   abbrev pub HasSlowSubscriber : ℕ → SharedFlowState T → History T → Type 0
   HasSlowSubscriber most s h =
-      (u : ℕ) × IsSome (position_of u (after_all s h).subscribers)
+      (u : ℕ) × IsSome (position_of u (shared_after_all s h).subscribers)
       × (length (from_flow u s h) ≤ most)
 
   -- if the emission e waits before these events and after them, some subscriber is slow
   pub record Waits (e : ℕ) (s : SharedFlowState T) (h : History T) : Type 0 where
     -- it is in the queue before and after
-    pub in_queue : is_queued e s ≡ true → is_queued e (after_all s h) ≡ true
+    pub in_queue : is_queued e s ≡ true → is_queued e (shared_after_all s h) ≡ true
         → HasSlowSubscriber (ahead e s.queue) s h
     -- without a buffer: it is in the queue before, and offered after
-    pub let_in : is_queued e s ≡ true → is_offered_as e (after_all s h) ≡ true
+    pub let_in : is_queued e s ≡ true → is_offered_as e (shared_after_all s h) ≡ true
         → HasSlowSubscriber (ahead e s.queue + 1) s h
     -- it is offered before and after
-    pub offered : is_offered_as e s ≡ true → is_offered_as e (after_all s h) ≡ true
+    pub offered : is_offered_as e s ≡ true → is_offered_as e (shared_after_all s h) ≡ true
         → HasSlowSubscriber 0 s h
 
   -- `Waits` holds of each emission, from each point of the history on
@@ -53,4 +53,4 @@ module _ {T : Type 0} where
 
 -- the law: in every legal history, while an emission waits, some subscriber is slow
 abbrev pub LawAdmitted : Type 0 → Type 0
-LawAdmitted T = (config : Config) (h : History T) → IsLegal config h → EachWaits config h
+LawAdmitted T = (config : Config) (h : History T) → IsLegalShared config h → EachWaits config h

@@ -18,6 +18,7 @@ mod report;
 mod sequence;
 mod sharing;
 mod states;
+mod touch;
 mod value;
 
 pub use call::{SharedCall, SharedReply, StateCall, StateReply};
@@ -41,4 +42,5 @@ pub use states::{
     EmittingFlow, Numbered, SharedFlowState, StateAndInitial, StateFlowState, StateSubscriber,
     Subscriber,
 };
+pub use touch::Touch;
 pub use value::{Boxed, FlowValue, Half, Items, Packed, Text};

@@ -7,15 +7,15 @@ use Rattle.flow_law.specs.Growth.{event}
 use Rattle.flow_law.specs.OneHistory.{said}
 use Rattle.flow_law.specs.StateFlow.{state_flow}
 use Rattle.flow_law.specs.Tokens.{Token, CallsIn, MeetsIn}
-use Rattle.flow_messages.specs.Before.{Says, set_by, IsSetByMaker, ReadsAfterSet}
+use Rattle.flow_messages.specs.Before.{SaysNumber, set_by, IsSetByMaker, ReadsAfterSet}
 
 module _ {Id : Type 0} (first : StateFlowState ℕ) where
-  pub reads_after : (reader caller met told read : Token Id Says) (value found : ℕ) → IsSetByMaker value caller.knows → MeetsIn state_flow first reader caller met told → CallsIn state_flow first met GetValue (Got found) read
+  pub reads_after : (reader caller met told read : Token Id SaysNumber) (value found : ℕ) → IsSetByMaker value caller.knows → MeetsIn state_flow first reader caller met told → CallsIn state_flow first met GetValue (Got found) read
       → ReadsAfterSet value found read.knows
   reads_after reader caller met told read value found set meets called =
       let maker = set.0 in let before = set.3.0 in let after = set.3.1 in
       let l = set_by maker value ∷ after in let m = meets.fits_other.0.0 in let g = called.1.grows in
-      let here : met.knows.seen ≡ (before ++ l) ++ m = ap (λ (t : Token Id Says). t.knows.seen) meets.sees_one ∙ meets.fits_other.0.1 ∙ ap (λ h. h ++ m) set.3.2 in
+      let here : met.knows.seen ≡ (before ++ l) ++ m = ap (λ (t : Token Id SaysNumber). t.knows.seen) meets.sees_one ∙ meets.fits_other.0.1 ∙ ap (λ h. h ++ m) set.3.2 in
       let r = event read.knows.name (said GetValue (Got found)) ∷ [] in (
         maker,
         (

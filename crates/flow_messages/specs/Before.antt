@@ -9,11 +9,10 @@ use Rattle.flow_law.specs.declared.history.Knowledge.{Knowledge}
 use Rattle.flow_law.specs.declared.history.Said.{Said}
 use Rattle.flow_law.specs.Growth.{child_name, event}
 use Rattle.flow_law.specs.OneHistory.{said}
-use Rattle.flow_law.specs.Tokens.{Token}
 
 -- what the events of a state flow of numbers say
-abbrev pub Says : Type 0
-Says = Said (StateCall ℕ) (StateReply ℕ)
+abbrev pub SaysNumber : Type 0
+SaysNumber = Said (StateCall ℕ) (StateReply ℕ)
 
 module _ {E : Type 0} where
   -- the history has this event
@@ -27,23 +26,17 @@ module _ {E : Type 0} where
       × (h ≡ before ++ first ∷ (between ++ second ∷ after))
 
 -- the caller of this name set the value
-abbrev pub set_by : List ℕ → ℕ → HistoryEvent Says
+abbrev pub set_by : List ℕ → ℕ → HistoryEvent SaysNumber
 set_by name value = event name (said (Set value) Done)
 
 -- the caller of this name read the value
-abbrev pub read_by : List ℕ → ℕ → HistoryEvent Says
-read_by name value = event name (said GetValue (Got value))
+abbrev pub read_event : List ℕ → ℕ → HistoryEvent SaysNumber
+read_event name value = event name (said GetValue (Got value))
 
 -- the token has seen that its maker set the value
-abbrev pub IsSetByMaker : ℕ → Knowledge Says → Type 0
+abbrev pub IsSetByMaker : ℕ → Knowledge SaysNumber → Type 0
 IsSetByMaker value k = (maker : List ℕ) × (j : ℕ) × (k.name ≡ child_name maker j) × Has (set_by maker value) k.seen
 
--- the same token, later: what it has seen begins with all that it had seen before
-abbrev pub HasSeenMore : {Id E : Type 0} → Token Id E → Token Id E → Type 0
-HasSeenMore {Id} {E} before after =
-    (after.table_id ≡ before.table_id) × (after.knows.name ≡ before.knows.name)
-    × ((more : List (HistoryEvent E)) × (after.knows.seen ≡ before.knows.seen ++ more))
-
 -- a caller set `value`, and later in the history this token read `found`
-abbrev pub ReadsAfterSet : ℕ → ℕ → Knowledge Says → Type 0
-ReadsAfterSet value found k = (sender : List ℕ) × ComesBefore (set_by sender value) (read_by k.name found) k.seen
+abbrev pub ReadsAfterSet : ℕ → ℕ → Knowledge SaysNumber → Type 0
+ReadsAfterSet value found k = (sender : List ℕ) × ComesBefore (set_by sender value) (read_event k.name found) k.seen

@@ -6,12 +6,12 @@ use Rattle.flow_law.specs.OperatorRuns.{filter_run, drop_while_run}
 use Rattle.flow_operators.specs.declared.cold.Asked.{Asked}
 use Rattle.flow_operators.specs.declared.cold.Asked.TheVariants.{Item, Pending, End as Ended, Fault}
 use Rattle.flow_operators.specs.Asking.{AskGives}
-use Rattle.flow_operators.specs.Behind.{Leaves, after_ask, after_filter, after_dropping}
+use Rattle.flow_operators.specs.Behind.{Leaves, rest_after_ask, after_filter, after_dropping}
 use Rattle.flow_operators.specs.Passing.{from_passing}
 use Rattle.flow_operators.specs.Upstreams.{PassesOn}
 
 -- an answer that is passed on is one ask
-pub passed-leaves : {A B : Type 0} (before after : ChainRun A) (asked : Asked B) → PassesOn before asked after → Leaves (after_ask before) asked after
+pub passed-leaves : {A B : Type 0} (before after : ChainRun A) (asked : Asked B) → PassesOn before asked after → Leaves (rest_after_ask before) asked after
 passed-leaves before after (Item y) never = absurd never
 passed-leaves before after Pending turn = inl (rw turn refl)
 passed-leaves before after Ended ended = inl (rw (ended.0, ended.1) refl)
@@ -40,12 +40,12 @@ module _ {A : Type 0} (test : A → Bool) where
   first-passes (pends r) after x h = grind (arith, common_steps)
   first-passes (ends e) after x h = grind (arith, common_steps)
 
-  after-step : (b : Bool) (x : A) (r : ChainRun A) → after_filter test r ≡ after_ask (from_passing test r)
-      → cond b r (after_filter test r) ≡ after_ask (cond b (gives x r) (from_passing test r))
+  after-step : (b : Bool) (x : A) (r : ChainRun A) → after_filter test r ≡ rest_after_ask (from_passing test r)
+      → cond b r (after_filter test r) ≡ rest_after_ask (cond b (gives x r) (from_passing test r))
   after-step true x r h = refl
   after-step false x r h = h
 
-  pub filter-after : (r : ChainRun A) → after_filter test r ≡ after_ask (from_passing test r)
+  pub filter-after : (r : ChainRun A) → after_filter test r ≡ rest_after_ask (from_passing test r)
   filter-after (gives x r) = after-step (test x) x r (filter-after r)
   filter-after (pends r) = refl
   filter-after (ends e) = refl
@@ -67,12 +67,12 @@ module _ {A : Type 0} (test : A → Bool) where
       filter-from before ∙ ap (filter_run test) h ∙ rw passes refl
 
 module _ {A : Type 0} (test : A → Bool) where
-  dropping-step : (b : Bool) (x : A) (r : ChainRun A) → after_dropping test r ≡ after_ask (from_passing (λ y. not (test y)) r)
-      → cond b (after_dropping test r) r ≡ after_ask (cond (not b) (gives x r) (from_passing (λ y. not (test y)) r))
+  dropping-step : (b : Bool) (x : A) (r : ChainRun A) → after_dropping test r ≡ rest_after_ask (from_passing (λ y. not (test y)) r)
+      → cond b (after_dropping test r) r ≡ rest_after_ask (cond (not b) (gives x r) (from_passing (λ y. not (test y)) r))
   dropping-step true x r h = h
   dropping-step false x r h = refl
 
-  pub dropping-after : (r : ChainRun A) → after_dropping test r ≡ after_ask (from_passing (λ y. not (test y)) r)
+  pub dropping-after : (r : ChainRun A) → after_dropping test r ≡ rest_after_ask (from_passing (λ y. not (test y)) r)
   dropping-after (gives x r) = dropping-step (test x) x r (dropping-after r)
   dropping-after (pends r) = refl
   dropping-after (ends e) = refl

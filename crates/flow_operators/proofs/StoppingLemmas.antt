@@ -5,8 +5,8 @@ use Rattle.std.proofs.lemmas.List.{append_assoc, length-append}
 use Rattle.std.proofs.lemmas.Grind.{common_steps}
 use Rattle.flow_law.specs.declared.chain.ChainFault.{ChainFault}
 use Rattle.flow_law.specs.ChainRun.{ChainRun, gives, pends, ends, items}
-use Rattle.flow_operators.specs.Behind.{after_ask}
-use Rattle.flow_operators.specs.Collecting.{Reaches}
+use Rattle.flow_operators.specs.Behind.{rest_after_ask}
+use Rattle.flow_operators.specs.Collecting.{IsRestOf}
 use Rattle.flow_operators.specs.Terminal.{GivesItem}
 use Rattle.flow_operators.specs.Stopping.{StandsAfterOverflow, StandsAfterFirst, StandsAfterFound, StandsAfterFailed, StandsAfterVisited}
 
@@ -21,7 +21,7 @@ module _ {T : Type 0} where
   same-item x y r after is = ap (head_of x) is
 
   same-rest : (x y : T) (r after : ChainRun T) → gives y r ≡ gives x after → r ≡ after
-  same-rest x y r after is = ap after_ask is
+  same-rest x y r after is = ap rest_after_ask is
 
 module _ {T : Type 0} (post : T → Bool → Type 0) (wanted : Bool) where
   -- the search ends at the next item
@@ -95,7 +95,7 @@ module _ {T M : Type 0} (Reads Started : M → Type 0) (start whole after : M �
 
 -- a count that was full at an item
 pub overflows : {T : Type 0} (n : ℕ) (x : T) (whole before after : ChainRun T) → n + 1 ≡ 2 ^ 64 → length (items whole) ≡ n + length (items before)
-    → Reaches whole before → GivesItem before (Ok (Some x)) after → StandsAfterOverflow whole after
+    → IsRestOf whole before → GivesItem before (Ok (Some x)) after → StandsAfterOverflow whole after
 overflows n x whole before after full counted stands next =
     let all : length (items whole) ≡ length stands.0 + length (items before) = ap length stands.1 ∙ length-append stands.0 (items before) in
     let taken : length (stands.0 ++ x ∷ []) ≡ length stands.0 + 1 = length-append stands.0 (x ∷ []) in (

@@ -8,11 +8,11 @@ use Rattle.flow_law.specs.declared.chain.ChainFault.TheVariants.{OutOfMemory}
 use Rattle.flow_law.specs.declared.chain.End.{End}
 use Rattle.flow_law.specs.declared.chain.End.TheVariants.{Completed, Failed}
 use Rattle.flow_law.specs.ChainRun.{ChainRun, items, ending}
-use Rattle.flow_operators.specs.Collecting.{Reaches}
+use Rattle.flow_operators.specs.Collecting.{IsRestOf}
 use Rattle.flow_operators.specs.Closures.{Follows}
 use Rattle.flow_operators.specs.Terminal.{FollowsRun, GivesItem, Visits, all_of, any_of, first_of}
 
-pub reaches-next : {T : Type 0} (x : T) (whole before after : ChainRun T) → Reaches whole before → GivesItem before (Ok (Some x)) after → Reaches whole after
+pub reaches-next : {T : Type 0} (x : T) (whole before after : ChainRun T) → IsRestOf whole before → GivesItem before (Ok (Some x)) after → IsRestOf whole after
 reaches-next x whole before after stands gives =
     (stands.0 ++ x ∷ [], stands.1 ∙ ap (λ ys. stands.0 ++ ys) gives.0 ∙ sym (append_assoc stands.0 (x ∷ []) (items after)), stands.2 ∙ gives.1)
 

@@ -15,14 +15,14 @@ use Rattle.flow_operators.specs.declared.cold.Asked.{Asked}
 use Rattle.flow_operators.specs.declared.cold.Asked.TheVariants.{Fault}
 
 -- the rest after one ask
-abbrev pub after_ask : {A : Type 0} → ChainRun A → ChainRun A
-after_ask (gives x r) = r
-after_ask (pends r) = r
-after_ask (ends e) = ends Completed
+abbrev pub rest_after_ask : {A : Type 0} → ChainRun A → ChainRun A
+rest_after_ask (gives x r) = r
+rest_after_ask (pends r) = r
+rest_after_ask (ends e) = ends Completed
 
 -- one ask of the upstream leads from the rest `before` to the rest `after`; it may have failed with `OutOfMemory`
 abbrev pub AsksOnce : {A B : Type 0} → ChainRun A → Asked B → ChainRun A → Type 0
-AsksOnce before result after = (after ≡ after_ask before) ⊎ ((result ≡ Fault OutOfMemory) × (after ≡ ends Completed))
+AsksOnce before result after = (after ≡ rest_after_ask before) ⊎ ((result ≡ Fault OutOfMemory) × (after ≡ ends Completed))
 
 -- the operator asked until it had its answer: it leaves the rest `due`, unless it failed with `OutOfMemory`
 abbrev pub Leaves : {A B : Type 0} → ChainRun A → Asked B → ChainRun A → Type 0
@@ -49,7 +49,7 @@ after_dropping test (ends e) = ends Completed
 
 -- a `dropWhile`: once it has emitted an item it asks only once
 abbrev pub after_drop_while : {A : Type 0} → (A → Bool) → Bool → ChainRun A → ChainRun A
-after_drop_while test is_dropping r = cond is_dropping (after_dropping test r) (after_ask r)
+after_drop_while test is_dropping r = cond is_dropping (after_dropping test r) (rest_after_ask r)
 
 -- a `distinctUntilChanged`: the rest after the first item that differs from the last one
 abbrev pub after_distinct : {A : Type 0} → (A → A → Bool) → Option A → ChainRun A → ChainRun A
@@ -59,7 +59,7 @@ after_distinct is_same last (ends e) = ends Completed
 
 -- a `scan`: it emits its initial value without asking, and then asks once
 abbrev pub after_scan : {A : Type 0} → Bool → ChainRun A → ChainRun A
-after_scan begun r = cond begun (after_ask r) r
+after_scan begun r = cond begun (rest_after_ask r) r
 
 -- r if the list has an item, else the rest that further asks leave
 abbrev pub unless_empty : {A B : Type 0} → List B → ChainRun A → ChainRun A → ChainRun A

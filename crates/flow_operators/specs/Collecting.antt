@@ -4,8 +4,8 @@ use Rattle.flow_law.specs.ChainRun.{ChainRun, items, ending}
 
 module _ {T : Type 0} where
   -- `rest` has the last items of `whole`, and its end
-  abbrev pub Reaches : ChainRun T → ChainRun T → Type 0
-  Reaches whole rest = (xs : List T) × (items whole ≡ xs ++ items rest) × (ending whole ≡ ending rest)
+  abbrev pub IsRestOf : ChainRun T → ChainRun T → Type 0
+  IsRestOf whole rest = (xs : List T) × (items whole ≡ xs ++ items rest) × (ending whole ≡ ending rest)
 
   -- the chain is just after some item of `whole`
   abbrev pub StandsAfterItem : ChainRun T → ChainRun T → Type 0

@@ -19,8 +19,8 @@ module _ {L R A : Type 0} where
   right_chain p = p.right
 
   -- the zip has ended
-  abbrev pub is_over : Pairs L R A → Bool
-  is_over p = p.left.ended
+  abbrev pub is_zip_over : Pairs L R A → Bool
+  is_zip_over p = p.left.ended
 
   -- how often the two sides can be asked, together
   abbrev pub most_pairs : (L → ℕ) → (R → ℕ) → Pairs L R A → ℕ

@@ -25,12 +25,12 @@ module _ {C U : Type 0} where
   initial_of s = s.initial
 
   -- the last result, if one was emitted
-  abbrev pub last_of : Results C U → Option U
-  last_of s = s.last
+  abbrev pub last_result : Results C U → Option U
+  last_result s = s.last
 
   -- the scan has ended
-  abbrev pub is_over : Results C U → Bool
-  is_over s = s.upstream.ended
+  abbrev pub is_scan_over : Results C U → Bool
+  is_scan_over s = s.upstream.ended
 
   -- how often the scan can be asked: as often as its upstream, and once more before it has emitted its initial value
   abbrev pub most_results : (C → ℕ) → Results C U → ℕ

@@ -19,7 +19,7 @@ use Rattle.flow_law.specs.Growth.{IsMadeBy, NamesOnlyMade, child, child_name}
 use Rattle.flow_law.specs.OneHistory.{AddsOne, said}
 use Rattle.flow_law.proofs.DoneLemmas.{every_append, made_nothing, made_more, made_one, said_by_silent}
 use Rattle.flow_law.proofs.Names.{every_weaker}
-use Rattle.flow_program.specs.Callers.{Says, IsEmitting, taken_by, Emits, Reads}
+use Rattle.flow_program.specs.Callers.{Says, IsEmitting, taken_by, OnlyEmits, Reads}
 use Rattle.flow_program.specs.Numbers.{numbers_from}
 use Rattle.flow_program.proofs.ReceivedLemmas.{EndsNothing}
 
@@ -38,10 +38,10 @@ numbers_length first (suc n) = length-append (numbers_from first n) ((first + n)
 module _ {T : Type 0} where
   -- ---- emitting
 
-  pub emits_none : (k : Knowledge (Says T)) → Emits [] k k
+  pub emits_none : (k : Knowledge (Says T)) → OnlyEmits [] k k
   emits_none k = ([], made_nothing k, tt, refl)
 
-  pub emits_more : (v w : List T) (a b c : Knowledge (Says T)) → Emits v a b → Emits w b c → Emits (v ++ w) a c
+  pub emits_more : (v w : List T) (a b c : Knowledge (Says T)) → OnlyEmits v a b → OnlyEmits w b c → OnlyEmits (v ++ w) a c
   emits_more v w a b c x y = (
     x.0 ++ y.0,
     made_more x.0 y.0 a b c x.1 y.1,
@@ -50,13 +50,13 @@ module _ {T : Type 0} where
   )
 
   module _ (IsHistory : List (HistoryEvent (Says T)) → Type 0) (before after : Knowledge (Says T)) where
-    pub emits_one : (v : T) (r : Emit) → AddsOne IsHistory before (call.Emit v) (reply.Emitted r) after → Emits (v ∷ []) before after
+    pub emits_one : (v : T) (r : Emit) → AddsOne IsHistory before (call.Emit v) (reply.Emitted r) after → OnlyEmits (v ∷ []) before after
     emits_one v r a = (said (call.Emit v) (reply.Emitted r) ∷ [], made_one IsHistory before after (call.Emit v) (reply.Emitted r) a, (tt, tt), refl)
 
-    pub emits_refused : (v : T) (fault : FlowFault) → AddsOne IsHistory before (call.Emit v) (reply.Refused fault) after → Emits [] before after
+    pub emits_refused : (v : T) (fault : FlowFault) → AddsOne IsHistory before (call.Emit v) (reply.Refused fault) after → OnlyEmits [] before after
     emits_refused v fault a = (said (call.Emit v) (reply.Refused fault) ∷ [], made_one IsHistory before after (call.Emit v) (reply.Refused fault) a, (tt, tt), refl)
 
-    pub emits_poll : (e : ℕ) (r : SharedReply T) → AddsOne IsHistory before (call.Poll e) r after → Emits [] before after
+    pub emits_poll : (e : ℕ) (r : SharedReply T) → AddsOne IsHistory before (call.Poll e) r after → OnlyEmits [] before after
     emits_poll e r a = (said (call.Poll e) r ∷ [], made_one IsHistory before after (call.Poll e) r a, (tt, tt), refl)
 
   -- ---- reading

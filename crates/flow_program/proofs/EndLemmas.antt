@@ -8,11 +8,11 @@ use Rattle.flow_law.specs.Done.{done_by}
 use Rattle.flow_law.specs.Rounds.{HasClosedHistory}
 use Rattle.flow_law.specs.SharedHistory.{shared_flow}
 use Rattle.flow_law.specs.Tokens.{Token, NumberedToken}
-use Rattle.flow_gate.specs.Tokens.{Origin}
+use Rattle.flow_gate.specs.Tokens.{GateOrigin}
 use Rattle.flow_program.specs.declared.crowd.emitters.EmitsAll.{EmitsAll}
 use Rattle.flow_program.specs.declared.crowd.size.CrowdSize.{CrowdSize}
 use Rattle.flow_program.specs.declared.crowd.subscribers.ReadsAll.{ReadsAll}
-use Rattle.flow_program.specs.Callers.{Says, Emits}
+use Rattle.flow_program.specs.Callers.{Says, OnlyEmits}
 use Rattle.flow_program.specs.Crowds.{Caller, Subscriber, AreMade, HaveRun, GotAll, HasEmitted, HasRead, HasSent, HasSentAs, HasTaken, HasTakenAs, WillEmit, WillRead}
 use Rattle.flow_program.specs.Numbers.{numbers_from}
 use Rattle.flow_program.proofs.CrowdLemmas.{got_all_values}
@@ -27,17 +27,17 @@ Subscription = NumberedToken TableId (Says ℕ)
 
 -- the seat of a thread that has kept its promise to emit
 pub sender_ended : (table : TableId) (start ended : Seat) (first count : ℕ) (p : EmitsAll) → WillEmit table start first count p
-    → (ended.table_id ≡ p.seat.value.table_id) × Emits (numbers_from p.first p.count) p.seat.value.knows ended.knows
-    → (ended.table_id ≡ table) × Emits (numbers_from first count) start.knows ended.knows
+    → (ended.table_id ≡ p.seat.value.table_id) × OnlyEmits (numbers_from p.first p.count) p.seat.value.knows ended.knows
+    → (ended.table_id ≡ table) × OnlyEmits (numbers_from first count) start.knows ended.knows
 sender_ended table start ended first count p will kept = (
   kept.0 ∙ ap (λ (s : Seat). s.table_id) will.1 ∙ will.0,
-  subst (λ a. Emits (numbers_from a count) start.knows ended.knows) will.2
-      (subst (λ m. Emits (numbers_from p.first m) start.knows ended.knows) will.3
-      (subst (λ (s : Seat). Emits (numbers_from p.first p.count) s.knows ended.knows) will.1 kept.1)),
+  subst (λ a. OnlyEmits (numbers_from a count) start.knows ended.knows) will.2
+      (subst (λ m. OnlyEmits (numbers_from p.first m) start.knows ended.knows) will.3
+      (subst (λ (s : Seat). OnlyEmits (numbers_from p.first p.count) s.knows ended.knows) will.1 kept.1)),
 )
 
 -- an emitter whose thread has sent what it promised
-pub sent_as : (flow : Origin (SharedFlowState ℕ)) (table : TableId) (seat : Seat) (first count : ℕ) (p : EmitsAll) (c : Caller) → WillEmit table seat first count p → HasSentAs flow p c
+pub sent_as : (flow : GateOrigin (SharedFlowState ℕ)) (table : TableId) (seat : Seat) (first count : ℕ) (p : EmitsAll) (c : Caller) → WillEmit table seat first count p → HasSentAs flow p c
     → HasSent flow first count seat.knows c
 sent_as flow table seat first count p c will sent =
     subst (λ a. HasSent flow a count seat.knows c) will.2
@@ -45,15 +45,15 @@ sent_as flow table seat first count p c will sent =
     (subst (λ (s : Seat). HasSent flow p.first p.count s.knows c) will.1 sent))
 
 -- a subscriber whose thread has read what it promised
-pub taken_as : (flow : Origin (SharedFlowState ℕ)) (table : TableId) (s : Subscription) (count : ℕ) (p : ReadsAll) (r : Subscriber) (got : List ℕ) → WillRead table s count p → HasTakenAs flow p r got
+pub taken_as : (flow : GateOrigin (SharedFlowState ℕ)) (table : TableId) (s : Subscription) (count : ℕ) (p : ReadsAll) (r : Subscriber) (got : List ℕ) → WillRead table s count p → HasTakenAs flow p r got
     → HasTaken flow count s r got
 taken_as flow table s count p r got will taken =
     subst (λ n. HasTaken flow n s r got) will.2 (subst (λ (t : Subscription). HasTaken flow p.count t r got) will.1 taken)
 
-module _ {Z : Type 0} (size : CrowdSize) (flow : Origin (SharedFlowState ℕ)) (now : Knowledge (Says ℕ)) (es es-after : List Caller) (rs rs-after : List Subscriber) (gots : List (Vec ℕ Z))
+module _ {Z : Type 0} (size : CrowdSize) (flow : GateOrigin (SharedFlowState ℕ)) (now : Knowledge (Says ℕ)) (es es-after : List Caller) (rs rs-after : List Subscriber) (gots : List (Vec ℕ Z))
     (made : AreMade size flow now es rs) (ran : HaveRun size flow es rs es-after rs-after gots) where
   emitted : (i : ℕ) (d : Caller) → i < size.emitters → HasEmitted size.values i (get_or es-after i d).token.knows
-  emitted i d l = subst (λ k. Emits (numbers_from (i * size.values) size.values) k (get_or es-after i d).token.knows) (made.emitter i d l).1
+  emitted i d l = subst (λ k. OnlyEmits (numbers_from (i * size.values) size.values) k (get_or es-after i d).token.knows) (made.emitter i d l).1
       (ran.sent i d d (let q = made.emitters in omega (arith, q, l))).1
 
   abbrev got_at : ℕ → Vec ℕ Z → List ℕ

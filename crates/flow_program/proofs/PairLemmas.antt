@@ -16,7 +16,7 @@ use Rattle.flow_law.specs.Closed.{AreAll}
 use Rattle.flow_law.specs.Rounds.{HasClosedHistory}
 use Rattle.flow_law.proofs.ClosedLemmas.{first_and_made}
 use Rattle.flow_law.proofs.DoneLemmas.{made_one}
-use Rattle.flow_program.specs.Callers.{Says, taken_by, Emits, Reads, HasSubscribed}
+use Rattle.flow_program.specs.Callers.{Says, taken_by, OnlyEmits, Reads, HasSubscribed}
 use Rattle.flow_program.proofs.ReceivedLemmas.{EndsNothing}
 use Rattle.flow_program.proofs.CallerLemmas.{emitting_ends_nothing, reading_ends_nothing, reading_gives_nothing, accepted_none, made_silent}
 use Rattle.flow_program.proofs.LineLemmas.{NoneEnded, from_one, got_all}
@@ -25,7 +25,7 @@ module _ {T : Type 0} (first : SharedFlowState T) (suspends : first.config.overf
   -- the emitter subscribed for the reader, and then sent xs; the reader, which got as many values, got these
   pub got_what_was_sent : (start between sender reader : Knowledge (Says T)) (u : ℕ) (xs got : List T) → start ≡ first_knowledge
       → AddsOne (IsHistory shared_flow first) start (call.Subscribe (child_name start.name (start.made + 1)) []) (reply.Subscribed u) between
-      → Emits xs (makes between) sender → Reads u got (child between) reader → length got ≡ length xs → HasClosedHistory shared_flow first (sender ∷ reader ∷ []) → got ≡ xs
+      → OnlyEmits xs (makes between) sender → Reads u got (child between) reader → length got ≡ length xs → HasClosedHistory shared_flow first (sender ∷ reader ∷ []) → got ≡ xs
   got_what_was_sent start between sender reader u xs got begins subscribes emits reads count ended =
       let sub : Says T = said (call.Subscribe (child_name start.name (start.made + 1)) []) (reply.Subscribed u) in
       let begun = made_one (IsHistory shared_flow first) start between (call.Subscribe (child_name start.name (start.made + 1)) []) (reply.Subscribed u) subscribes in

@@ -19,7 +19,7 @@ use Rattle.flow_law.specs.Growth.{event}
 use Rattle.flow_law.specs.OneHistory.{said}
 use Rattle.flow_law.specs.declared.states.SharedFlowState.{SharedFlowState}
 use Rattle.flow_law.specs.SharedFlow.{first_state, entry, values, position_of}
-use Rattle.flow_law.specs.SharedHistory.{History, IsLegalFrom, shared_flow, after, after_all, state_after}
+use Rattle.flow_law.specs.SharedHistory.{History, IsLegalFrom, shared_flow, after, shared_after_all, state_after}
 use Rattle.flow_law.specs.Mailbox.{Beginning, began, began_by, began_from, own, box, received_by, received}
 use Rattle.flow_law.specs.Accepted.{accepted, is_cancel, NoneCancelled}
 use Rattle.flow_law.specs.Done.{is_same_name, said_by}
@@ -116,7 +116,7 @@ module _ {T : Type 0} where
   abbrev Has : ℕ → SharedFlowState T → Type 0
   Has u s = IsSome (position_of u s.subscribers)
 
-  stays : (u : ℕ) (s : SharedFlowState T) (h : History T) → NothingEnded h → Has u s → Has u (after_all s h)
+  stays : (u : ℕ) (s : SharedFlowState T) (h : History T) → NothingEnded h → Has u s → Has u (shared_after_all s h)
   stays u s [] ended has = has
   stays u s (e ∷ es) ended has = stays u (after s e.what.call e.what.reply) es ended.1 (event_has u s e.what.call e.what.reply (λ is. subst EndsNothing is ended.0) has)
 
@@ -137,7 +137,7 @@ module _ {T : Type 0} where
 
   module _ (first : SharedFlowState T) (h : History T) (is : IsHistory shared_flow first h) (ended : NothingEnded h) (k name : List ℕ) (u : ℕ) (has : HasSubscribed name u (said_by k h)) where
     abbrev Whole : History T → Type 0
-    Whole l = IsGiven shared_flow name (subscriber u) l × Has u (after_all first l)
+    Whole l = IsGiven shared_flow name (subscriber u) l × Has u (shared_after_all first l)
 
     pub subscribed : Whole h
     subscribed =
@@ -147,11 +147,11 @@ module _ {T : Type 0} where
         let legal : IsLegalFrom first (begun ++ f.1) = subst (IsLegalFrom first) f.2 is.legal in
         let left : IsLegalFrom first begun = Rattle.flow_law.proofs.Owners.legal_left shared_flow first begun f.1 legal in
         let told = (legal_right shared_flow first f.0 (e ∷ []) left).0 in
-        let there : Has u (after_all first begun) = subst (Has u) (sym (after_all-append shared_flow first f.0 (e ∷ []))) ((shared_subscribing []).has (after_all first f.0) name u told) in
+        let there : Has u (shared_after_all first begun) = subst (Has u) (sym (after_all-append shared_flow first f.0 (e ∷ []))) ((shared_subscribing []).has (shared_after_all first f.0) name u told) in
         let rest : NothingEnded f.1 = every_right (λ (e : HistoryEvent (Says T)). EndsNothing e.what.call) begun f.1 (subst NothingEnded f.2 ended) in
         subst Whole (sym f.2) (
           given_stays shared_flow shared_lawful first begun f.1 (subscriber u) name legal (last_given shared_flow f.0 e (record { number = subscriber u; name = name }) refl),
-          subst (Has u) (sym (after_all-append shared_flow first begun f.1)) (stays u (after_all first begun) f.1 rest there),
+          subst (Has u) (sym (after_all-append shared_flow first begun f.1)) (stays u (shared_after_all first begun) f.1 rest there),
         )
 
   -- the token that calls `next` of a subscriber owns the subscriber's number
@@ -208,7 +208,7 @@ module _ {T : Type 0} where
         every_weaker (λ (e : HistoryEvent (Says T)). e.what.call ≡ call.TakeNext u → owner_of (subscriber u) (owners_all shared_flow [] h) ≡ Some e.name) (λ (e : HistoryEvent (Says T)). (e.name ≡ name) ⊎ (received_by u e.what.call e.what.reply ≡ []))
         (λ e f. own_or_none u e.what.call e.what.reply e.name name (λ next. same_owner e.name name (sym (f next) ∙ there.0))) h (speakers u first [] h tt is.legal is.owned) in
         let got : received u h ≡ taken_by u (said_by name h) = all_received u h ∙ flat_alone (λ (e : Says T). received_by u e.call e.reply) name h mine in
-        let has : IsSome (position_of u s.subscribers) = subst (λ (t : SharedFlowState T). Has u (after_all t h)) is.begins.0 there.1 in
+        let has : IsSome (position_of u s.subscribers) = subst (λ (t : SharedFlowState T). Has u (shared_after_all t h)) is.begins.0 there.1 in
         let d = history_delivers first h is u in
         let same : s.config ≡ config = (history_grown (first_state config) h).config in
         at (position_of u s.subscribers) refl has (λ p placed.

@@ -11,10 +11,10 @@ use Rattle.flow_law.specs.Growth.{child_name, first_knowledge, makes, child}
 use Rattle.flow_law.specs.History.{IsHistory}
 use Rattle.flow_law.specs.OneHistory.{AddsOne, said}
 use Rattle.flow_law.specs.SharedHistory.{shared_flow}
-use Rattle.flow_law.specs.Tokens.{NumberedToken, SubscribesIn, Token, token, numbered}
+use Rattle.flow_law.specs.Tokens.{NumberedToken, SubscribesIn, Token, token, numbered_token}
 use Rattle.flow_law.proofs.DoneLemmas.{every_append, made_one}
 use Rattle.flow_program.specs.Callers.{Says, Reads, HasSubscribed, taken_by}
-use Rattle.flow_program.specs.Crowds.{IsMaker, IsSubscribing, IsSubscribed, HasRead}
+use Rattle.flow_program.specs.Crowds.{IsMaker, IsSubscribing, IsNewSubscription, HasRead}
 use Rattle.flow_program.proofs.CallerLemmas.{made_silent}
 
 module _ {T : Type 0} where
@@ -48,7 +48,7 @@ module _ {T : Type 0} where
     pub made_more : (makes between).made ≡ k.made + 1
     made_more = ap (λ n. n + 1) subscribes.made
 
-    pub subscribed_one : {Id : Type 0} (id : Id) → IsSubscribed (done_by (makes between)) k.made (numbered (token id (child between)) u)
+    pub subscribed_one : {Id : Type 0} (id : Id) → IsNewSubscription (done_by (makes between)) k.made (numbered_token (token id (child between)) u)
     subscribed_one id = record {
       name = (λ i. child_name (name_is i) (subscribes.made i + 1)) ∙ ap (child_name []) (let z : k.made + 1 ≡ suc k.made = omega arith in z);
       made = refl;
@@ -59,7 +59,7 @@ module _ {T : Type 0} where
     }
 
     -- a token that was subscribed before still is
-    pub subscribed_still : {Id : Type 0} (n : ℕ) (s : NumberedToken Id (Says T)) → IsSubscribed (done_by k) n s → IsSubscribed (done_by (makes between)) n s
+    pub subscribed_still : {Id : Type 0} (n : ℕ) (s : NumberedToken Id (Says T)) → IsNewSubscription (done_by k) n s → IsNewSubscription (done_by (makes between)) n s
     subscribed_still n s is = record {
       name = is.name;
       made = is.made;
@@ -70,21 +70,21 @@ module _ {T : Type 0} where
   -- one more subscription, by the contract of `subscribe`
   pub subscribed_next : {Id : Type 0} (first : SharedFlowState T) (before after : Token Id (Says T)) (s : NumberedToken Id (Says T)) → IsMaker before.knows
       → SubscribesIn shared_flow first shared_flow.subscribe before (Ok s) after
-      → IsMaker after.knows × (after.knows.made ≡ before.knows.made + 1) × IsSubscribed (done_by after.knows) before.knows.made s
-      × ((n : ℕ) (t : NumberedToken Id (Says T)) → IsSubscribed (done_by before.knows) n t → IsSubscribed (done_by after.knows) n t)
+      → IsMaker after.knows × (after.knows.made ≡ before.knows.made + 1) × IsNewSubscription (done_by after.knows) before.knows.made s
+      × ((n : ℕ) (t : NumberedToken Id (Says T)) → IsNewSubscription (done_by before.knows) n t → IsNewSubscription (done_by after.knows) n t)
   subscribed_next {Id} first before after s maker sub =
       let k = before.knows in let between = sub.0.knows in let adds = sub.1.1 in
       let same : makes between ≡ after.knows = ap (λ (t : Token Id (Says T)). t.knows) (sym sub.2) in
-      let new : IsSubscribed (done_by after.knows) k.made (numbered s.token s.number) = subst (λ (j : Knowledge (Says T)). IsSubscribed (done_by j) k.made (numbered s.token s.number)) same
-      (subst (λ (t : Token Id (Says T)). IsSubscribed (done_by (makes between)) k.made (numbered t s.number)) (sym sub.3) (subscribed_one first k between s.number maker adds sub.0.table_id)) in (
+      let new : IsNewSubscription (done_by after.knows) k.made (numbered_token s.token s.number) = subst (λ (j : Knowledge (Says T)). IsNewSubscription (done_by j) k.made (numbered_token s.token s.number)) same
+      (subst (λ (t : Token Id (Says T)). IsNewSubscription (done_by (makes between)) k.made (numbered_token t s.number)) (sym sub.3) (subscribed_one first k between s.number maker adds sub.0.table_id)) in (
         subst IsMaker same (maker_more first k between s.number maker adds),
         ap (λ (j : Knowledge (Says T)). j.made) (sym same) ∙ made_more first k between s.number maker adds,
         record { name = new.name; made = new.made; silent = new.silent; subscribed = new.subscribed },
-        (λ n t is. subst (λ (j : Knowledge (Says T)). IsSubscribed (done_by j) n t) same (subscribed_still first k between s.number maker adds n t is)),
+        (λ n t is. subst (λ (j : Knowledge (Says T)). IsNewSubscription (done_by j) n t) same (subscribed_still first k between s.number maker adds n t is)),
       )
 
   -- a new subscription that has only read
-  pub has_read : {Id : Type 0} (did : List (Says T)) (n : ℕ) (s : NumberedToken Id (Says T)) (got : List T) (k : Knowledge (Says T)) → IsSubscribed did n s → Reads s.number got s.token.knows k → HasRead did n s.number got k
+  pub has_read : {Id : Type 0} (did : List (Says T)) (n : ℕ) (s : NumberedToken Id (Says T)) (got : List T) (k : Knowledge (Says T)) → IsNewSubscription did n s → Reads s.number got s.token.knows k → HasRead did n s.number got k
   has_read did n s got k is read =
       let done : done_by k ≡ read.0 = read.1.done ∙ ap (λ l. l ++ read.0) is.silent in record {
         name = read.1.name ∙ is.name;

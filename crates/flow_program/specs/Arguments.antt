@@ -8,8 +8,8 @@ use Rattle.flow_program.specs.CrowdSizes.{crowd_size}
 use Rattle.flow_program.specs.declared.crowd.size.CrowdSize.{CrowdSize}
 
 -- the number that one to five ASCII digits write
-abbrev pub number_in : List ℕ → Option ℕ
-number_in text = cond (leb 1 (length text) && (leb (length text) 5 && all_ascii_digits text)) (Some (digits_value 10 text)) None
+abbrev pub number_written : List ℕ → Option ℕ
+number_written text = cond (leb 1 (length text) && (leb (length text) 5 && all_ascii_digits text)) (Some (digits_value 10 text)) None
 
 -- what the program does instead of playing a script
 pub data Command : Type 0 where
@@ -31,16 +31,16 @@ module _ {A : Type 0} where
   abbrev pub crowd_of : List (String A) → Option CrowdSize
   crowd_of (command ∷ emitters ∷ subscribers ∷ values ∷ []) =
       cond (bytes_eq (string_bytes command) (codes "crowd"))
-      (crowd_sized (number_in (string_bytes emitters)) (number_in (string_bytes subscribers)) (number_in (string_bytes values))) None
+      (crowd_sized (number_written (string_bytes emitters)) (number_written (string_bytes subscribers)) (number_written (string_bytes values))) None
   crowd_of _ = None
 
   -- the count of the word `count` and two numbers
-  abbrev pub count_of : List (String A) → Option Counting
-  count_of (command ∷ threads ∷ updates ∷ []) =
+  abbrev pub counting_of : List (String A) → Option Counting
+  counting_of (command ∷ threads ∷ updates ∷ []) =
       cond (bytes_eq (string_bytes command) (codes "count"))
-      (count_sized (number_in (string_bytes threads)) (number_in (string_bytes updates))) None
-  count_of _ = None
+      (count_sized (number_written (string_bytes threads)) (number_written (string_bytes updates))) None
+  counting_of _ = None
 
   -- a crowd or a count; no arguments name both
-  abbrev pub command_of : List (String A) → Option Command
-  command_of args = option_or (option_map Crowd (crowd_of args)) (option_map Count (count_of args))
+  abbrev pub command_in : List (String A) → Option Command
+  command_in args = option_or (option_map Crowd (crowd_of args)) (option_map Count (counting_of args))

@@ -1,4 +1,4 @@
--- What one caller at a shared flow has done, if it only emits or only reads. Begin with `Emits` and `Reads`.
+-- What one caller at a shared flow has done, if it only emits or only reads. Begin with `OnlyEmits` and `Reads`.
 use Rattle.std.specs.Prelude.{◌≡◌, ◌⊎◌, ℕ, List, [], ◌∷◌, flat_map}
 use Rattle.std.specs.List.{AllByRecursion}
 use Rattle.flow_law.specs.declared.history.Knowledge.{Knowledge}
@@ -28,8 +28,8 @@ module _ {T : Type 0} where
   taken_by u = flat_map (λ (e : Says T). received_by u e.call e.reply)
 
   -- from `before` to `after` the token has only emitted, and the flow accepted these values of it, in this order
-  abbrev pub Emits : List T → Knowledge (Says T) → Knowledge (Says T) → Type 0
-  Emits values before after =
+  abbrev pub OnlyEmits : List T → Knowledge (Says T) → Knowledge (Says T) → Type 0
+  OnlyEmits values before after =
       (added : List (Says T)) × Made added before after
       × AllByRecursion (λ (e : Says T). IsEmitting e.call) added × (accepted added ≡ values)
 

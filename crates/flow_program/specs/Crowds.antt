@@ -2,7 +2,7 @@
 use Rattle.std.specs.Prelude.{◌≡◌, ℕ, suc, ◌+◌, ◌*◌, ◌<◌, leb, ltb, ◌&&◌, All, Bool, List, [], Vec, length, filter, slice_index_or, vec_len}
 use Rattle.std.specs.List.{AllByRecursion}
 use Rattle.atomic_table.specs.Seated.{TableId}
-use Rattle.flow_gate.specs.Tokens.{Origin}
+use Rattle.flow_gate.specs.Tokens.{GateOrigin}
 use Rattle.flow_law.specs.declared.config.Overflow.TheVariants.{Suspend}
 use Rattle.flow_law.specs.declared.history.Knowledge.{Knowledge}
 use Rattle.flow_law.specs.declared.states.SharedFlowState.{SharedFlowState}
@@ -16,7 +16,7 @@ use Rattle.flow_law.specs.Done.{done_by}
 use Rattle.flow_program.specs.declared.crowd.emitters.EmitsAll.{EmitsAll}
 use Rattle.flow_program.specs.declared.crowd.size.CrowdSize.{CrowdSize}
 use Rattle.flow_program.specs.declared.crowd.subscribers.ReadsAll.{ReadsAll}
-use Rattle.flow_program.specs.Callers.{Says, Emits, Reads, HasSubscribed, taken_by}
+use Rattle.flow_program.specs.Callers.{Says, OnlyEmits, Reads, HasSubscribed, taken_by}
 use Rattle.flow_program.specs.Numbers.{numbers_from}
 
 -- ---- what a subscriber gets
@@ -40,7 +40,7 @@ pub record EachGotAll {Z : Type 0} (size : CrowdSize) (got : Vec (Vec ℕ Z) Z) 
 -- ---- where a crowd begins
 
 -- a flow that suspends emitters and has a buffer, and its first seat, through which nothing was done
-pub record IsNewFlow (flow : Origin (SharedFlowState ℕ)) (seat : Token TableId (Says ℕ)) : Type 0 where
+pub record IsNewFlow (flow : GateOrigin (SharedFlowState ℕ)) (seat : Token TableId (Says ℕ)) : Type 0 where
   pub suspends : flow.first.config.overflow ≡ Suspend
   pub buffer : 0 < flow.first.config.replay + flow.first.config.extra
   pub table : seat.table_id ≡ flow.table_id
@@ -67,7 +67,7 @@ module _ {T : Type 0} where
     pub did : AllByRecursion (λ (e : Says T). IsSubscribing e.call) (done_by k)
 
   -- a new subscription: the n-th token, from 0, that the first seat made, by these calls
-  pub record IsSubscribed {Id : Type 0} (did : List (Says T)) (n : ℕ) (s : NumberedToken Id (Says T)) : Type 0 where
+  pub record IsNewSubscription {Id : Type 0} (did : List (Says T)) (n : ℕ) (s : NumberedToken Id (Says T)) : Type 0 where
     pub name : s.token.knows.name ≡ child_name [] (suc n)
     pub made : s.token.knows.made ≡ 0
     pub silent : done_by s.token.knows ≡ []
@@ -84,14 +84,14 @@ module _ {T : Type 0} where
 
 -- the i-th emitter of a crowd, from 0, has emitted its values
 abbrev pub HasEmitted : ℕ → ℕ → Knowledge (Says ℕ) → Type 0
-HasEmitted values i k = Emits (numbers_from (i * values) values) (nth_child i first_knowledge) k
+HasEmitted values i k = OnlyEmits (numbers_from (i * values) values) (nth_child i first_knowledge) k
 
 -- the emitter is one of this flow, and has emitted `count` numbers, from `first` on, since its token knew `before`
-abbrev pub HasSent : Origin (SharedFlowState ℕ) → ℕ → ℕ → Knowledge (Says ℕ) → Caller → Type 0
-HasSent flow first count before c = (c.flow ≡ flow) × Emits (numbers_from first count) before c.token.knows
+abbrev pub HasSent : GateOrigin (SharedFlowState ℕ) → ℕ → ℕ → Knowledge (Says ℕ) → Caller → Type 0
+HasSent flow first count before c = (c.flow ≡ flow) × OnlyEmits (numbers_from first count) before c.token.knows
 
 -- the subscriber is one of this flow, has this subscription, and has only read since: it got these `count` values
-abbrev pub HasTaken : Origin (SharedFlowState ℕ) → ℕ → NumberedToken TableId (Says ℕ) → Subscriber → List ℕ → Type 0
+abbrev pub HasTaken : GateOrigin (SharedFlowState ℕ) → ℕ → NumberedToken TableId (Says ℕ) → Subscriber → List ℕ → Type 0
 HasTaken flow count before r got =
     (r.flow ≡ flow) × (r.subscription.number ≡ before.number)
     × Reads before.number got before.token.knows r.subscription.token.knows × (length got ≡ count)
@@ -99,7 +99,7 @@ HasTaken flow count before r got =
 -- ---- all callers
 
 -- The first seat, which knows this now, has made the emitters and then the subscribers of a crowd. It has only subscribed.
-pub record AreMade (size : CrowdSize) (flow : Origin (SharedFlowState ℕ)) (now : Knowledge (Says ℕ)) (es : List Caller) (rs : List Subscriber) : Type 0 where
+pub record AreMade (size : CrowdSize) (flow : GateOrigin (SharedFlowState ℕ)) (now : Knowledge (Says ℕ)) (es : List Caller) (rs : List Subscriber) : Type 0 where
   pub maker : IsMaker now
   pub made : now.made ≡ size.emitters + size.subscribers
   pub emitters : length es ≡ size.emitters
@@ -109,11 +109,11 @@ pub record AreMade (size : CrowdSize) (flow : Origin (SharedFlowState ℕ)) (now
       ((slice_index_or es i d).flow ≡ flow) × ((slice_index_or es i d).token.knows ≡ nth_child i first_knowledge)
   -- a subscriber has done nothing
   pub subscriber : (i : ℕ) (d : Subscriber) → i < size.subscribers → ((slice_index_or rs i d).flow ≡ flow)
-      × IsSubscribed (done_by now) (size.emitters + i) (slice_index_or rs i d).subscription
+      × IsNewSubscription (done_by now) (size.emitters + i) (slice_index_or rs i d).subscription
 
 -- The threads of these callers have ended: each emitter has emitted its values, and each subscriber has read as many
 -- values as all of them emit.
-pub record HaveRun {Z : Type 0} (size : CrowdSize) (flow : Origin (SharedFlowState ℕ)) (es : List Caller) (rs : List Subscriber) (es-after : List Caller) (rs-after : List Subscriber) (got : List (Vec ℕ Z)) : Type 0 where
+pub record HaveRun {Z : Type 0} (size : CrowdSize) (flow : GateOrigin (SharedFlowState ℕ)) (es : List Caller) (rs : List Subscriber) (es-after : List Caller) (rs-after : List Subscriber) (got : List (Vec ℕ Z)) : Type 0 where
   pub emitters : length es-after ≡ length es
   pub subscribers : length rs-after ≡ length rs
   pub lists : length got ≡ length rs
@@ -135,9 +135,9 @@ WillRead flow subscription count p =
     (subscription.token.table_id ≡ flow) × (p.subscription.value ≡ subscription) × (p.count ≡ count)
 
 -- the emitter has sent what its thread promised
-abbrev pub HasSentAs : Origin (SharedFlowState ℕ) → EmitsAll → Caller → Type 0
+abbrev pub HasSentAs : GateOrigin (SharedFlowState ℕ) → EmitsAll → Caller → Type 0
 HasSentAs flow p c = HasSent flow p.first p.count p.seat.value.knows c
 
 -- the subscriber has read what its thread promised, and got these values
-abbrev pub HasTakenAs : Origin (SharedFlowState ℕ) → ReadsAll → Subscriber → List ℕ → Type 0
+abbrev pub HasTakenAs : GateOrigin (SharedFlowState ℕ) → ReadsAll → Subscriber → List ℕ → Type 0
 HasTakenAs flow p r got = HasTaken flow p.count p.subscription.value r got

@@ -2,7 +2,7 @@
 ghost use Rattle.std.specs.Prelude.{◌≡◌, ◌<◌, ◌≤◌, true, length, Some};
 ghost use Rattle.std.specs.Str.{all_ascii_digits};
 ghost use Rattle.std.specs.Str.Parse.{digits_value};
-ghost use Rattle.flow_program.specs.Arguments.{count_of, count_sized, crowd_of, crowd_sized, number_in};
+ghost use Rattle.flow_program.specs.Arguments.{counting_of, count_sized, crowd_of, crowd_sized, number_written};
 
 use crate::count::CountSize;
 use crate::crowd::CrowdSize;
@@ -23,7 +23,7 @@ pub fn crowd_of(args: &[String]) -> Option<CrowdSize>
 /// Returns the count that the arguments name: the word `count`, and how many threads, and updates of each thread.
 /// `None` for other arguments, or if a number is out of its range.
 pub fn count_of(args: &[String]) -> Option<CountSize>
-    ensures { result ≡ count_of args.now }
+    ensures { result ≡ counting_of args.now }
 {
     match args {
         [command, threads, updates] if command.as_str() == "count" => {
@@ -35,7 +35,7 @@ pub fn count_of(args: &[String]) -> Option<CountSize>
 
 fn crowd_sized(emitters: &str, subscribers: &str, values: &str) -> Option<CrowdSize>
     ensures { result ≡
-        crowd_sized (number_in emitters.now) (number_in subscribers.now) (number_in values.now) }
+        crowd_sized (number_written emitters.now) (number_written subscribers.now) (number_written values.now) }
 {
     let emitters = number_in(emitters)?;
     let subscribers = number_in(subscribers)?;
@@ -44,7 +44,7 @@ fn crowd_sized(emitters: &str, subscribers: &str, values: &str) -> Option<CrowdS
 }
 
 fn count_sized(threads: &str, updates: &str) -> Option<CountSize>
-    ensures { result ≡ count_sized (number_in threads.now) (number_in updates.now) }
+    ensures { result ≡ count_sized (number_written threads.now) (number_written updates.now) }
 {
     let threads = number_in(threads)?;
     let updates = number_in(updates)?;
@@ -53,7 +53,7 @@ fn count_sized(threads: &str, updates: &str) -> Option<CountSize>
 
 /// Returns the number that a text of one to five ASCII digits writes.
 fn number_in(text: &str) -> Option<u32>
-    ensures { result ≡ number_in text.now }
+    ensures { result ≡ number_written text.now }
 {
     if 1 <= text.len() && text.len() <= 5 && has_digits_alone(text.as_bytes()) {
         read_short(text)

@@ -2,7 +2,7 @@
 ghost use Rattle.std.specs.Prelude.{◌≡◌, ◌≢◌, false, IfOk, IfSome, None, length, string_bytes};
 ghost use Rattle.flow_script.specs.Telling.{Tells, memory_line};
 ghost use Rattle.flow_script.specs.Watching.{inner_of, has_failed};
-ghost use Rattle.flow_program.specs.Arguments.{command_of};
+ghost use Rattle.flow_program.specs.Arguments.{command_in};
 ghost use Rattle.flow_program.specs.CrowdLines.{Runs, RunsCount, RunsCrowd, count_line, crowd_lines, value_line};
 ghost use Rattle.flow_program.specs.Program.{RunsScript, usage_line};
 
@@ -124,9 +124,9 @@ pub fn run<H: Threads + Wait + Sync + AllocGlobal, R: Read, W: Write>(
 ) -> u8
     requires reads { has_failed input.old ≡ false }
     requires writes { has_failed output.old ≡ false }
-    ensures usage { length args.now ≢ 0 → command_of args.now ≡ None → Tells (has_failed output.new)
+    ensures usage { length args.now ≢ 0 → command_in args.now ≡ None → Tells (has_failed output.new)
         (W.contents (inner_of output.old)) (W.contents (inner_of output.new)) usage_line 2 result }
-    ensures runs { IfSome (command_of args.now) (λ command. Runs command (has_failed output.new)
+    ensures runs { IfSome (command_in args.now) (λ command. Runs command (has_failed output.new)
         (W.contents (inner_of output.old)) (W.contents (inner_of output.new)) result) }
     ensures unread { length args.now ≢ 0 → input.new ≡ input.old }
     ensures plays { length args.now ≡ 0 → RunsScript

@@ -65,11 +65,11 @@ abbrev pub told-state : StateReply ℤ → Bool
 told-state (state_reply.Refused OutOfMemory) = false
 told-state _ = true
 
-pub plain-state : (s : StateFlowState ℤ) (c : StateCall ℤ) (r : StateReply ℤ) → state.Replies s c r → told-state r ≡ true → state.IsReply s c r
+pub plain-state : (s : StateFlowState ℤ) (c : StateCall ℤ) (r : StateReply ℤ) → state.StateFlowReplies s c r → told-state r ≡ true → state.IsReply s c r
 plain-state s c (state_reply.Refused OutOfMemory) is told = cc
 plain-state s c r is told = is
 
-pub documented-state : (s : StateFlowState ℤ) (c : StateCall ℤ) (r : StateReply ℤ) → state.Replies s c r → told-state r ≡ true → r ≡ plays_state.reply_to c s
+pub documented-state : (s : StateFlowState ℤ) (c : StateCall ℤ) (r : StateReply ℤ) → state.StateFlowReplies s c r → told-state r ≡ true → r ≡ plays_state.reply_to c s
 documented-state s c r is told = reply-is c s r (plain-state s c r is told)
 
 pub refused-state : (c : StateCall ℤ) (fault : FlowFault) → IsToldFlowFault fault → IsAnswer state.state_flow plays_state told-state c (state_reply.Refused fault) (answer.refused fault)

@@ -5,7 +5,7 @@ use Rattle.flow_law.specs.History.{Kind}
 use Rattle.flow_law.specs.Standing.{Documents}
 use Rattle.script_format.specs.declared.script.FlowStep.{FlowStep}
 use Rattle.flow_script.specs.declared.answer.Answer.{Answer as Given}
-use Rattle.flow_script.specs.Answers.{Answer, answer_of}
+use Rattle.flow_script.specs.Answers.{Answer, as_answer}
 use Rattle.flow_script.specs.FlowMeaning.{Played, HasAnswers, IsAnswer, given, turn_by, with_number}
 use Rattle.flow_script.specs.Numbers.{Numbers}
 use Rattle.flow_script.specs.Refusals.{AnswersRefusal}
@@ -27,7 +27,7 @@ module _ {K S C R : Type 0} (kind : Kind ℤ S C R) (played : Played S C R) (Sta
       )
 
   -- the answer of a call that is refused is the documented one
-  pub refuses : (call : C) (fault : FlowFault) (answer : Given) → AnswersRefusal fault answer → IsAnswer kind played answers.is_told call (kind.refused fault) (answer_of answer)
+  pub refuses : (call : C) (fault : FlowFault) (answer : Given) → AnswersRefusal fault answer → IsAnswer kind played answers.is_told call (kind.refused fault) (as_answer answer)
   refuses call fault answer is =
       let told = answers.refused call fault is.0 in
       (told.0, told.1 ∙ sym is.1)

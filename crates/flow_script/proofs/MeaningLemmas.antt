@@ -7,7 +7,7 @@ use Rattle.script_chain_format.specs.declared.reading.fault.ScriptFault.{ScriptF
 use Rattle.script_chain_format.specs.declared.reading.fault.ScriptFault.TheVariants.{OutOfMemory, ReadFailed, WriteFailed, NotJson, BadVersion, BadShape, UnknownName, DuplicateName, TooLarge}
 use Rattle.script_chain_format.specs.Results.{Gives, result_map, result_then}
 use Rattle.script_format.specs.Checks.{most_bytes, read_script, script_of, json_of}
-use Rattle.flow_script.specs.ScriptMeaning.{answers_of, meaning, text_of}
+use Rattle.flow_script.specs.ScriptMeaning.{answers_of, script_meaning, text_of}
 use Rattle.flow_script.specs.Playing.{Plays}
 
 below : (n : ℕ) → most_bytes < n → nat_lt most_bytes n ≡ true
@@ -30,12 +30,12 @@ same_script input bytes rest whole end =
     ] refl
 
 pub same_meaning : (input : List ℕ) (left : Option (List ℕ)) (bytes : List ℕ) → Consumes (Some input) left bytes → (length bytes ≤ most_bytes → IsAtEnd left)
-    → meaning input ≡ meaning bytes
+    → script_meaning input ≡ script_meaning bytes
 same_meaning input None bytes taken end = absurd taken
 same_meaning input (Some rest) bytes taken end = ap (λ r. result_map text_of (result_map (λ script. answers_of script.flows script.steps) r)) (same_script input bytes rest taken end)
 
 pub meant : (known left : Option (List ℕ)) (bytes : List ℕ) (r : Result (List ℕ) ScriptFault) → Consumes known left bytes → (length bytes ≤ most_bytes → IsAtEnd left)
-    → meaning bytes ≡ r → IfSome known (λ input. meaning input ≡ r)
+    → script_meaning bytes ≡ r → IfSome known (λ input. script_meaning input ≡ r)
 meant None left bytes r taken end is = tt
 meant (Some input) left bytes r taken end is = same_meaning input left bytes taken end ∙ is
 
@@ -46,18 +46,18 @@ keeps_same (Some xs) = refl
 -- ---- the ends of a run
 
 pub plays_ok : (known left old new : Option (List ℕ)) (bytes text : List ℕ) → Consumes known left bytes → (length bytes ≤ most_bytes → IsAtEnd left)
-    → meaning bytes ≡ Ok text → Appends old new text → IfSome known (λ input. (text : List ℕ) × (meaning input ≡ Ok text) × Appends old new text)
+    → script_meaning bytes ≡ Ok text → Appends old new text → IfSome known (λ input. (text : List ℕ) × (script_meaning input ≡ Ok text) × Appends old new text)
 plays_ok None left old new bytes text taken end is written = tt
 plays_ok (Some input) left old new bytes text taken end is written = (text, same_meaning input left bytes taken end ∙ is, written)
 
 pub plays_front : (known left old new : Option (List ℕ)) (bytes text : List ℕ) (count : ℕ) → Consumes known left bytes → (length bytes ≤ most_bytes → IsAtEnd left)
-    → meaning bytes ≡ Ok text → Appends old new (take count text)
-    → IfSome known (λ input. (text : List ℕ) × (count : ℕ) × (meaning input ≡ Ok text) × Appends old new (take count text))
+    → script_meaning bytes ≡ Ok text → Appends old new (take count text)
+    → IfSome known (λ input. (text : List ℕ) × (count : ℕ) × (script_meaning input ≡ Ok text) × Appends old new (take count text))
 plays_front None left old new bytes text count taken end is written = tt
 plays_front (Some input) left old new bytes text count taken end is written = (text, count, same_meaning input left bytes taken end ∙ is, written)
 
 pub plays_refused : (known left old : Option (List ℕ)) (bytes : List ℕ) (fault : ScriptFault) → Consumes known left bytes → (length bytes ≤ most_bytes → IsAtEnd left)
-    → Gives (meaning bytes) (Err fault) → Plays known old old (Err fault)
+    → Gives (script_meaning bytes) (Err fault) → Plays known old old (Err fault)
 plays_refused known left old bytes OutOfMemory taken end is = keeps_same old
 plays_refused known left old bytes ReadFailed taken end is = absurd is
 plays_refused known left old bytes WriteFailed taken end is = absurd is
@@ -70,7 +70,7 @@ plays_refused known left old bytes (TooLarge at) taken end is = (meant known lef
 
 -- all of the text was written, or a first part of it
 pub plays_written : (known left old new : Option (List ℕ)) (bytes text : List ℕ) (r : Result (Unit {0}) ScriptFault) → Consumes known left bytes → (length bytes ≤ most_bytes → IsAtEnd left)
-    → meaning bytes ≡ Ok text → OnOk r (Appends old new text) → OnErr r ((count : ℕ) × Appends old new (take count text)) → IfErr r (λ fault. fault ≡ WriteFailed) → Plays known old new r
+    → script_meaning bytes ≡ Ok text → OnOk r (Appends old new text) → OnErr r ((count : ℕ) × Appends old new (take count text)) → IfErr r (λ fault. fault ≡ WriteFailed) → Plays known old new r
 plays_written known left old new bytes text (Ok u) taken end is whole front fault = plays_ok known left old new bytes text taken end is whole
 plays_written known left old new bytes text (Err f) taken end is whole front fault =
     subst (λ f. Plays known old new (Err f)) (sym fault) (plays_front known left old new bytes text front.0 taken end is front.1)

@@ -2,10 +2,10 @@
 use Rattle.std.proofs.Common.{◌≡◌, ℤ, Result, Ok, Err, OnOk, Global, List, [], ◌∷◌, length, refl, ap, ◌∙◌, arith}
 use Rattle.std.specs.Prelude.{IfOk}
 use Rattle.flow_script.specs.declared.answer.Answer.{Answer as Given}
-use Rattle.flow_script.specs.Answers.{answer_of, no_flow}
+use Rattle.flow_script.specs.Answers.{as_answer, no_flow}
 use Rattle.flow_script.specs.ScriptMeaning.{shared, state, share, state_in, state_turn, player_turn, player_subscribes_with}
-use Rattle.flow_script.specs.Shown.{Follows}
-use Rattle.flow_script.specs.Players.{Shows}
+use Rattle.flow_script.specs.Shown.{FollowsStep}
+use Rattle.flow_script.specs.Players.{ShowsPlayer}
 use Rattle.flow_script.specs.declared.numbers.Numbers.{Numbers as Kept}
 use Rattle.flow_script.specs.declared.player.Player.{Player as KeptPlayer}
 use Rattle.flow_script.specs.declared.player.Player.TheVariants.{Shared, State, Share, StateIn}
@@ -14,7 +14,7 @@ use Rattle.flow_core.specs.declared.shared.SharedCore.{SharedCore}
 use Rattle.flow_core.specs.declared.state.StateCore.{StateCore}
 use Rattle.flow_law.specs.declared.states.StateAndInitial.{StateAndInitial}
 use Rattle.flow_law.specs.declared.states.StateFlowState.{StateFlowState}
-use Rattle.flow_script.specs.Shown.{numbers_of}
+use Rattle.flow_script.specs.Shown.{kept_numbers}
 use Rattle.flow_script.specs.SharingMeaning.{beside_initial}
 use Rattle.flow_turns.specs.declared.state_hub.StateHub.{StateHub}
 use Rattle.flow_turns.specs.StateHub.{state_flow_of}
@@ -32,7 +32,7 @@ if-ok (Ok a) f p = f a p
 if-ok (Err e) f p = tt
 
 pub state-follows : (step : FlowStep) (old new : StateCore ℤ Global) (n m : Kept) (answer : Given)
-    → Follows (λ core s. core ≡ s) (state_turn step) old new n m answer → Follows Shows (player_turn step) (State old) (State new) n m answer
+    → FollowsStep (λ core s. core ≡ s) (state_turn step) old new n m answer → FollowsStep ShowsPlayer (player_turn step) (State old) (State new) n m answer
 state-follows step old new n m answer follows (shared s) shows = absurd shows
 state-follows step old new n m answer follows (state s) shows = follows s shows
 state-follows step old new n m answer follows (share p) shows = absurd shows
@@ -40,11 +40,11 @@ state-follows step old new n m answer follows (state_in p) shows = absurd shows
 
 -- a step on the flow of a state hub leaves its initial value
 pub hub-follows : (step : FlowStep) (old new : StateHub ℤ Global) (n m : Kept) (answer : Given)
-    → Follows (λ core s. core ≡ s) (state_turn step) old.core new.core n m answer → new.initial ≡ old.initial
-    → Follows (λ hub s. state_flow_of hub ≡ s) (beside_initial state_turn step) old new n m answer
+    → FollowsStep (λ core s. core ≡ s) (state_turn step) old.core new.core n m answer → new.initial ≡ old.initial
+    → FollowsStep (λ hub s. state_flow_of hub ≡ s) (beside_initial state_turn step) old new n m answer
 hub-follows step old new n m answer follows same p shows =
     let did = follows p.flow (ap (λ (x : StateAndInitial ℤ). x.flow) shows) in
-    let t = state_turn step p.flow (numbers_of n) in (
+    let t = state_turn step p.flow (kept_numbers n) in (
       ap (λ (core : StateFlowState ℤ). record { flow = core; initial = new.initial }) did.0
           ∙ ap (λ (x : ℤ). record { flow = t.after; initial = x }) (same ∙ ap (λ (x : StateAndInitial ℤ). x.initial) shows),
       did.1,
@@ -53,7 +53,7 @@ hub-follows step old new n m answer follows same p shows =
 
 -- a subscription with first values on a flow that does not have it changes nothing
 pub others-follow : (first : List ℤ) (player : KeptPlayer) (n : Kept) (answer : Given) → ((core : SharedCore ℤ Global) → player ≡ Shared core → ⊥)
-    → answer_of answer ≡ no_flow → Follows Shows (player_subscribes_with first) player player n n answer
+    → as_answer answer ≡ no_flow → FollowsStep ShowsPlayer (player_subscribes_with first) player player n n answer
 others-follow first (Shared core) n answer other is p shows = absurd (other core refl)
 others-follow first (State core) n answer other is (shared s) shows = absurd shows
 others-follow first (State core) n answer other is (state s) shows = (shows, refl, is)

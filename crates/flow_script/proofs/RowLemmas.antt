@@ -10,10 +10,10 @@ use Rattle.flow_script.specs.declared.row.PlayedFlow.{PlayedFlow as Kept}
 use Rattle.flow_script.specs.declared.refusal.Refusal.{Refusal}
 use Rattle.flow_script.specs.declared.answer.Answer.{Answer as Given}
 use Rattle.flow_script.specs.declared.answer.Told.{Told}
-use Rattle.flow_script.specs.Answers.{Answer, answer_of, no_flow}
+use Rattle.flow_script.specs.Answers.{Answer, as_answer, no_flow}
 use Rattle.flow_script.specs.Said.{said_of}
 use Rattle.flow_script.specs.Refusals.{IsTold, refused_answer}
-use Rattle.flow_script.specs.Players.{Makes, Shows}
+use Rattle.flow_script.specs.Players.{MakesPlayer, ShowsPlayer}
 use Rattle.flow_script.specs.Rows.{AddsFlow, FollowsPlace, FollowsRow, ShowsFlow, ShowsPlace, ShowsRow}
 use Rattle.flow_script.specs.ScriptMeaning.{Answers, NotMade, Play, Player, PlayedFlow, after_refusals, answers_from, first_played, flow_at, not_made_flow, only_steps, place_turn, player_of, turn, turn_at, with_flow}
 
@@ -61,25 +61,25 @@ follows-at play i kept k new answer here is follows row shows =
     (shown-set kept row i new (place_turn play (flow_at i row)).state shows done.0, done.1)
 
 pub follows-past : (play : Play) (i : ℕ) (kept : List (Option Kept)) (answer : Given)
-    → length kept ≤ i → answer_of answer ≡ no_flow → FollowsRow (turn_at i play) kept kept answer
+    → length kept ≤ i → as_answer answer ≡ no_flow → FollowsRow (turn_at i play) kept kept answer
 follows-past play i kept answer past is row shows =
-    let over = λ (p : Option PlayedFlow). ShowsRow kept (set row i (place_turn play p).state) × (answer_of answer ≡ (place_turn play p).result) in
+    let over = λ (p : Option PlayedFlow). ShowsRow kept (set row i (place_turn play p).state) × (as_answer answer ≡ (place_turn play p).result) in
     subst over (sym (none-past kept row i shows past)) (subst (λ r. ShowsRow kept r) (sym (set-past kept row i None shows past)) shows, is)
 
 -- if the answers so far and those of the rest are all answers, so are they after one more step
 pub next_answers : (row : List (Option PlayedFlow)) (step : Step) (before after : List Step) (old new : List Told) (told : Told) (all : List Answer) → before ≡ step ∷ after → new ≡ old ++ told ∷ []
-    → answer_of told.answer ≡ (turn (action_of step) row).result → map said_of old ++ answers_from row (actions_of before) ≡ all
+    → as_answer told.answer ≡ (turn (action_of step) row).result → map said_of old ++ answers_from row (actions_of before) ≡ all
     → map said_of new ++ answers_from (turn (action_of step) row).state (actions_of after) ≡ all
 next_answers row step before after old new told all is pushed answered so_far =
     let t = turn (action_of step) row in
     let rest = answers_from t.state (actions_of after) in
-    ap (λ l. map said_of l ++ rest) pushed ∙ ap (λ l. l ++ rest) (map-append said_of old (told ∷ [])) ∙ append_assoc (map said_of old) (answer_of told.answer ∷ []) rest
+    ap (λ l. map said_of l ++ rest) pushed ∙ ap (λ l. l ++ rest) (map-append said_of old (told ∷ [])) ∙ append_assoc (map said_of old) (as_answer told.answer ∷ []) rest
     ∙ ap (λ a. map said_of old ++ (a ∷ rest)) answered ∙ ap (λ l. map said_of old ++ answers_from row (actions_of l)) (sym is) ∙ so_far
 
 -- ---- flows that are made
 
 pub adds-made : (name : Option (List ℕ)) (head : Head) (kept new : List (Option Kept)) (player : KeptPlayer) (k : Kept) (before : List NotMade)
-    → Makes head (Ok player) → ((p : Player) → Shows player p → ShowsFlow k (first_played p)) → new ≡ kept ++ Some k ∷ []
+    → MakesPlayer head (Ok player) → ((p : Player) → ShowsPlayer player p → ShowsFlow k (first_played p)) → new ≡ kept ++ Some k ∷ []
     → AddsFlow (record { name = name; flow = head }) true kept new before before
 adds-made name head kept new player k before made begins pushed row shows =
     let p = made.0 in (
@@ -93,7 +93,7 @@ refusals-assoc : (before more : List NotMade) (rest : Answers) → after_refusal
 refusals-assoc before more rest = ap (λ l. record rest { not_made = l }) (sym (append_assoc before more rest.not_made))
 
 pub adds-refused : (name : List ℕ) (head : NamedHead) (kept new : List (Option Kept)) (refused : Refusal) (before after : List NotMade)
-    → head.name ≡ Some name → Makes head.flow (Err refused) → IsTold refused → after ≡ before ++ not_made_flow (Some name) (refused_answer refused) ∷ [] → new ≡ kept ++ None ∷ []
+    → head.name ≡ Some name → MakesPlayer head.flow (Err refused) → IsTold refused → after ≡ before ++ not_made_flow (Some name) (refused_answer refused) ∷ [] → new ≡ kept ++ None ∷ []
     → AddsFlow head true kept new before after
 adds-refused name head kept new refused before after has_name makes told ends pushed row shows =
     let one = not_made_flow (Some name) (refused_answer refused) ∷ [] in (
@@ -105,7 +105,7 @@ adds-refused name head kept new refused before after has_name makes told ends pu
     )
 
 pub ends-refused : (head : NamedHead) (kept : List (Option Kept)) (refused : Refusal) (before after : List NotMade)
-    → head.name ≡ None → Makes head.flow (Err refused) → IsTold refused → after ≡ before ++ not_made_flow None (refused_answer refused) ∷ [] → AddsFlow head false kept kept before after
+    → head.name ≡ None → MakesPlayer head.flow (Err refused) → IsTold refused → after ≡ before ++ not_made_flow None (refused_answer refused) ∷ [] → AddsFlow head false kept kept before after
 ends-refused head kept refused before after unnamed makes told ends row rest =
     let one = not_made_flow None (refused_answer refused) ∷ [] in
     ap (λ n. after_refusals before (with_flow n (player_of head.flow) rest row)) unnamed ∙ ap (λ r. after_refusals before (with_flow None r rest row)) (makes told)

@@ -15,11 +15,11 @@ use Rattle.flow_law.specs.SharingTurn.{Turned, turn_steps, at_rest}
 use Rattle.flow_law.specs.Steps.{After, Takes}
 use Rattle.flow_cold.specs.declared.script_chain.ScriptChain.{ScriptChain}
 use Rattle.flow_turns.specs.declared.sharing.Sharing.{Sharing}
-use Rattle.flow_turns.specs.SharingViews.{state_of, HasObserved}
+use Rattle.flow_turns.specs.SharingViews.{sharing_state, HasObserved}
 use Rattle.flow_script.specs.Answers.{turn_answer}
 use Rattle.flow_script.specs.Memory.{IsToldFault}
 use Rattle.flow_script.specs.Numbers.{Numbers}
-use Rattle.flow_script.specs.SharingMeaning.{SharingPlay, first_sharing, turn_at}
+use Rattle.flow_script.specs.SharingMeaning.{SharingPlay, first_sharing, turn_at_moment}
 use Rattle.flow_script.specs.Sharings.{ShowsSharing, TurnsAsDocumented, both_of}
 
 -- a fault that a line reports is not OutOfMemory
@@ -49,7 +49,7 @@ chained whole rest hub = record { whole = whole; rest = rest; hub = hub }
 
 module _ {H F : Type 0} (Stands : H → F → Type 0) where
   -- a sharing that was just made stands for the documented one before any turn
-  pub begun : (sharing : Sharing ScriptChain H ℤ) (started : Started) (run : ChainRun ℤ) (f : F) → HasObserved started sharing [] → state_of sharing ≡ at_rest
+  pub begun : (sharing : Sharing ScriptChain H ℤ) (started : Started) (run : ChainRun ℤ) (f : F) → HasObserved started sharing [] → sharing_state sharing ≡ at_rest
       → both_of sharing ≡ record { whole = run; rest = run; hub = sharing.hub } → Stands sharing.hub f → ShowsSharing Stands sharing (first_sharing run started f)
   begun sharing started run f nothing rests is stands = record {
     observed = nothing;
@@ -66,16 +66,16 @@ module _ {H F : Type 0} (does : (c : HubCall ℤ) → H → HubAnswer c → H �
       → ShowsSharing Stands old p → TurnsAsDocumented does waits Stands reply
       → ((started : Started) (seen : List SharingObservation) → HasObserved started old seen
       → (all : List SharingObservation) × HasObserved started new all
-      × Takes (CallDoes (HubStep does waits)) (turn_steps started now seen (state_of old)) (both_of old) (record { answer = result; seen = all; state = state_of new }) (both_of new))
-      → HadMemory result → ShowsSharing Stands new (turn_at reply now p n).after × (turn_answer result ≡ (turn_at reply now p n).answer)
+      × Takes (CallDoes (HubStep does waits)) (turn_steps started now seen (sharing_state old)) (both_of old) (record { answer = result; seen = all; state = sharing_state new }) (both_of new))
+      → HadMemory result → ShowsSharing Stands new (turn_at_moment reply now p n).after × (turn_answer result ≡ (turn_at_moment reply now p n).answer)
   turned now n result old new p shows law takes had =
       let observed = takes p.started p.seen shows.observed in
       let all = observed.0 in
-      let after : Turned ℤ = record { answer = result; seen = all; state = state_of new } in
-      let done = law p.started now p.seen (state_of old) p.both.hub (both_of old) (both_of new) after shows.flow observed.2 had in
+      let after : Turned ℤ = record { answer = result; seen = all; state = sharing_state new } in
+      let done = law p.started now p.seen (sharing_state old) p.both.hub (both_of old) (both_of new) after shows.flow observed.2 had in
       let whole : flow_turn reply p.started now p.seen p.state p.both ≡ record { result = after; state = with_hub (both_of new) done.0 } =
-      ap (λ s. flow_turn reply p.started now p.seen s p.both) (sym shows.state) ∙ ap (flow_turn reply p.started now p.seen (state_of old)) (sym shows.both) ∙ done.2 in
-      let shown : ShowsSharing Stands new (record p { seen = all; state = state_of new; both = with_hub (both_of new) done.0 }) = record {
+      ap (λ s. flow_turn reply p.started now p.seen s p.both) (sym shows.state) ∙ ap (flow_turn reply p.started now p.seen (sharing_state old)) (sym shows.both) ∙ done.2 in
+      let shown : ShowsSharing Stands new (record p { seen = all; state = sharing_state new; both = with_hub (both_of new) done.0 }) = record {
         observed = observed.1;
         state = refl;
         both = refl;

@@ -8,9 +8,9 @@ use Rattle.flow_law.specs.declared.call.StateCall.TheVariants as call
 use Rattle.flow_law.specs.declared.call.StateReply.{StateReply}
 use Rattle.flow_law.specs.declared.call.StateReply.TheVariants as reply
 use Rattle.flow_law.specs.declared.states.StateFlowState.{StateFlowState}
-use Rattle.flow_law.specs.StateFlow.{last_of}
+use Rattle.flow_law.specs.StateFlow.{last_got_by}
 use Rattle.flow_law.specs.StateFlow as documented
-use Rattle.flow_script.specs.StateMeaning.{state_reply, received, is_last}
+use Rattle.flow_script.specs.StateMeaning.{documented_state_reply, received_by_state, is_last}
 
 same : (a b : ℤ) → a ≡ b → int_eq a b ≡ true
 same a b e = (Decides-int_eq a b).1 e
@@ -29,19 +29,19 @@ last-differs : (v : ℤ) (last : Option ℤ) → last ≢ Some v → is_last v l
 last-differs v None ne = refl
 last-differs v (Some x) ne = differs x v (λ e. ne (ap Some e))
 
-received-is : (v : ℤ) (last : Option (Option ℤ)) (r : StateReply ℤ) → documented.Receives v last r → r ≡ received v last
+received-is : (v : ℤ) (last : Option (Option ℤ)) (r : StateReply ℤ) → documented.Receives v last r → r ≡ received_by_state v last
 received-is v None r is = is
 received-is v (Some last) r (inl w) = w.1 ∙ ap (λ t. if t then reply.Received Empty else reply.Received (Value v)) (sym (last-same v last w.0))
 received-is v (Some last) r (inr w) = w.1 ∙ ap (λ t. if t then reply.Received Empty else reply.Received (Value v)) (sym (last-differs v last w.0))
 
 -- the documented reply is the computed one
-pub reply-is : (c : StateCall ℤ) (s : StateFlowState ℤ) (r : StateReply ℤ) → documented.IsReply s c r → r ≡ state_reply c s
+pub reply-is : (c : StateCall ℤ) (s : StateFlowState ℤ) (r : StateReply ℤ) → documented.IsReply s c r → r ≡ documented_state_reply c s
 reply-is call.GetValue s r is = is
 reply-is (call.Set x) s r is = is
 reply-is (call.TryEmit x) s r is = is
 reply-is (call.CompareAndSet a b) s r is = compared s.value a r is
 reply-is (call.Subscribe name) s r is = is
-reply-is (call.TakeNext u) s r is = received-is s.value (last_of u s.subscribers) r is
+reply-is (call.TakeNext u) s r is = received-is s.value (last_got_by u s.subscribers) r is
 reply-is (call.Unsubscribe u) s r is = is
 reply-is call.SubscriptionCount s r is = is
 reply-is call.ReplayCache s r is = is

@@ -82,21 +82,21 @@ collection_answer (Ok chain) = collected (items chain.run) (ending chain.run)
 collection_answer (Err fault) = not_built fault
 
 -- the player's answer, as the definitions have it
-abbrev pub answer_of : Given → Answer
-answer_of (given.Tested test) = tested test
-answer_of (given.Waits test) = waits test
-answer_of given.Done = done
-answer_of given.Queued = queued
-answer_of given.Subscribed = subscribed
-answer_of (given.Received next) = received next
-answer_of (given.Cached values) = cached values.items
-answer_of (given.Counted count) = counted count
-answer_of (given.Got value) = got value
-answer_of given.Set = set
-answer_of given.Reset = reset
-answer_of (given.Refused fault) = refused fault
-answer_of (given.Turned report) = turned report
-answer_of (given.TurnRefused fault) = turn_refused fault
-answer_of (given.Collected values end) = collected values.items end
-answer_of (given.NotBuilt fault) = not_built fault
-answer_of given.NoFlow = no_flow
+abbrev pub as_answer : Given → Answer
+as_answer (given.Tested test) = tested test
+as_answer (given.Waits test) = waits test
+as_answer given.Done = done
+as_answer given.Queued = queued
+as_answer given.Subscribed = subscribed
+as_answer (given.Received next) = received next
+as_answer (given.Cached values) = cached values.items
+as_answer (given.Counted count) = counted count
+as_answer (given.Got value) = got value
+as_answer given.Set = set
+as_answer given.Reset = reset
+as_answer (given.Refused fault) = refused fault
+as_answer (given.Turned report) = turned report
+as_answer (given.TurnRefused fault) = turn_refused fault
+as_answer (given.Collected values end) = collected values.items end
+as_answer (given.NotBuilt fault) = not_built fault
+as_answer given.NoFlow = no_flow

@@ -1,5 +1,5 @@
 -- The steps of a script on a documented flow, defined once for every kind of flow.
--- Begin with `flow_turn`. A `Played` has what differs between kinds: that of shared flows is in SharedMeaning, that of state flows in
+-- Begin with `flow_step_turn`. A `Played` has what differs between kinds: that of shared flows is in SharedMeaning, that of state flows in
 -- StateMeaning.
 use Rattle.std.specs.Prelude.{◌≡◌, ℕ, ℤ, Bool, true, false, List, [], Option, Some, None, option_map}
 use Rattle.std.specs.Option.{option_map_or}
@@ -54,28 +54,28 @@ pub record Played (S C R : Type 0) : Type 0 where
 
 module _ {S C R : Type 0} (kind : Kind ℤ S C R) (played : Played S C R) where
   -- the state after a call, with its documented reply
-  abbrev pub after : C → S → S
-  after call s = kind.after s call (played.reply_to call s)
+  abbrev pub state_after_step : C → S → S
+  state_after_step call s = kind.after s call (played.reply_to call s)
 
   -- the number that the reply gives to the caller: of a new subscriber or of a queued emission; none otherwise
   abbrev pub given : C → R → Option ℕ
   given call reply = option_map (λ owner. number_in owner.number) (kind.gives [] call reply)
 
   -- the call that a step makes; none if its name stands for no number, or if the kind of flow does not have the step
-  abbrev pub call_of : FlowStep → Numbers → Option C
-  call_of (step.TryEmit value) n = Some (played.try_emit value)
-  call_of step.Subscribe n = Some (kind.subscribe [])
-  call_of (step.Next place) n = option_map kind.take_next (number_at place n.subscribers)
-  call_of (step.Unsubscribe place) n = option_map kind.unsubscribe (number_at place n.subscribers)
-  call_of step.Cache n = Some kind.replay_cache
-  call_of step.Count n = Some kind.count
-  call_of own n = played.own_call own n.emissions
+  abbrev pub call_of_step : FlowStep → Numbers → Option C
+  call_of_step (step.TryEmit value) n = Some (played.try_emit value)
+  call_of_step step.Subscribe n = Some (kind.subscribe [])
+  call_of_step (step.Next place) n = option_map kind.take_next (number_at place n.subscribers)
+  call_of_step (step.Unsubscribe place) n = option_map kind.unsubscribe (number_at place n.subscribers)
+  call_of_step step.Cache n = Some kind.replay_cache
+  call_of_step step.Count n = Some kind.count
+  call_of_step own n = played.own_call own n.emissions
 
   -- a step that makes this call
   abbrev pub called : FlowStep → S → Numbers → C → Turn S
   called step s n call = record {
     answer = played.answer call (played.reply_to call s);
-    after = after call s;
+    after = state_after_step call s;
     numbers = with_number step (given call (played.reply_to call s)) n;
   }
 
@@ -84,8 +84,8 @@ module _ {S C R : Type 0} (kind : Kind ℤ S C R) (played : Played S C R) where
   turn_by call step s n = option_map_or (called step s n) call (without_call step s n)
 
   -- a step on a flow
-  abbrev pub flow_turn : FlowStep → S → Numbers → Turn S
-  flow_turn step s n = turn_by (call_of step n) step s n
+  abbrev pub flow_step_turn : FlowStep → S → Numbers → Turn S
+  flow_step_turn step s n = turn_by (call_of_step step n) step s n
 
   -- a step that not every kind of flow has
   abbrev pub own_turn : FlowStep → S → Numbers → Turn S

@@ -26,12 +26,12 @@ abbrev pub lined : List ℕ → List ℕ
 lined text = text ++ 10 ∷ []
 
 -- a call adds this text
-abbrev pub Adds : {Z : Type 0} → List ℕ → String Z → String Z → Type 0
-Adds text old new = string_bytes new ≡ string_bytes old ++ text
+abbrev pub AddsText : {Z : Type 0} → List ℕ → String Z → String Z → Type 0
+AddsText text old new = string_bytes new ≡ string_bytes old ++ text
 
 -- a call adds this line
 abbrev pub AddsLine : {Z : Type 0} → List ℕ → String Z → String Z → Type 0
-AddsLine text = Adds (lined text)
+AddsLine text = AddsText (lined text)
 
 -- the items after the first, each after a comma and a space
 abbrev pub more_items : List ℤ → List ℕ

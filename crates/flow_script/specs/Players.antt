@@ -8,7 +8,7 @@ use Rattle.flow_law.specs.declared.report.ShareFault.TheVariants.{Chain, Flow}
 use Rattle.flow_law.specs.declared.fault.FlowFault.TheVariants.{OutOfMemory}
 use Rattle.flow_script.specs.declared.refusal.Refusal.{Refusal}
 use Rattle.flow_law.specs.declared.chain.ChainFault.{ChainFault}
-use Rattle.flow_turns.specs.OverCores.{Emits}
+use Rattle.flow_turns.specs.OverCores.{StandsForEmitting}
 use Rattle.flow_turns.specs.StateHub.{state_flow_of}
 use Rattle.flow_script.specs.declared.player.Player.{Player}
 use Rattle.flow_script.specs.declared.player.Player.TheVariants.{Shared, State, Share, StateIn}
@@ -22,22 +22,22 @@ use Rattle.flow_script.specs.ScriptMeaning as player
 use Rattle.flow_script.specs.Sharings.{ShowsSharing}
 
 -- the player stands for this player of the definitions
-abbrev pub Shows : Player → player.Player → Type 0
-Shows (Shared core) (player.shared s) = StandsFor core s
-Shows (State core) (player.state s) = core ≡ s
-Shows (Share sharing) (player.share p) = ShowsSharing Emits sharing p
-Shows (StateIn sharing) (player.state_in p) = ShowsSharing (λ hub s. state_flow_of hub ≡ s) sharing p
-Shows _ _ = ⊥
+abbrev pub ShowsPlayer : Player → player.Player → Type 0
+ShowsPlayer (Shared core) (player.shared s) = StandsFor core s
+ShowsPlayer (State core) (player.state s) = core ≡ s
+ShowsPlayer (Share sharing) (player.share p) = ShowsSharing StandsForEmitting sharing p
+ShowsPlayer (StateIn sharing) (player.state_in p) = ShowsSharing (λ hub s. state_flow_of hub ≡ s) sharing p
+ShowsPlayer _ _ = ⊥
 
 -- what was made stands for the documented sharing before its first step; a refusal is the documented one, or out of memory
 abbrev pub MakesSharing : Head → Result Player ShareFault → Type 0
-MakesSharing head (Ok made) = (p : player.Player) × (player_of head ≡ Ok p) × Shows made p
+MakesSharing head (Ok made) = (p : player.Player) × (player_of head ≡ Ok p) × ShowsPlayer made p
 MakesSharing head (Err fault) = (player_of head ≡ Err (turn_refused fault)) ⊎ (fault ≡ Flow OutOfMemory)
 
 -- what was made stands for the documented flow before its first step; a refusal that a line reports is the documented one
-abbrev pub Makes : Head → Result Player Refusal → Type 0
-Makes head (Ok made) = (p : player.Player) × (player_of head ≡ Ok p) × Shows made p
-Makes head (Err refused) = IsTold refused → player_of head ≡ Err (refused_answer refused)
+abbrev pub MakesPlayer : Head → Result Player Refusal → Type 0
+MakesPlayer head (Ok made) = (p : player.Player) × (player_of head ≡ Ok p) × ShowsPlayer made p
+MakesPlayer head (Err refused) = IsTold refused → player_of head ≡ Err (refused_answer refused)
 
 -- the chain that was built, from its beginning, or why it was not built
 abbrev pub Rewinds : Result ScriptChain ChainFault → Result ScriptChain ShareFault → Type 0

@@ -8,8 +8,8 @@ use Rattle.script_chain_format.specs.declared.reading.fault.ScriptFault.TheVaria
 use Rattle.script_chain_format.specs.Results.{result_map}
 use Rattle.script_format.specs.Checks.{most_bytes}
 use Rattle.flow_script.specs.declared.answer.Answers.{Answers as Kept}
-use Rattle.flow_script.specs.Said.{said}
-use Rattle.flow_script.specs.ScriptMeaning.{Answers, meaning}
+use Rattle.flow_script.specs.Said.{all_said}
+use Rattle.flow_script.specs.ScriptMeaning.{Answers, script_meaning}
 
 -- ---- readers and writers that failed
 
@@ -50,27 +50,27 @@ text_result r = result_map string_bytes r
 
 -- the answers as the definitions have them, or the fault
 abbrev pub answers_result : Result Kept ScriptFault → Result Answers ScriptFault
-answers_result r = result_map said r
+answers_result r = result_map all_said r
 
 -- the bytes taken from the reader are at most one more than a script may have
 abbrev pub TakesWithin : Option (List ℕ) → Option (List ℕ) → Type 0
 TakesWithin old new = (taken : List ℕ) × Consumes old new taken × (length taken ≤ most_bytes + 1)
 
 -- this fault refuses the reader's bytes, if they are known
-abbrev pub Refuses : Option (List ℕ) → ScriptFault → Type 0
-Refuses known fault = IfSome known (λ bytes. meaning bytes ≡ Err fault)
+abbrev pub RefusesBytes : Option (List ℕ) → ScriptFault → Type 0
+RefusesBytes known fault = IfSome known (λ bytes. script_meaning bytes ≡ Err fault)
 
 -- If the reader's bytes are known, a run that ends well has written their meaning, and a fault of the script is that of their meaning.
 -- After a write that failed, a first part of that text is written; after any other fault nothing is.
 abbrev pub Plays : Option (List ℕ) → Option (List ℕ) → Option (List ℕ) → Result (Unit {0}) ScriptFault → Type 0
-Plays known old new (Ok u) = IfSome known (λ bytes. (text : List ℕ) × (meaning bytes ≡ Ok text) × Appends old new text)
+Plays known old new (Ok u) = IfSome known (λ bytes. (text : List ℕ) × (script_meaning bytes ≡ Ok text) × Appends old new text)
 Plays known old new (Err WriteFailed) =
-    IfSome known (λ bytes. (text : List ℕ) × (count : ℕ) × (meaning bytes ≡ Ok text) × Appends old new (take count text))
+    IfSome known (λ bytes. (text : List ℕ) × (count : ℕ) × (script_meaning bytes ≡ Ok text) × Appends old new (take count text))
 Plays known old new (Err OutOfMemory) = Keeps old new
 Plays known old new (Err ReadFailed) = Keeps old new
-Plays known old new (Err NotJson) = Refuses known NotJson × Keeps old new
-Plays known old new (Err BadVersion) = Refuses known BadVersion × Keeps old new
-Plays known old new (Err (BadShape at)) = Refuses known (BadShape at) × Keeps old new
-Plays known old new (Err (UnknownName at)) = Refuses known (UnknownName at) × Keeps old new
-Plays known old new (Err (DuplicateName at)) = Refuses known (DuplicateName at) × Keeps old new
-Plays known old new (Err (TooLarge at)) = Refuses known (TooLarge at) × Keeps old new
+Plays known old new (Err NotJson) = RefusesBytes known NotJson × Keeps old new
+Plays known old new (Err BadVersion) = RefusesBytes known BadVersion × Keeps old new
+Plays known old new (Err (BadShape at)) = RefusesBytes known (BadShape at) × Keeps old new
+Plays known old new (Err (UnknownName at)) = RefusesBytes known (UnknownName at) × Keeps old new
+Plays known old new (Err (DuplicateName at)) = RefusesBytes known (DuplicateName at) × Keeps old new
+Plays known old new (Err (TooLarge at)) = RefusesBytes known (TooLarge at) × Keeps old new

@@ -5,7 +5,7 @@ use Rattle.std.specs.Prelude.{◌≡◌}
 use Rattle.flow_law.specs.declared.fault.FlowFault.{FlowFault}
 use Rattle.flow_law.specs.declared.report.ShareFault.{ShareFault}
 use Rattle.flow_script.specs.declared.answer.Answer.{Answer as Given}
-use Rattle.flow_script.specs.Answers.{Answer, answer_of, refused, turn_refused}
+use Rattle.flow_script.specs.Answers.{Answer, as_answer, refused, turn_refused}
 use Rattle.flow_script.specs.Memory.{IsToldFlowFault, IsToldFault}
 
 -- the answer that says why a flow was not made
@@ -20,12 +20,12 @@ IsTold (refusal.Sharing fault) = IsToldFault fault
 
 -- the answer gives this fault of a flow, which is not OutOfMemory
 abbrev pub AnswersRefusal : FlowFault → Given → Type 0
-AnswersRefusal fault answer = IsToldFlowFault fault × (answer_of answer ≡ refused fault)
+AnswersRefusal fault answer = IsToldFlowFault fault × (as_answer answer ≡ refused fault)
 
 -- the answer gives this fault of a sharing, which is not OutOfMemory
 abbrev pub AnswersTurn : ShareFault → Given → Type 0
-AnswersTurn fault answer = IsToldFault fault × (answer_of answer ≡ turn_refused fault)
+AnswersTurn fault answer = IsToldFault fault × (as_answer answer ≡ turn_refused fault)
 
 -- the answer says why the flow was not made, and a line reports that
-abbrev pub Answers : Refusal → Given → Type 0
-Answers why answer = IsTold why × (answer_of answer ≡ refused_answer why)
+abbrev pub AnswersNotMade : Refusal → Given → Type 0
+AnswersNotMade why answer = IsTold why × (as_answer answer ≡ refused_answer why)

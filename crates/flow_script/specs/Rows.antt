@@ -8,15 +8,15 @@ use Rattle.script_format.specs.Heads.{NamedHead}
 use Rattle.flow_script.specs.declared.row.PlayedFlow.{PlayedFlow as Kept}
 use Rattle.flow_script.specs.declared.answer.Answer.{Answer as Given}
 use Rattle.flow_script.specs.declared.answer.Told.{Told}
-use Rattle.flow_script.specs.Answers.{Answer, answer_of}
-use Rattle.flow_script.specs.Players.{Shows}
+use Rattle.flow_script.specs.Answers.{Answer, as_answer}
+use Rattle.flow_script.specs.Players.{ShowsPlayer}
 use Rattle.flow_script.specs.ScriptMeaning.{Answers, NotMade, Play, PlayedFlow, after_refusals, answers_from, answers_of, only_steps, place_turn, player_of, with_flow}
 use Rattle.flow_script.specs.Said.{said_of}
-use Rattle.flow_script.specs.Shown.{numbers_of}
+use Rattle.flow_script.specs.Shown.{kept_numbers}
 
 -- a flow of the player, with its names, stands for one of the definitions
 abbrev pub ShowsFlow : Kept → PlayedFlow → Type 0
-ShowsFlow kept flow = Shows kept.player flow.player × (numbers_of kept.numbers ≡ flow.numbers)
+ShowsFlow kept flow = ShowsPlayer kept.player flow.player × (kept_numbers kept.numbers ≡ flow.numbers)
 
 -- a place of the player, with a flow or none, stands for one of the definitions
 abbrev pub ShowsPlace : Option Kept → Option PlayedFlow → Type 0
@@ -32,13 +32,13 @@ ShowsRow kept row = AllZip ShowsPlace kept row
 abbrev pub FollowsPlace : Play → Option Kept → Option Kept → Given → Type 0
 FollowsPlace play old new answer =
     (place : Option PlayedFlow) → ShowsPlace old place →
-    ShowsPlace new (place_turn play place).state × (answer_of answer ≡ (place_turn play place).result)
+    ShowsPlace new (place_turn play place).state × (as_answer answer ≡ (place_turn play place).result)
 
 -- a step is played on a row of flows, with this answer
 abbrev pub FollowsRow : (List (Option PlayedFlow) → After Answer (List (Option PlayedFlow))) → List (Option Kept) → List (Option Kept) → Given → Type 0
 FollowsRow step old new answer =
     (row : List (Option PlayedFlow)) → ShowsRow old row →
-    ShowsRow new (step row).state × (answer_of answer ≡ (step row).result)
+    ShowsRow new (step row).state × (as_answer answer ≡ (step row).result)
 
 -- steps are played one after the other, with these answers
 abbrev pub FollowsSteps : List Action → List (Option Kept) → List Told → Type 0
@@ -56,8 +56,8 @@ AddsFlow named false old new before after =
     → after_refusals before (with_flow named.name (player_of named.flow) rest row) ≡ after_refusals after (only_steps [])
 
 -- the flows before the first step, or none if a refusal ends the script
-abbrev pub Begins : List NamedHead → List NotMade → List NotMade → Option (Vec (Option Kept) Global) → Type 0
-Begins flows before after (Some made) =
+abbrev pub BeginsScript : List NamedHead → List NotMade → List NotMade → Option (Vec (Option Kept) Global) → Type 0
+BeginsScript flows before after (Some made) =
     (row : List (Option PlayedFlow)) × ShowsRow made.items row
     × ((steps : List Action) → after_refusals before (answers_of flows steps) ≡ after_refusals after (only_steps (answers_from row steps)))
-Begins flows before after None = (steps : List Action) → after_refusals before (answers_of flows steps) ≡ after_refusals after (only_steps [])
+BeginsScript flows before after None = (steps : List Action) → after_refusals before (answers_of flows steps) ≡ after_refusals after (only_steps [])

@@ -1,6 +1,6 @@
--- The answers of a played script, as the definitions have them. Begin with `said`.
+-- The answers of a played script, as the definitions have them. Begin with `all_said`.
 use Rattle.std.specs.Prelude.{List, map, option_map, string_bytes}
-use Rattle.flow_script.specs.Answers.{Answer, answer_of}
+use Rattle.flow_script.specs.Answers.{Answer, as_answer}
 use Rattle.flow_script.specs.ScriptMeaning.{Answers, NotMade}
 use Rattle.flow_script.specs.declared.answer.Answers.{Answers as Kept}
 use Rattle.flow_script.specs.declared.answer.NotMade.{NotMade as KeptNotMade}
@@ -8,7 +8,7 @@ use Rattle.flow_script.specs.declared.answer.Told.{Told}
 
 -- a flow that was refused, as the definitions have it
 abbrev pub not_made_of : KeptNotMade → NotMade
-not_made_of flow = record { name = option_map string_bytes flow.name; answer = answer_of flow.answer }
+not_made_of flow = record { name = option_map string_bytes flow.name; answer = as_answer flow.answer }
 
 -- all flows that were refused
 abbrev pub all_not_made : List KeptNotMade → List NotMade
@@ -16,8 +16,8 @@ all_not_made flows = map not_made_of flows
 
 -- the answer of a step
 abbrev pub said_of : Told → Answer
-said_of told = answer_of told.answer
+said_of told = as_answer told.answer
 
 -- all answers of a script
-abbrev pub said : Kept → Answers
-said answers = record { not_made = all_not_made answers.not_made.items; steps = map said_of answers.steps.items }
+abbrev pub all_said : Kept → Answers
+all_said answers = record { not_made = all_not_made answers.not_made.items; steps = map said_of answers.steps.items }

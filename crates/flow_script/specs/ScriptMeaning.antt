@@ -1,5 +1,5 @@
 -- What a script means: its answers and their text, or the fault that refuses it.
--- Begin with `meaning`: the checks of Checks, then the steps over the documented flows, each with its answer.
+-- Begin with `script_meaning`: the checks of Checks, then the steps over the documented flows, each with its answer.
 use Rattle.std.specs.Prelude.{ℕ, ℤ, List, [], ◌∷◌, ◌++◌, slice_get, slice_set, Option, Some, None, option_and_then, Result, Ok, Err, codes}
 use Rattle.std.specs.Option.{option_map_or}
 use Rattle.flow_law.specs.SharedFlow.{config_fault, first_state}
@@ -23,7 +23,7 @@ use Rattle.flow_law.specs.SharingFlows.{shared_reply, state_reply}
 use Rattle.flow_law.specs.StateFlow.{first_state_flow, state_flow}
 use Rattle.script_format.specs.declared.script.FlowStep.{FlowStep}
 use Rattle.script_format.specs.declared.script.FlowStep.TheVariants as step
-use Rattle.flow_script.specs.FlowMeaning.{Turn, as_part, flow_turn, without_call}
+use Rattle.flow_script.specs.FlowMeaning.{Turn, as_part, flow_step_turn, without_call}
 use Rattle.flow_script.specs.Numbers.{Numbers, no_numbers}
 use Rattle.flow_script.specs.SharedMeaning.{plays_shared, subscribes_with}
 use Rattle.flow_script.specs.SharingMeaning.{SharingPlay, first_sharing, beside_emission, beside_initial, sharing_step}
@@ -42,11 +42,11 @@ pub data Player : Type 0 where
 
 -- a step on a shared flow
 abbrev pub shared_turn : FlowStep → SharedFlowState ℤ → Numbers → Turn (SharedFlowState ℤ)
-shared_turn = flow_turn shared_flow plays_shared
+shared_turn = flow_step_turn shared_flow plays_shared
 
 -- a step on a state flow
 abbrev pub state_turn : FlowStep → StateFlowState ℤ → Numbers → Turn (StateFlowState ℤ)
-state_turn = flow_turn state_flow plays_state
+state_turn = flow_step_turn state_flow plays_state
 
 -- a step on a flow of any kind
 abbrev pub player_turn : FlowStep → Player → Numbers → Turn Player
@@ -175,5 +175,5 @@ abbrev pub answered : List ℕ → Result Answers ScriptFault
 answered bytes = result_map (λ script. answers_of script.flows script.steps) (read_script bytes)
 
 -- the text that a script writes, or why it is refused
-abbrev pub meaning : List ℕ → Result (List ℕ) ScriptFault
-meaning bytes = result_map text_of (answered bytes)
+abbrev pub script_meaning : List ℕ → Result (List ℕ) ScriptFault
+script_meaning bytes = result_map text_of (answered bytes)

@@ -12,8 +12,8 @@ use Rattle.flow_script.specs.Answers.{shared_answer}
 use Rattle.flow_script.specs.Numbers.{Numbers, number_at}
 
 -- what the documented shared flow replies
-abbrev pub shared_reply : SharedCall ℤ → SharedFlowState ℤ → SharedReply ℤ
-shared_reply call s = (answer_to call s).reply
+abbrev pub documented_shared_reply : SharedCall ℤ → SharedFlowState ℤ → SharedReply ℤ
+documented_shared_reply call s = (answer_to call s).reply
 
 -- the calls of the steps of shared flows that not every kind of flow has
 abbrev pub shared_own_call : FlowStep → List (Option ℕ) → Option (SharedCall ℤ)
@@ -25,7 +25,7 @@ shared_own_call _ emissions = None
 
 -- how scripts play on a shared flow
 abbrev pub plays_shared : Played (SharedFlowState ℤ) (SharedCall ℤ) (SharedReply ℤ)
-plays_shared = record { try_emit = call.TryEmit; own_call = shared_own_call; reply_to = shared_reply; answer = shared_answer }
+plays_shared = record { try_emit = call.TryEmit; own_call = shared_own_call; reply_to = documented_shared_reply; answer = shared_answer }
 
 -- A subscription with first values of its own: its answer, and what its name stands for, are those of any subscription
 abbrev pub subscribes_with : List ℤ → SharedFlowState ℤ → Numbers → Turn (SharedFlowState ℤ)

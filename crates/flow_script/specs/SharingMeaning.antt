@@ -47,8 +47,8 @@ beside_sharing flow step p n = as_part (λ f. record p { both = with_hub p.both 
 -- `reply` says what the flow replies to the sharing
 module _ {F : Type 0} (reply : (c : HubCall ℤ) → F → After (HubAnswer c) F) where
   -- a turn at this moment
-  abbrev pub turn_at : ℕ → SharingPlay F → Numbers → Turn (SharingPlay F)
-  turn_at now p n =
+  abbrev pub turn_at_moment : ℕ → SharingPlay F → Numbers → Turn (SharingPlay F)
+  turn_at_moment now p n =
       let t = sharing.flow_turn reply p.started now p.seen p.state p.both in
       record {
         answer = turn_answer t.result.answer;
@@ -58,5 +58,5 @@ module _ {F : Type 0} (reply : (c : HubCall ℤ) → F → After (HubAnswer c) F
 
 -- A step on a sharing: a turn, or a step on the flow. `flow` says what a step does on the flow, `reply` what the flow replies to the sharing
 abbrev pub sharing_step : {F : Type 0} → (FlowStep → F → Numbers → Turn F) → ((c : HubCall ℤ) → F → After (HubAnswer c) F) → FlowStep → SharingPlay F → Numbers → Turn (SharingPlay F)
-sharing_step flow reply (step.Turn now) p n = turn_at reply now p n
+sharing_step flow reply (step.Turn now) p n = turn_at_moment reply now p n
 sharing_step flow reply other p n = beside_sharing flow other p n

@@ -9,7 +9,7 @@ use Rattle.flow_law.specs.Steps.{After, Takes}
 use Rattle.flow_cold.specs.declared.script_chain.ScriptChain.{ScriptChain}
 use Rattle.flow_cold.specs.ScriptChain.{node_whole, node_rest}
 use Rattle.flow_turns.specs.declared.sharing.Sharing.{Sharing}
-use Rattle.flow_turns.specs.SharingViews.{state_of, chain_and_hub, HasObserved}
+use Rattle.flow_turns.specs.SharingViews.{sharing_state, chain_and_hub, HasObserved}
 use Rattle.flow_script.specs.SharingMeaning.{SharingPlay}
 
 -- the chain and the hub of a sharing, as contracts see them
@@ -21,7 +21,7 @@ module _ {H F : Type 0} (Stands : H → F → Type 0) where
   -- the sharing stands for this one of the definitions
   pub record ShowsSharing (sharing : Sharing ScriptChain H ℤ) (p : SharingPlay F) : Type 0 where
     pub observed : HasObserved p.started sharing p.seen
-    pub state : state_of sharing ≡ p.state
+    pub state : sharing_state sharing ≡ p.state
     pub both : with_hub (both_of sharing) p.both.hub ≡ p.both
     pub flow : Stands sharing.hub p.both.hub
 

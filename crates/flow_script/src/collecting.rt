@@ -1,7 +1,7 @@
 //! Collecting a chain.
 ghost use Rattle.std.specs.Prelude.{◌≡◌, Ok, Err, IfOk, IfErr};
 ghost use Rattle.script_chain_format.specs.Chains.{build_of, built_of};
-ghost use Rattle.flow_script.specs.Answers.{answer_of, collection_answer};
+ghost use Rattle.flow_script.specs.Answers.{as_answer, collection_answer};
 
 use crate::answer::Answer;
 use crate::memory::ends_for_memory;
@@ -12,7 +12,7 @@ use std::alloc::Global;
 /// Collects a chain. A chain that runs out of memory ends the script.
 fn collected(alloc: Global, mut chain: ScriptChain) -> Result<Answer, ScriptFault>
     ensures answer { IfOk result (λ answer.
-        answer_of answer ≡ collection_answer (Ok (built_of chain))) }
+        as_answer answer ≡ collection_answer (Ok (built_of chain))) }
     ensures fault { IfErr result (λ fault. fault ≡ ScriptFault.OutOfMemory) }
 {
     let Ok(collected) = collect_all(alloc, &mut chain) else {
@@ -27,7 +27,7 @@ fn collected(alloc: Global, mut chain: ScriptChain) -> Result<Answer, ScriptFaul
 
 /// Collects a chain, or answers why it could not be built.
 pub fn collect(alloc: Global, build: Build) -> Result<Answer, ScriptFault>
-    ensures answer { IfOk result (λ answer. answer_of answer ≡ collection_answer (build_of build)) }
+    ensures answer { IfOk result (λ answer. as_answer answer ≡ collection_answer (build_of build)) }
     ensures fault { IfErr result (λ fault. fault ≡ ScriptFault.OutOfMemory) }
 {
     match build {

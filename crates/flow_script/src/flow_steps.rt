@@ -1,9 +1,9 @@
 //! The steps that every kind of flow has, each with its answer, and the answer of a step that makes no call.
 ghost use Rattle.std.specs.Prelude.{◌≡◌, IfOk, IfErr};
-ghost use Rattle.flow_script.specs.Answers.{answer_of};
-ghost use Rattle.flow_script.specs.FlowMeaning.{flow_turn};
+ghost use Rattle.flow_script.specs.Answers.{as_answer};
+ghost use Rattle.flow_script.specs.FlowMeaning.{flow_step_turn};
 ghost use Rattle.flow_script.specs.FlowMeaning as meaning;
-ghost use Rattle.flow_script.specs.Shown.{Follows};
+ghost use Rattle.flow_script.specs.Shown.{FollowsStep};
 
 use crate::answer::Answer;
 use crate::numbers::Numbers;
@@ -14,7 +14,7 @@ use script_format::{FlowStep, ScriptFault};
 
 /// Returns the answer of a step that makes no call.
 pub fn answer_without_call(step: FlowStep) -> Answer
-    ensures { answer_of result ≡ meaning.answer_without_call step }
+    ensures { as_answer result ≡ meaning.answer_without_call step }
 {
     match step {
         FlowStep::Poll(_) => Answer::Waits(false),
@@ -30,7 +30,7 @@ fn try_emit<F: ScriptCore>(
     value: i64,
 ) -> Result<Answer, ScriptFault>
     ensures plays { IfOk result
-        (Follows F.stands_as (flow_turn F.kind F.played (FlowStep.TryEmit value))
+        (FollowsStep F.stands_as (flow_step_turn F.kind F.played (FlowStep.TryEmit value))
         core.old core.new numbers.now numbers.now) }
     ensures fault { IfErr result (λ fault. fault ≡ ScriptFault.OutOfMemory) }
 {
@@ -42,7 +42,7 @@ fn try_emit<F: ScriptCore>(
 }
 
 fn subscribe<F: ScriptCore>(core: &mut F, numbers: &mut Numbers) -> Result<Answer, ScriptFault>
-    ensures plays { IfOk result (Follows F.stands_as (flow_turn F.kind F.played FlowStep.Subscribe)
+    ensures plays { IfOk result (FollowsStep F.stands_as (flow_step_turn F.kind F.played FlowStep.Subscribe)
         core.old core.new numbers.old numbers.new) }
     ensures fault { IfErr result (λ fault. fault ≡ ScriptFault.OutOfMemory) }
 {
@@ -61,7 +61,7 @@ fn subscribe<F: ScriptCore>(core: &mut F, numbers: &mut Numbers) -> Result<Answe
 
 fn next<F: ScriptCore>(core: &mut F, numbers: &Numbers, place: usize) -> Result<Answer, ScriptFault>
     ensures plays { IfOk result
-        (Follows F.stands_as (flow_turn F.kind F.played (FlowStep.Next place))
+        (FollowsStep F.stands_as (flow_step_turn F.kind F.played (FlowStep.Next place))
         core.old core.new numbers.now numbers.now) }
     ensures fault { IfErr result (λ fault. fault ≡ ScriptFault.OutOfMemory) }
 {
@@ -76,7 +76,7 @@ fn next<F: ScriptCore>(core: &mut F, numbers: &Numbers, place: usize) -> Result<
 }
 
 fn unsubscribe<F: ScriptCore>(core: &mut F, numbers: &Numbers, place: usize) -> Answer
-    ensures { Follows F.stands_as (flow_turn F.kind F.played (FlowStep.Unsubscribe place))
+    ensures { FollowsStep F.stands_as (flow_step_turn F.kind F.played (FlowStep.Unsubscribe place))
         core.old core.new numbers.now numbers.now result }
 {
     F::law_answers();
@@ -87,7 +87,7 @@ fn unsubscribe<F: ScriptCore>(core: &mut F, numbers: &Numbers, place: usize) -> 
 }
 
 fn cache<F: ScriptCore>(core: &F, numbers: &Numbers) -> Result<Answer, ScriptFault>
-    ensures plays { IfOk result (Follows F.stands_as (flow_turn F.kind F.played FlowStep.Cache)
+    ensures plays { IfOk result (FollowsStep F.stands_as (flow_step_turn F.kind F.played FlowStep.Cache)
         core.now core.now numbers.now numbers.now) }
     ensures fault { IfErr result (λ fault. fault ≡ ScriptFault.OutOfMemory) }
 {
@@ -99,7 +99,7 @@ fn cache<F: ScriptCore>(core: &F, numbers: &Numbers) -> Result<Answer, ScriptFau
 }
 
 fn count<F: ScriptCore>(core: &F, numbers: &Numbers) -> Result<Answer, ScriptFault>
-    ensures plays { IfOk result (Follows F.stands_as (flow_turn F.kind F.played FlowStep.Count)
+    ensures plays { IfOk result (FollowsStep F.stands_as (flow_step_turn F.kind F.played FlowStep.Count)
         core.now core.now numbers.now numbers.now) }
     ensures fault { IfErr result (λ fault. fault ≡ ScriptFault.OutOfMemory) }
 {
@@ -113,7 +113,7 @@ pub fn flow_step<F: ScriptCore>(
     numbers: &mut Numbers,
     step: FlowStep,
 ) -> Result<Answer, ScriptFault>
-    ensures plays { IfOk result (Follows F.stands_as (flow_turn F.kind F.played step)
+    ensures plays { IfOk result (FollowsStep F.stands_as (flow_step_turn F.kind F.played step)
         core.old core.new numbers.old numbers.new) }
     ensures fault { IfErr result (λ fault. fault ≡ ScriptFault.OutOfMemory) }
 {

@@ -4,9 +4,9 @@
 //! that is refused writes nothing. The refusal says why, and for a fault of a step or of the head (step 0), which one.
 //!
 //! # What `play` promises
-//! `Plays` relates what was written to the `meaning` of the bytes that the reader had. At `Ok` the text that they mean
-//! was written; at a refusal nothing was, and the fault is that of the meaning; after a write that failed, a first part
-//! of the text was.
+//! `Plays` relates what was written to the `script_meaning` of the bytes that the reader had. At `Ok` the text that they
+//! mean was written; at a refusal nothing was, and the fault is that of the meaning; after a write that failed, a first
+//! part of the text was.
 //!
 //! # Playing
 //! A `Player` is what the steps on one flow are played on: `flow_steps` has the steps that every kind of flow has,

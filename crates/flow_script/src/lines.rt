@@ -15,7 +15,7 @@ pub fn add_line(text: &mut String, line: &str) -> Result<(), AllocError>
 }
 
 fn add_more_items(text: &mut String, values: &[i64]) -> Result<(), AllocError>
-    ensures { OnOk result (lines.Adds (lines.more_items values.now) text.old text.new) }
+    ensures { OnOk result (lines.AddsText (lines.more_items values.now) text.old text.new) }
 {
     for value in values {
         write!(text, ", {value}")?;
@@ -25,7 +25,7 @@ fn add_more_items(text: &mut String, values: &[i64]) -> Result<(), AllocError>
 
 /// Adds a list, without ending its line.
 pub fn add_items(text: &mut String, values: &[i64]) -> Result<(), AllocError>
-    ensures { OnOk result (lines.Adds (lines.list_text values.now) text.old text.new) }
+    ensures { OnOk result (lines.AddsText (lines.list_text values.now) text.old text.new) }
 {
     let Some((first, more)) = values.split_first() else {
         return text.push_str("[]");

@@ -2,7 +2,7 @@
 ghost use Rattle.std.specs.Prelude.{◌≡◌, OnOk, IfErr, option_map};
 ghost use Rattle.flow_core.specs.SubId.{number_of};
 ghost use Rattle.flow_script.specs.Numbers.{no_numbers, number_at, with_emission, with_subscriber};
-ghost use Rattle.flow_script.specs.Shown.{numbers_of};
+ghost use Rattle.flow_script.specs.Shown.{kept_numbers};
 
 use flow_core::SubId;
 use script_format::ScriptFault;
@@ -19,7 +19,7 @@ pub struct Numbers {
 
 impl Numbers {
     pub fn new(alloc: Global) -> Self
-        ensures { numbers_of result ≡ no_numbers }
+        ensures { kept_numbers result ≡ no_numbers }
     {
         Numbers {
             emissions: Vec::new(alloc),
@@ -28,13 +28,13 @@ impl Numbers {
     }
 
     pub fn emission_at(&self, place: usize) -> Option<u64>
-        ensures { result ≡ number_at place (numbers_of self.now).emissions }
+        ensures { result ≡ number_at place (kept_numbers self.now).emissions }
     {
         *self.emissions.get(place)?
     }
 
     pub fn subscriber_at(&self, place: usize) -> Option<SubId>
-        ensures { option_map number_of result ≡ number_at place (numbers_of self.now).subscribers }
+        ensures { option_map number_of result ≡ number_at place (kept_numbers self.now).subscribers }
     {
         *self.subscribers.get(place)?
     }
@@ -47,7 +47,7 @@ impl Numbers {
     /// Adds the next name of an emission, with its number if the emission waits.
     pub fn add_emission(&mut self, number: Option<u64>) -> Result<(), ScriptFault>
         ensures added { OnOk result
-            (numbers_of self.new ≡ with_emission number (numbers_of self.old)) }
+            (kept_numbers self.new ≡ with_emission number (kept_numbers self.old)) }
         ensures fault { IfErr result (λ fault. fault ≡ ScriptFault.OutOfMemory) }
     {
         self.emissions
@@ -58,7 +58,7 @@ impl Numbers {
     /// Adds the next name of a subscriber, with its subscription unless that was refused.
     pub fn add_subscriber(&mut self, id: Option<SubId>) -> Result<(), ScriptFault>
         ensures added { OnOk result (
-            numbers_of self.new ≡ with_subscriber (option_map number_of id) (numbers_of self.old)) }
+            kept_numbers self.new ≡ with_subscriber (option_map number_of id) (kept_numbers self.old)) }
         ensures fault { IfErr result (λ fault. fault ≡ ScriptFault.OutOfMemory) }
     {
         self.subscribers

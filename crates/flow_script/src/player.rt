@@ -4,8 +4,8 @@ ghost use Rattle.script_format.specs.Actions.{head_of_flow};
 ghost use Rattle.script_chain_format.specs.Chains.{build_of};
 ghost use Rattle.script_format.specs.Heads.{shared_chain, state_chain};
 ghost use Rattle.flow_script.specs.ScriptMeaning as meaning;
-ghost use Rattle.flow_script.specs.Players.{Makes, MakesSharing, Rewinds, Shows};
-ghost use Rattle.flow_script.specs.Shown.{Follows};
+ghost use Rattle.flow_script.specs.Players.{MakesPlayer, MakesSharing, Rewinds, ShowsPlayer};
+ghost use Rattle.flow_script.specs.Shown.{FollowsStep};
 
 use crate::answer::Answer;
 use crate::flow_steps::{answer_without_call, flow_step};
@@ -64,7 +64,7 @@ impl Player {
 
     /// Returns a flow before its first step, or why it was not made.
     pub fn new(alloc: Global, flow: ScriptFlow) -> Result<Self, Refusal>
-        ensures { Makes (head_of_flow flow) result }
+        ensures { MakesPlayer (head_of_flow flow) result }
     {
         match flow {
             ScriptFlow::Shared(config) => Ok(Player::Shared(SharedCore::new(alloc, config)?)),
@@ -102,7 +102,7 @@ impl Player {
         numbers: &mut Numbers,
         first: Vec<i64>,
     ) -> Result<Answer, ScriptFault>
-        ensures plays { IfOk result (Follows Shows (meaning.player_subscribes_with first.items)
+        ensures plays { IfOk result (FollowsStep ShowsPlayer (meaning.player_subscribes_with first.items)
             self.old self.new numbers.old numbers.new) }
         ensures fault { IfErr result (λ fault. fault ≡ ScriptFault.OutOfMemory) }
     {
@@ -118,7 +118,7 @@ impl Player {
         numbers: &mut Numbers,
         step: FlowStep,
     ) -> Result<Answer, ScriptFault>
-        ensures plays { IfOk result (Follows Shows (meaning.player_turn step)
+        ensures plays { IfOk result (FollowsStep ShowsPlayer (meaning.player_turn step)
             self.old self.new numbers.old numbers.new) }
         ensures fault { IfErr result (λ fault. fault ≡ ScriptFault.OutOfMemory) }
     {

@@ -2,10 +2,10 @@
 ghost use Rattle.std.specs.Prelude.{◌≡◌, false, IfOk, IfErr};
 ghost use Rattle.script_chain_format.specs.Results.{Gives};
 ghost use Rattle.script_format.specs.Actions.{actions_of, heads_of};
-ghost use Rattle.flow_script.specs.ScriptMeaning.{answered, answers_of, meaning};
+ghost use Rattle.flow_script.specs.ScriptMeaning.{answered, answers_of, script_meaning};
 ghost use Rattle.flow_script.specs.Playing.{Plays, TakesWithin, answers_result, text_result, is_read_failed, is_write_failed};
 ghost use Rattle.flow_script.specs.Rows.{FollowsSteps};
-ghost use Rattle.flow_script.specs.Said.{said};
+ghost use Rattle.flow_script.specs.Said.{all_said};
 ghost use Rattle.flow_script.specs.Watching.{inner_of, has_failed};
 
 use crate::answer::{Answers, Told};
@@ -38,7 +38,7 @@ fn play_steps(
 /// Plays a script that was read: makes its flows, and then plays its steps on them.
 pub fn played(alloc: Global, script: Script) -> Result<Answers, ScriptFault>
     ensures answers { IfOk result (λ answers.
-        said answers ≡ answers_of (heads_of script.flows.items) (actions_of script.steps.items)) }
+        all_said answers ≡ answers_of (heads_of script.flows.items) (actions_of script.steps.items)) }
     ensures fault { IfErr result (λ fault. fault ≡ ScriptFault.OutOfMemory) }
 {
     let Script { flows, steps } = script;
@@ -75,7 +75,7 @@ pub fn answers_of(alloc: Global, bytes: &[u8]) -> Result<Answers, ScriptFault>
 
 /// Returns the lines that the script of these bytes writes, or why the script is refused.
 pub fn lines_of(alloc: Global, bytes: &[u8]) -> Result<String, ScriptFault>
-    ensures { Gives (meaning bytes.now) (text_result result) }
+    ensures { Gives (script_meaning bytes.now) (text_result result) }
 {
     let answers = match answers_of(alloc, bytes) {
         Ok(answers) => answers,

@@ -1,6 +1,6 @@
 //! Why calls are refused, and why a flow of a script was not made.
 ghost use Rattle.std.specs.Prelude.{◌≡◌, IfOk, IfErr};
-ghost use Rattle.flow_script.specs.Refusals.{Answers, AnswersRefusal, AnswersTurn};
+ghost use Rattle.flow_script.specs.Refusals.{AnswersNotMade, AnswersRefusal, AnswersTurn};
 
 use crate::answer::Answer;
 use crate::memory::{is_flow_memory, is_memory};
@@ -62,7 +62,7 @@ pub fn turn_refusal(fault: ShareFault) -> Result<Answer, ScriptFault>
 impl Refusal {
     /// Returns the answer of a flow that was not made. Out of memory has no answer: it ends the script.
     pub fn answer(self) -> Result<Answer, ScriptFault>
-        ensures answer { IfOk result (Answers self) }
+        ensures answer { IfOk result (AnswersNotMade self) }
         ensures memory { IfErr result (λ fault. fault ≡ ScriptFault.OutOfMemory) }
     {
         match self {

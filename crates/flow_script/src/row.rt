@@ -3,9 +3,9 @@ ghost use Rattle.std.specs.Prelude.{◌≡◌, ◌++◌, [], ◌∷◌, List, Op
 ghost use Rattle.script_format.specs.Actions.{action_of, heads_of, named_head};
 ghost use Rattle.script_format.specs.Heads.{NamedHead};
 ghost use Rattle.flow_script.specs.declared.row.PlayedFlow.{PlayedFlow as Kept};
-ghost use Rattle.flow_script.specs.Players.{Makes, Shows};
+ghost use Rattle.flow_script.specs.Players.{MakesPlayer, ShowsPlayer};
 ghost use Rattle.flow_script.specs.Refusals.{IsTold, refused_answer};
-ghost use Rattle.flow_script.specs.Rows.{AddsFlow, Begins, FollowsPlace, FollowsRow, ShowsFlow};
+ghost use Rattle.flow_script.specs.Rows.{AddsFlow, BeginsScript, FollowsPlace, FollowsRow, ShowsFlow};
 ghost use Rattle.flow_script.specs.Said.{all_not_made};
 ghost use Rattle.flow_script.specs.ScriptMeaning as meaning;
 
@@ -27,7 +27,7 @@ pub struct PlayedFlow {
 impl PlayedFlow {
     /// Returns a flow before its first step.
     fn new(alloc: Global, player: Player) -> Self
-        ensures { (p : meaning.Player) → Shows player p →
+        ensures { (p : meaning.Player) → ShowsPlayer player p →
             ShowsFlow result (meaning.first_played p) }
     {
         PlayedFlow {
@@ -86,7 +86,7 @@ fn add_made(
     player: Player,
 ) -> Result<bool, ScriptFault>
     ensures adds { (named : NamedHead) (refused : List meaning.NotMade) →
-        Makes named.flow (Ok player)
+        MakesPlayer named.flow (Ok player)
         → IfOk result (λ goes_on.
         AddsFlow named goes_on row.old.items row.new.items refused refused) }
     ensures fault { IfErr result (λ fault. fault ≡ ScriptFault.OutOfMemory) }
@@ -103,7 +103,7 @@ fn add_not_made(
     refused: Refusal,
 ) -> Result<bool, ScriptFault>
     ensures adds { (named : NamedHead) → named.name ≡ Some (string_bytes name)
-        → Makes named.flow (Err refused)
+        → MakesPlayer named.flow (Err refused)
         → IfOk result (λ goes_on. AddsFlow named goes_on row.old.items row.new.items
         (all_not_made not_made.old.items) (all_not_made not_made.new.items)) }
     ensures fault { IfErr result (λ fault. fault ≡ ScriptFault.OutOfMemory) }
@@ -116,7 +116,7 @@ fn add_not_made(
 /// Adds a flow without a name that was not made, and returns that the script ends.
 fn end_not_made(not_made: &mut Vec<NotMade>, refused: Refusal) -> Result<bool, ScriptFault>
     ensures ends { (named : NamedHead) (row : List (Option Kept)) → named.name ≡ None
-        → Makes named.flow (Err refused)
+        → MakesPlayer named.flow (Err refused)
         → IfOk result (λ goes_on. AddsFlow named goes_on row row
         (all_not_made not_made.old.items) (all_not_made not_made.new.items)) }
     ensures fault { IfErr result (λ fault. fault ≡ ScriptFault.OutOfMemory) }
@@ -153,7 +153,7 @@ pub fn begin(
     not_made: &mut Vec<NotMade>,
     flows: Vec<NamedFlow>,
 ) -> Result<Option<Vec<Option<PlayedFlow>>>, ScriptFault>
-    ensures begins { IfOk result (Begins (heads_of flows.items)
+    ensures begins { IfOk result (BeginsScript (heads_of flows.items)
         (all_not_made not_made.old.items) (all_not_made not_made.new.items)) }
     ensures fault { IfErr result (λ fault. fault ≡ ScriptFault.OutOfMemory) }
 {

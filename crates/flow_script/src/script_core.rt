@@ -3,7 +3,7 @@ ghost use Rattle.std.specs.Prelude.{◌≡◌, IfOk, IfErr};
 ghost use Rattle.flow_law.specs.History.{replied};
 ghost use Rattle.flow_law.specs.Standing.{Documents};
 ghost use Rattle.flow_script.specs.FlowMeaning.{Played, HasAnswers, own_turn};
-ghost use Rattle.flow_script.specs.Shown.{Follows};
+ghost use Rattle.flow_script.specs.Shown.{FollowsStep};
 
 use crate::answer::Answer;
 use crate::numbers::Numbers;
@@ -26,7 +26,7 @@ pub trait ScriptCore: FlowCore<Item = i64> + SubscriberCalls {
 
     /// Plays a step that not every kind of flow has.
     fn own_step(&mut self, numbers: &mut Numbers, step: FlowStep) -> Result<Answer, ScriptFault>
-        ensures plays { IfOk result (Follows Self.stands_as (own_turn Self.kind played step)
+        ensures plays { IfOk result (FollowsStep Self.stands_as (own_turn Self.kind played step)
             self.old self.new numbers.old numbers.new) }
         ensures fault { IfErr result (λ fault. fault ≡ ScriptFault.OutOfMemory) };
 

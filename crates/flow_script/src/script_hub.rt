@@ -5,8 +5,8 @@ ghost use Rattle.flow_law.specs.SharingFlows.{shared_reply, state_reply};
 ghost use Rattle.flow_law.specs.Steps.{After};
 ghost use Rattle.script_format.specs.declared.script.FlowStep.{FlowStep};
 ghost use Rattle.flow_script.specs.Numbers.{Numbers};
-ghost use Rattle.flow_script.specs.FlowMeaning.{Turn, flow_turn};
-ghost use Rattle.flow_script.specs.Shown.{Follows};
+ghost use Rattle.flow_script.specs.FlowMeaning.{Turn, flow_step_turn};
+ghost use Rattle.flow_script.specs.Shown.{FollowsStep};
 ghost use Rattle.flow_script.specs.Sharings.{TurnsAsDocumented};
 
 use crate::answer::Answer;
@@ -33,7 +33,7 @@ pub trait ScriptHub: Hub<Item = i64> {
 
     /// Plays a step on the hub's flow.
     fn step(&mut self, numbers: &mut Numbers, step: FlowStep) -> Result<Answer, ScriptFault>
-        ensures plays { IfOk result (Follows stands (flow step)
+        ensures plays { IfOk result (FollowsStep stands (flow step)
             self.old self.new numbers.old numbers.new) }
         ensures fault { IfErr result (λ fault. fault ≡ ScriptFault.OutOfMemory) };
 
@@ -46,13 +46,13 @@ impl ScriptHub for CoreHub<i64> {
     type State = EmittingFlow<i64>;
 
     ghost use Rattle.flow_law.specs.SharedHistory.{shared_flow};
-    ghost use Rattle.flow_turns.specs.OverCores.{Emits};
+    ghost use Rattle.flow_turns.specs.OverCores.{StandsForEmitting};
     ghost use Rattle.flow_script.specs.SharedMeaning.{plays_shared};
     ghost use Rattle.flow_script.specs.SharingMeaning.{beside_emission};
 
-    ghost stands = { Emits };
+    ghost stands = { StandsForEmitting };
 
-    ghost flow = { beside_emission (flow_turn shared_flow plays_shared) };
+    ghost flow = { beside_emission (flow_step_turn shared_flow plays_shared) };
 
     ghost reply = { shared_reply };
 
@@ -75,7 +75,7 @@ impl ScriptHub for StateHub<i64> {
 
     ghost stands = { λ hub s. state_flow_of hub ≡ s };
 
-    ghost flow = { beside_initial (flow_turn state_flow plays_state) };
+    ghost flow = { beside_initial (flow_step_turn state_flow plays_state) };
 
     ghost reply = { state_reply };
 

@@ -1,9 +1,9 @@
 //! The text of a script's answers: a line for each answer.
 ghost use Rattle.std.specs.Prelude.{◌≡◌, ◌++◌, OnOk, IfOk, codes, map, string_bytes};
-ghost use Rattle.flow_script.specs.Answers.{answer_of};
+ghost use Rattle.flow_script.specs.Answers.{as_answer};
 ghost use Rattle.flow_script.specs.Lines as lines;
 ghost use Rattle.flow_script.specs.ScriptMeaning as meaning;
-ghost use Rattle.flow_script.specs.Said.{not_made_of, said, said_of};
+ghost use Rattle.flow_script.specs.Said.{not_made_of, all_said, said_of};
 
 use crate::answer::{Answer, Answers, NotMade, Told};
 use crate::chain_lines::{add_collected, add_with_chain_fault};
@@ -16,7 +16,7 @@ use std::alloc::{AllocError, Global};
 /// Adds the line of an answer.
 pub fn add_answer(text: &mut String, answer: &Answer) -> Result<(), AllocError>
     ensures { OnOk result
-        (lines.AddsLine (lines.line_of (answer_of answer.now)) text.old text.new) }
+        (lines.AddsLine (lines.line_of (as_answer answer.now)) text.old text.new) }
 {
     match answer {
         Answer::Tested(test) => add_test(text, *test),
@@ -41,7 +41,7 @@ pub fn add_answer(text: &mut String, answer: &Answer) -> Result<(), AllocError>
 
 /// Adds the name of a flow, which precedes the answer of the flow.
 fn add_name(text: &mut String, name: &str) -> Result<(), AllocError>
-    ensures { OnOk result (lines.Adds (name.now ++ codes " ") text.old text.new) }
+    ensures { OnOk result (lines.AddsText (name.now ++ codes " ") text.old text.new) }
 {
     text.push_str(name)?;
     text.push(' ')
@@ -60,7 +60,7 @@ fn add_not_made(text: &mut String, flow: &NotMade) -> Result<(), AllocError>
 
 fn add_all_not_made(text: &mut String, flows: &[NotMade]) -> Result<(), AllocError>
     ensures { OnOk result
-        (lines.Adds (meaning.not_made_lines (map not_made_of flows.now)) text.old text.new) }
+        (lines.AddsText (meaning.not_made_lines (map not_made_of flows.now)) text.old text.new) }
 {
     for flow in flows {
         add_not_made(text, flow)?;
@@ -69,7 +69,7 @@ fn add_all_not_made(text: &mut String, flows: &[NotMade]) -> Result<(), AllocErr
 }
 
 fn add_steps(text: &mut String, steps: &[Told]) -> Result<(), AllocError>
-    ensures { OnOk result (lines.Adds (lines.lines_of (map said_of steps.now)) text.old text.new) }
+    ensures { OnOk result (lines.AddsText (lines.lines_of (map said_of steps.now)) text.old text.new) }
 {
     for told in steps {
         add_answer(text, &told.answer)?;
@@ -79,7 +79,7 @@ fn add_steps(text: &mut String, steps: &[Told]) -> Result<(), AllocError>
 
 /// Returns the text of a script's answers: a line for each answer, ended by a line feed.
 pub fn text_of(alloc: Global, answers: &Answers) -> Result<String, AllocError>
-    ensures { IfOk result (λ text. string_bytes text ≡ meaning.text_of (said answers.now)) }
+    ensures { IfOk result (λ text. string_bytes text ≡ meaning.text_of (all_said answers.now)) }
 {
     let mut text = String::new(alloc);
     add_all_not_made(&mut text, answers.not_made.as_slice())?;

@@ -4,7 +4,7 @@ ghost use Rattle.flow_law.specs.Standing.{StandsFor};
 ghost use Rattle.flow_law.specs.SharedHistory.{shared_flow};
 ghost use Rattle.flow_script.specs.FlowMeaning.{own_turn};
 ghost use Rattle.flow_script.specs.SharedMeaning.{plays_shared, subscribes_with};
-ghost use Rattle.flow_script.specs.Shown.{Follows};
+ghost use Rattle.flow_script.specs.Shown.{FollowsStep};
 
 use crate::answer::Answer;
 use crate::flow_steps::answer_without_call;
@@ -21,7 +21,7 @@ fn emit(
     value: i64,
 ) -> Result<Answer, ScriptFault>
     ensures plays { IfOk result
-        (Follows StandsFor (own_turn shared_flow plays_shared (FlowStep.Emit value))
+        (FollowsStep StandsFor (own_turn shared_flow plays_shared (FlowStep.Emit value))
         core.old core.new numbers.old numbers.new) }
     ensures fault { IfErr result (λ fault. fault ≡ ScriptFault.OutOfMemory) }
 {
@@ -43,7 +43,7 @@ fn emit(
 
 fn poll(core: &SharedCore<i64>, numbers: &Numbers, place: usize) -> Result<Answer, ScriptFault>
     ensures plays { IfOk result
-        (Follows StandsFor (own_turn shared_flow plays_shared (FlowStep.Poll place))
+        (FollowsStep StandsFor (own_turn shared_flow plays_shared (FlowStep.Poll place))
         core.now core.now numbers.now numbers.now) }
     ensures fault { IfErr result (λ fault. fault ≡ ScriptFault.OutOfMemory) }
 {
@@ -59,7 +59,7 @@ fn cancel(
     place: usize,
 ) -> Result<Answer, ScriptFault>
     ensures plays { IfOk result
-        (Follows StandsFor (own_turn shared_flow plays_shared (FlowStep.Cancel place))
+        (FollowsStep StandsFor (own_turn shared_flow plays_shared (FlowStep.Cancel place))
         core.old core.new numbers.now numbers.now) }
     ensures fault { IfErr result (λ fault. fault ≡ ScriptFault.OutOfMemory) }
 {
@@ -71,7 +71,7 @@ fn cancel(
 
 fn reset(core: &mut SharedCore<i64>, numbers: &Numbers) -> Result<Answer, ScriptFault>
     ensures plays { IfOk result
-        (Follows StandsFor (own_turn shared_flow plays_shared FlowStep.Reset)
+        (FollowsStep StandsFor (own_turn shared_flow plays_shared FlowStep.Reset)
         core.old core.new numbers.now numbers.now) }
     ensures fault { IfErr result (λ fault. fault ≡ ScriptFault.OutOfMemory) }
 {
@@ -85,7 +85,7 @@ pub fn subscribe_with(
     numbers: &mut Numbers,
     first: Vec<i64>,
 ) -> Result<Answer, ScriptFault>
-    ensures plays { IfOk result (Follows StandsFor (subscribes_with first.items)
+    ensures plays { IfOk result (FollowsStep StandsFor (subscribes_with first.items)
         core.old core.new numbers.old numbers.new) }
     ensures fault { IfErr result (λ fault. fault ≡ ScriptFault.OutOfMemory) }
 {

@@ -1,7 +1,7 @@
 //! The steps of a script on a shared chain, for both kinds of flow.
 ghost use Rattle.std.specs.Prelude.{◌≡◌, IfOk, IfErr};
-ghost use Rattle.flow_script.specs.SharingMeaning.{beside_sharing, turn_at, sharing_step as documented_step};
-ghost use Rattle.flow_script.specs.Shown.{Follows};
+ghost use Rattle.flow_script.specs.SharingMeaning.{beside_sharing, turn_at_moment, sharing_step as documented_step};
+ghost use Rattle.flow_script.specs.Shown.{FollowsStep};
 ghost use Rattle.flow_script.specs.Sharings.{ShowsSharing};
 
 use crate::answer::Answer;
@@ -17,7 +17,7 @@ fn turn<H: ScriptHub>(
     numbers: &Numbers,
     now: u64,
 ) -> Result<Answer, ScriptFault>
-    ensures plays { IfOk result (Follows (ShowsSharing H.stands) (turn_at H.reply now)
+    ensures plays { IfOk result (FollowsStep (ShowsSharing H.stands) (turn_at_moment H.reply now)
         sharing.old sharing.new numbers.now numbers.now) }
     ensures fault { IfErr result (λ fault. fault ≡ ScriptFault.OutOfMemory) }
 {
@@ -34,7 +34,7 @@ fn step_on_flow<H: ScriptHub>(
     numbers: &mut Numbers,
     step: FlowStep,
 ) -> Result<Answer, ScriptFault>
-    ensures plays { IfOk result (Follows (ShowsSharing H.stands) (beside_sharing H.flow step)
+    ensures plays { IfOk result (FollowsStep (ShowsSharing H.stands) (beside_sharing H.flow step)
         sharing.old sharing.new numbers.old numbers.new) }
     ensures fault { IfErr result (λ fault. fault ≡ ScriptFault.OutOfMemory) }
 {
@@ -48,7 +48,7 @@ pub fn sharing_step<H: ScriptHub>(
     step: FlowStep,
 ) -> Result<Answer, ScriptFault>
     ensures plays { IfOk result
-        (Follows (ShowsSharing H.stands) (documented_step H.flow H.reply step)
+        (FollowsStep (ShowsSharing H.stands) (documented_step H.flow H.reply step)
         sharing.old sharing.new numbers.old numbers.new) }
     ensures fault { IfErr result (λ fault. fault ≡ ScriptFault.OutOfMemory) }
 {

@@ -3,7 +3,7 @@ ghost use Rattle.std.specs.Prelude.{◌≡◌, IfOk, IfErr};
 ghost use Rattle.flow_law.specs.StateFlow.{state_flow};
 ghost use Rattle.flow_script.specs.FlowMeaning.{own_turn};
 ghost use Rattle.flow_script.specs.StateMeaning.{IsState, plays_state};
-ghost use Rattle.flow_script.specs.Shown.{Follows};
+ghost use Rattle.flow_script.specs.Shown.{FollowsStep};
 
 use crate::answer::Answer;
 use crate::flow_steps::answer_without_call;
@@ -15,7 +15,7 @@ use flow_law::FlowFault;
 use script_format::{FlowStep, ScriptFault};
 
 fn value(core: &StateCore<i64>, numbers: &Numbers) -> Result<Answer, ScriptFault>
-    ensures plays { IfOk result (Follows IsState (own_turn state_flow plays_state FlowStep.Value)
+    ensures plays { IfOk result (FollowsStep IsState (own_turn state_flow plays_state FlowStep.Value)
         core.now core.now numbers.now numbers.now) }
     ensures fault { IfErr result (λ fault. fault ≡ ScriptFault.OutOfMemory) }
 {
@@ -27,7 +27,7 @@ fn value(core: &StateCore<i64>, numbers: &Numbers) -> Result<Answer, ScriptFault
 
 fn set(core: &mut StateCore<i64>, numbers: &Numbers, value: i64) -> Result<Answer, ScriptFault>
     ensures plays { IfOk result
-        (Follows IsState (own_turn state_flow plays_state (FlowStep.Set value))
+        (FollowsStep IsState (own_turn state_flow plays_state (FlowStep.Set value))
         core.old core.new numbers.now numbers.now) }
     ensures fault { IfErr result (λ fault. fault ≡ ScriptFault.OutOfMemory) }
 {
@@ -41,7 +41,7 @@ fn compare_and_set(
     expect: i64,
     update: i64,
 ) -> Result<Answer, ScriptFault>
-    ensures plays { IfOk result (Follows IsState
+    ensures plays { IfOk result (FollowsStep IsState
         (own_turn state_flow plays_state (FlowStep.CompareAndSet expect update))
         core.old core.new numbers.now numbers.now) }
     ensures fault { IfErr result (λ fault. fault ≡ ScriptFault.OutOfMemory) }
@@ -51,7 +51,7 @@ fn compare_and_set(
 
 /// Refuses a reset: a state flow always has a value.
 fn reset(core: &mut StateCore<i64>, numbers: &Numbers) -> Result<Answer, ScriptFault>
-    ensures plays { IfOk result (Follows IsState (own_turn state_flow plays_state FlowStep.Reset)
+    ensures plays { IfOk result (FollowsStep IsState (own_turn state_flow plays_state FlowStep.Reset)
         core.old core.new numbers.now numbers.now) }
     ensures fault { IfErr result (λ fault. fault ≡ ScriptFault.OutOfMemory) }
 {

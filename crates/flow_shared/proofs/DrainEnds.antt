@@ -11,19 +11,19 @@ use Rattle.flow_law.specs.HandleFaults.{answer_by, memory_fault}
 use Rattle.flow_law.specs.History.{Kind}
 use Rattle.flow_law.specs.Lawful.{Lawful}
 use Rattle.flow_law.proofs.TokenLemmas.{next_fault}
-use Rattle.flow_gate.specs.Tokens.{Origin}
-use Rattle.flow_shared.specs.Calls.{NumberedToken, NextsOf}
+use Rattle.flow_gate.specs.Tokens.{GateOrigin}
+use Rattle.flow_shared.specs.Calls.{GateNumbered, NextsOf}
 use Rattle.flow_shared.specs.BoundReplies.{drained_by}
 use Rattle.flow_shared.specs.declared.handles.reader.DrainEnd.{DrainEnd}
 use Rattle.flow_shared.specs.declared.handles.reader.DrainEnd.TheVariants as drain_end
 
-module _ {T S C R : Type 0} (kind : Kind T S C R) (law : Lawful kind) (flow : Origin S) where
-  ended_fault : (s u : NumberedToken (Said C R)) (fault : FlowFault) → EndsBy (NextsOf kind flow) s (Err fault) u → fault ≡ why.OutOfMemory
+module _ {T S C R : Type 0} (kind : Kind T S C R) (law : Lawful kind) (flow : GateOrigin S) where
+  ended_fault : (s u : GateNumbered (Said C R)) (fault : FlowFault) → EndsBy (NextsOf kind flow) s (Err fault) u → fault ≡ why.OutOfMemory
   ended_fault s u fault (inl called) = next_fault kind law flow.first s.token.knows u.token.knows s.number (Err fault) called.0.1
   ended_fault s u fault (inr none) = none.0
 
   -- a drain is refused only with `OutOfMemory`
-  pub drain_fault : (most : ℕ) (s u : NumberedToken (Said C R)) (old new : List T) (result : Result Drained FlowFault) → DrainsBy (NextsOf kind flow) most s old result new u → IfErr result (λ f. f ≡ why.OutOfMemory)
+  pub drain_fault : (most : ℕ) (s u : GateNumbered (Said C R)) (old new : List T) (result : Result Drained FlowFault) → DrainsBy (NextsOf kind flow) most s old result new u → IfErr result (λ f. f ≡ why.OutOfMemory)
   drain_fault most s u old new (Ok end) d = tt
   drain_fault most s u old new (Err fault) d = ended_fault d.last u fault d.ended
 

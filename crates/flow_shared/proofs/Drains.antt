@@ -1,6 +1,6 @@
 -- From what a core does at each `next` in one entry to a drain of the caller: the first call comes after the history that was found
 -- on entering, and the other calls follow at once.
-use Rattle.std.proofs.Common.{◌≡◌, ◌≢◌, ℕ, ◌+◌, ◌≤◌, List, [], ◌∷◌, ◌++◌, length, drop, Result, Ok, Err, refl, sym, ap, ◌∙◌, subst, inl, arith, append_assoc, append-nil, length-append}
+use Rattle.std.proofs.Common.{◌≡◌, ◌≢◌, ℕ, ◌+◌, ◌≤◌, List, [], ◌∷◌, ◌++◌, length, drop, Option, Some, None, Result, Ok, Err, refl, sym, ap, ◌∙◌, subst, inl, arith, append_assoc, append-nil, length-append}
 use Rattle.std.proofs.Math.Seq.{drop-append_seam}
 use Rattle.std.proofs.lemmas.List.{map-append}
 use Rattle.std.specs.List.{FoldsTo}
@@ -17,13 +17,14 @@ use Rattle.flow_law.specs.History.{Kind, MayCall, IsSubscription, subscriber, re
 use Rattle.flow_law.specs.Lawful.{Lawful}
 use Rattle.flow_law.specs.OneHistory.{said}
 use Rattle.flow_law.specs.Standing.{Documents, StandsForHistory}
-use Rattle.flow_law.specs.Tokens.{knowing, numbered, origin, CallsIn}
+use Rattle.flow_law.specs.Tokens.{knowing, numbered_token, origin, CallsIn}
 use Rattle.flow_law.proofs.DrainingLemmas.{HasTaken}
 use Rattle.flow_law.proofs.Names.{fits_own, grew_refl}
 use Rattle.flow_law.proofs.TokenLemmas.{stands_next, may_grows, may_speak, never_gone, subscription_after_next, subscription_met}
-use Rattle.flow_gate.specs.Tokens.{Token, Origin, HeldState, Finds}
-use Rattle.flow_shared.specs.Calls.{NextsOf, NumberedToken}
+use Rattle.flow_gate.specs.Tokens.{GateToken, GateOrigin, SeatState, idle_seat, Finds}
+use Rattle.flow_shared.specs.Calls.{HoldsFor, NextsOf, GateNumbered}
 use Rattle.flow_shared.specs.Drains.{CoreNexts, TakesInside, said_values, said_end, said_since}
+use Rattle.flow_shared.proofs.Inside.{lent_stands}
 
 -- the part of a drain so far, and how it ends
 module _ {X T : Type 0} (R : X → Result (Next T) FlowFault → X → Type 0) where
@@ -57,20 +58,20 @@ module _ {X T : Type 0} (R : X → Result (Next T) FlowFault → X → Type 0) w
           enough = (λ e. absurd (other e), λ e. absurd (other (d.enough.1 (omega (arith, counted, h.counted, d.within, fits, e)))));
         }
 
-module _ {K T S C R : Type 0} (kind : Kind T S C R) (StandsAs : K → S → Type 0) (law : Lawful kind) (flow : Origin S) (n : ℕ) where
+module _ {K T S C R : Type 0} (kind : Kind T S C R) (StandsAs : K → S → Type 0) (law : Lawful kind) (flow : GateOrigin S) (n : ℕ) where
   -- the caller still is a subscriber, and the core stands for what it has seen
-  pub record Stays (t : Token (Said C R)) (core : K) : Type 0 where
+  pub record Stays (t : GateToken (Said C R)) (core : K) : Type 0 where
     pub stood : StandsForHistory kind StandsAs flow.first core t.knows.seen
     pub subscribed : IsSubscription kind t.knows n
     pub names : NamesOnlyMade t.knows.name t.knows.made t.knows.seen
 
-  abbrev pub seeing : Token (Said C R) → ℕ → List (HistoryEvent (Said C R)) → Token (Said C R)
+  abbrev pub seeing : GateToken (Said C R) → ℕ → List (HistoryEvent (Said C R)) → GateToken (Said C R)
   seeing t lost history = knowing t (knowledge t.knows.name t.knows.made lost history)
 
   -- one more call of a caller that found this history
-  module _ (before : Token (Said C R)) (lost : ℕ) (history : List (HistoryEvent (Said C R))) (core after_core : K) (r : R) (more : before.knows.lost ≤ lost) (fits : Fits history before.knows)
+  module _ (before : GateToken (Said C R)) (lost : ℕ) (history : List (HistoryEvent (Said C R))) (core after_core : K) (r : R) (more : before.knows.lost ≤ lost) (fits : Fits history before.knows)
       (stood : StandsForHistory kind StandsAs flow.first core history) (subscribed : IsSubscription kind before.knows n) (documents : Documents kind StandsAs core (kind.take_next n) r after_core) where
-    abbrev after : Token (Said C R)
+    abbrev after : GateToken (Said C R)
     after = seeing before lost (history ++ event before.knows.name (said (kind.take_next n) r) ∷ [])
 
     may : MayCall kind (kind.take_next n) before.knows.name history
@@ -96,17 +97,17 @@ module _ {K T S C R : Type 0} (kind : Kind T S C R) (StandsAs : K → S → Type
     stays : Stays after after_core
     stays = record { stood = stands; subscribed = subscription_after_next kind law flow.first before.knows after.knows n r calls.1 subscribed; names = calls.1.names }
 
-  fits_itself : (t : Token (Said C R)) (core : K) → Stays t core → Fits t.knows.seen t.knows
+  fits_itself : (t : GateToken (Said C R)) (core : K) → Stays t core → Fits t.knows.seen t.knows
   fits_itself t core s = (grew_refl t.knows.name t.knows.seen, s.names)
 
-  abbrev pub adding : Token (Said C R) → List (Said C R) → Token (Said C R)
+  abbrev pub adding : GateToken (Said C R) → List (Said C R) → GateToken (Said C R)
   adding t more = knowing t (adds more t.knows)
 
   -- values in a row, with no other caller between
-  abbrev Gives : (t : Token (Said C R)) (values : List T) (end : Token (Said C R)) (core : K) → Type 0
-  Gives t values end core = NextsGive (NextsOf kind flow) (numbered t n) values (numbered end n) × Stays end core
+  abbrev Gives : (t : GateToken (Said C R)) (values : List T) (end : GateToken (Said C R)) (core : K) → Type 0
+  Gives t values end core = NextsGive (NextsOf kind flow) (numbered_token t n) values (numbered_token end n) × Stays end core
 
-  gives : (values : List T) (t : Token (Said C R)) (core last : K) → Stays t core → NextsGive (CoreNexts kind n StandsAs) core values last
+  gives : (values : List T) (t : GateToken (Said C R)) (core last : K) → Stays t core → NextsGive (CoreNexts kind n StandsAs) core values last
       → Gives t values (knowing t (adds (said_values kind n values) t.knows)) last
   gives [] t core last s taken =
       subst (λ (h : List (HistoryEvent (Said C R))). Gives t [] (seeing t t.knows.lost h) last) (sym (append-nil t.knows.seen)) (refl, subst (Stays t) taken s)
@@ -117,18 +118,18 @@ module _ {K T S C R : Type 0} (kind : Kind T S C R) (StandsAs : K → S → Type
       let middle = seeing t t.knows.lost (t.knows.seen ++ e ∷ []) in
       let others = gives values middle taken.0 last here taken.2 in
       let all = subst (λ (h : List (HistoryEvent (Said C R))). Gives middle values (seeing t t.knows.lost h) last) (append_assoc t.knows.seen (e ∷ []) (events_of t.knows.name (said_values kind n values))) others in
-      ((numbered middle n, (one, refl), all.0), all.1)
+      ((numbered_token middle n, (one, refl), all.0), all.1)
 
   -- the call that ended the drain of a caller that found this history
-  module _ (before : Token (Said C R)) (lost : ℕ) (history : List (HistoryEvent (Said C R))) (core : K) (more : before.knows.lost ≤ lost) (fits : Fits history before.knows)
+  module _ (before : GateToken (Said C R)) (lost : ℕ) (history : List (HistoryEvent (Said C R))) (core : K) (more : before.knows.lost ≤ lost) (fits : Fits history before.knows)
       (stood : StandsForHistory kind StandsAs flow.first core history) (subscribed : IsSubscription kind before.knows n) where
     abbrev Ends : Result Drained FlowFault → K → Type 0
     Ends result new =
         let end = seeing before lost (history ++ events_of before.knows.name (said_end kind n result)) in
-        EndsByCall (NextsOf kind flow) (numbered before n) result (numbered end n) × Stays end new
+        EndsByCall (NextsOf kind flow) (numbered_token before n) result (numbered_token end n) × Stays end new
 
     ends_by : (answer : Result (Next T) FlowFault) (new : K) → CoreNexts kind n StandsAs core answer new
-        → NextsOf kind flow (numbered before n) answer (numbered (seeing before lost (history ++ event before.knows.name (said (kind.take_next n) (replied kind kind.received answer)) ∷ [])) n)
+        → NextsOf kind flow (numbered_token before n) answer (numbered_token (seeing before lost (history ++ event before.knows.name (said (kind.take_next n) (replied kind kind.received answer)) ∷ [])) n)
         × Stays (seeing before lost (history ++ event before.knows.name (said (kind.take_next n) (replied kind kind.received answer)) ∷ [])) new
     ends_by answer new documents =
         let r = replied kind kind.received answer in
@@ -141,10 +142,10 @@ module _ {K T S C R : Type 0} (kind : Kind T S C R) (StandsAs : K → S → Type
     ends (Err fault) new ended other = ends_by (Err fault) new ended
 
   -- the same after values of its own
-  ends_after : (result : Result Drained FlowFault) (t : Token (Said C R)) (core new : K) → Stays t core → EndsByCall (CoreNexts kind n StandsAs) core result new
-      → EndsByCall (NextsOf kind flow) (numbered t n) result (numbered (adding t (said_end kind n result)) n) × Stays (adding t (said_end kind n result)) new
+  ends_after : (result : Result Drained FlowFault) (t : GateToken (Said C R)) (core new : K) → Stays t core → EndsByCall (CoreNexts kind n StandsAs) core result new
+      → EndsByCall (NextsOf kind flow) (numbered_token t n) result (numbered_token (adding t (said_end kind n result)) n) × Stays (adding t (said_end kind n result)) new
   ends_after (Ok drained.Most) t core new s ended =
-      subst (λ (h : List (HistoryEvent (Said C R))). EndsByCall (NextsOf kind flow) (numbered t n) (Ok drained.Most) (numbered (seeing t t.knows.lost h) n) × Stays (seeing t t.knows.lost h) new)
+      subst (λ (h : List (HistoryEvent (Said C R))). EndsByCall (NextsOf kind flow) (numbered_token t n) (Ok drained.Most) (numbered_token (seeing t t.knows.lost h) n) × Stays (seeing t t.knows.lost h) new)
       (sym (append-nil t.knows.seen)) (refl, subst (Stays t) ended s)
   ends_after (Ok drained.Empty) t core new s ended = ends t t.knows.lost t.knows.seen core (omega arith) (fits_itself t core s) s.stood s.subscribed (Ok drained.Empty) new ended (λ e. cc)
   ends_after (Ok drained.Gone) t core new s ended = ends t t.knows.lost t.knows.seen core (omega arith) (fits_itself t core s) s.stood s.subscribed (Ok drained.Gone) new ended (λ e. cc)
@@ -158,16 +159,16 @@ module _ {K T S C R : Type 0} (kind : Kind T S C R) (StandsAs : K → S → Type
       ∙ ap (λ (l : List (HistoryEvent (Said C R))). history ++ event name e ∷ l) (sym (map-append (event name) values end))
 
   -- all calls of a caller that found this history
-  module _ (before : Token (Said C R)) (lost : ℕ) (history : List (HistoryEvent (Said C R))) (core : K) (more : before.knows.lost ≤ lost) (fits : Fits history before.knows)
+  module _ (before : GateToken (Said C R)) (lost : ℕ) (history : List (HistoryEvent (Said C R))) (core : K) (more : before.knows.lost ≤ lost) (fits : Fits history before.knows)
       (stood : StandsForHistory kind StandsAs flow.first core history) (subscribed : IsSubscription kind before.knows n) where
     -- what it has seen then
-    abbrev pub seen_after : List T → Result Drained FlowFault → Token (Said C R)
+    abbrev pub seen_after : List T → Result Drained FlowFault → GateToken (Said C R)
     seen_after values result = seeing before lost (history ++ events_of before.knows.name (said_values kind n values ++ said_end kind n result))
 
     record Draws (values : List T) (result : Result Drained FlowFault) (new : K) : Type 0 where
-      last : Token (Said C R)
-      taken : NextsGive (NextsOf kind flow) (numbered before n) values (numbered last n)
-      ended : EndsByCall (NextsOf kind flow) (numbered last n) result (numbered (seen_after values result) n)
+      last : GateToken (Said C R)
+      taken : NextsGive (NextsOf kind flow) (numbered_token before n) values (numbered_token last n)
+      ended : EndsByCall (NextsOf kind flow) (numbered_token last n) result (numbered_token (seen_after values result) n)
       stays : Stays (seen_after values result) new
 
     draws : (values : List T) (result : Result Drained FlowFault) (last new : K) → NextsGive (CoreNexts kind n StandsAs) core values last → EndsByCall (CoreNexts kind n StandsAs) last result new
@@ -182,18 +183,18 @@ module _ {K T S C R : Type 0} (kind : Kind T S C R) (StandsAs : K → S → Type
         let middle = seeing before lost (history ++ event before.knows.name (said (kind.take_next n) r) ∷ []) in
         let others = gives values middle taken.0 last here taken.2 in
         let then = adding middle (said_values kind n values) in
-        let e = subst (λ (h : List (HistoryEvent (Said C R))). EndsByCall (NextsOf kind flow) (numbered then n) result (numbered (seeing before lost h) n) × Stays (seeing before lost h) new)
+        let e = subst (λ (h : List (HistoryEvent (Said C R))). EndsByCall (NextsOf kind flow) (numbered_token then n) result (numbered_token (seeing before lost h) n) × Stays (seeing before lost h) new)
         (all_seen before.knows.name history (said (kind.take_next n) r) (said_values kind n values) (said_end kind n result)) (ends_after result then last new others.1 ended) in
-        record { last = then; taken = (numbered middle n, (one, refl), others.0); ended = e.0; stays = e.1 }
+        record { last = then; taken = (numbered_token middle n, (one, refl), others.0); ended = e.0; stays = e.1 }
 
     module _ (most : ℕ) (some : 1 ≤ most) (old_list new_list : List T) (result : Result Drained FlowFault) (new : K) (t : TakesBy (CoreNexts kind n StandsAs) most core old_list result new_list new) where
       drawn : Draws t.values result new
       drawn = draws t.values result t.last new t.taken t.ended (λ none all. absurd (omega (arith, some, ap length none, t.enough.0 all)))
 
-      pub drains : DrainsBy (NextsOf kind flow) most (numbered before n) old_list result new_list (numbered (seen_after t.values result) n)
-      drains = record { values = t.values; last = numbered drawn.last n; taken = drawn.taken; ended = by_call result drawn.ended; appended = t.appended; within = t.within; enough = t.enough }
+      pub drains : DrainsBy (NextsOf kind flow) most (numbered_token before n) old_list result new_list (numbered_token (seen_after t.values result) n)
+      drains = record { values = t.values; last = numbered_token drawn.last n; taken = drawn.taken; ended = by_call result drawn.ended; appended = t.appended; within = t.within; enough = t.enough }
         where
-          by_call : (r : Result Drained FlowFault) → EndsByCall (NextsOf kind flow) (numbered drawn.last n) r (numbered (seen_after t.values result) n) → EndsBy (NextsOf kind flow) (numbered drawn.last n) r (numbered (seen_after t.values result) n)
+          by_call : (r : Result Drained FlowFault) → EndsByCall (NextsOf kind flow) (numbered_token drawn.last n) r (numbered_token (seen_after t.values result) n) → EndsBy (NextsOf kind flow) (numbered_token drawn.last n) r (numbered_token (seen_after t.values result) n)
           by_call (Ok end) e = e
           by_call (Err fault) e = inl e
 
@@ -208,79 +209,78 @@ pub appended_since : {T : Type 0} (old new values : List T) → new ≡ old ++ v
 appended_since old new values e = ap (drop (length old)) e ∙ drop-append_seam old values
 
 -- A caller inside, from the core that was lent to it up to leaving: `since` is what the evidence says of the list before.
-module _ {K T S C R : Type 0} (kind : Kind T S C R) (start : K → S) (StandsAs : K → S → Type 0) (law : Lawful kind) (n : ℕ) where
-  -- the core stands for this history from the first core on
-  abbrev stands_since : K → K → List (HistoryEvent (Said C R)) → Type 0
-  stands_since first core h = StandsForHistory kind StandsAs (start first) core h
-
-  module _ (held : HeldState K (Said C R)) (stood : stands_since held.first held.state held.token.knows.seen) (subscribed : IsSubscription kind held.token.knows n)
-      (names : NamesOnlyMade held.token.knows.name held.token.knows.made held.token.knows.seen) (lent new : K) (is : lent ≡ held.state)
+module _ {K T S C R : Type 0} (kind : Kind T S C R) (StandsAs : K → S → Type 0) (law : Lawful kind) (n : ℕ) where
+  module _ (first : S) (seat : SeatState K (Said C R)) (lent new : K) (holds : HoldsFor kind StandsAs first seat) (is : seat.held ≡ Some lent) (subscribed : IsSubscription kind seat.token.knows n)
+      (names : NamesOnlyMade seat.token.knows.name seat.token.knows.made seat.token.knows.seen)
       (most : ℕ) (some : 1 ≤ most) (old_list since new_list : List T) (same : since ≡ old_list) (result : Result Drained FlowFault) (t : TakesBy (CoreNexts kind n StandsAs) most lent old_list result new_list new) where
-    takes : TakesBy (CoreNexts kind n StandsAs) most held.state old_list result new_list new
-    takes = record {
-      values = t.values;
-      last = t.last;
-      taken = subst (λ (k : K). NextsGive (CoreNexts kind n StandsAs) k t.values t.last) is t.taken;
-      ended = t.ended;
-      appended = t.appended;
-      within = t.within;
-      enough = t.enough;
-    }
-
     given : drop (length since) new_list ≡ t.values
     given = appended_since since new_list t.values (t.appended ∙ ap (λ (l : List T). l ++ t.values) (sym same))
 
-    pub may_leave : stands_since held.first new (held.token.knows.seen ++ events_of held.token.knows.name (said_since kind n since new_list result))
-    unfolding takes
-    may_leave = subst (λ (values : List T). StandsForHistory kind StandsAs (start held.first) new (held.token.knows.seen ++ events_of held.token.knows.name (said_values kind n values ++ said_end kind n result))) (sym given)
-        (stands_then kind StandsAs law (origin held.token.table_id (start held.first)) n held.token held.token.knows.lost held.token.knows.seen held.state (omega arith) (grew_refl held.token.knows.name held.token.knows.seen, names)
-        stood subscribed most some old_list new_list result new takes)
+    pub may_leave : StandsForHistory kind StandsAs first new (seat.token.knows.seen ++ events_of seat.token.knows.name (said_since kind n since new_list result))
+    may_leave = subst (λ (values : List T). StandsForHistory kind StandsAs first new (seat.token.knows.seen ++ events_of seat.token.knows.name (said_values kind n values ++ said_end kind n result))) (sym given)
+        (stands_then kind StandsAs law (origin seat.token.table_id first) n seat.token seat.token.knows.lost seat.token.knows.seen lent (omega arith) (grew_refl seat.token.knows.name seat.token.knows.seen, names)
+        (lent_stands kind StandsAs first seat lent holds is) subscribed most some old_list new_list result new t)
 
-    pub has_taken : (after : Token (Said C R)) → after ≡ knowing held.token (adds (said_since kind n since new_list result) held.token.knows) → TakesInside kind n StandsAs most held old_list result new_list after
-    unfolding takes
-    has_taken _ left = record { core = new; takes = takes; left = left ∙ ap (λ (values : List T). knowing held.token (adds (said_values kind n values ++ said_end kind n result) held.token.knows)) given }
+    pub has_taken : (after : SeatState K (Said C R)) → after ≡ idle_seat (knowing seat.token (adds (said_since kind n since new_list result) seat.token.knows)) → TakesInside kind n StandsAs most seat old_list result new_list after
+    has_taken _ left = record {
+      state = lent;
+      held = is;
+      core = new;
+      takes = t;
+      left = left ∙ ap (λ (values : List T). idle_seat (knowing seat.token (adds (said_values kind n values ++ said_end kind n result) seat.token.knows))) given;
+    }
 
   -- the caller that entered, and the drain that follows
-  module _ (flow : Origin S) (gate : Origin K) (before : Token (Said C R)) (held : HeldState K (Said C R)) (is : origin gate.table_id (start gate.first) ≡ flow) (f : Finds stands_since gate before held) (subscribed : IsSubscription kind before.knows n) where
-    found : StandsForHistory kind StandsAs flow.first held.state f.history
-    found = subst (λ (o : Origin S). StandsForHistory kind StandsAs o.first held.state f.history) is f.stood
+  module _ (start : K → S) (flow : GateOrigin S) (gate : GateOrigin K) (before : GateToken (Said C R)) (seat : SeatState K (Said C R)) (is : origin gate.table_id (start gate.first) ≡ flow)
+      (f : Finds (λ first state h. StandsForHistory kind StandsAs (start first) state h) gate before seat) (subscribed : IsSubscription kind before.knows n) where
+    found : StandsForHistory kind StandsAs flow.first f.state f.history
+    found = subst (λ (o : GateOrigin S). StandsForHistory kind StandsAs o.first f.state f.history) is f.stood
 
-    pub stood_inside : stands_since held.first held.state held.token.knows.seen
-    stood_inside = subst (λ (z : K × Token (Said C R)). stands_since z.0 held.state z.1.knows.seen) (λ i. (sym f.first i, sym f.token i)) f.stood
+    pub names_inside : NamesOnlyMade seat.token.knows.name seat.token.knows.made seat.token.knows.seen
+    names_inside = subst (λ (t : GateToken (Said C R)). NamesOnlyMade t.knows.name t.knows.made t.knows.seen) (sym f.token) f.fits.1
 
-    pub names_inside : NamesOnlyMade held.token.knows.name held.token.knows.made held.token.knows.seen
-    names_inside = subst (λ (t : Token (Said C R)). NamesOnlyMade t.knows.name t.knows.made t.knows.seen) (sym f.token) f.fits.1
+    pub subscribed_inside : IsSubscription kind seat.token.knows n
+    subscribed_inside = subst (λ (t : GateToken (Said C R)). IsSubscription kind t.knows n) (sym f.token) (subscription_met kind law flow.first before.knows n f.history found.0 f.fits subscribed)
 
-    pub subscribed_inside : IsSubscription kind held.token.knows n
-    subscribed_inside = subst (λ (t : Token (Said C R)). IsSubscription kind t.knows n) (sym f.token) (subscription_met kind law flow.first before.knows n f.history found.0 f.fits subscribed)
+    module _ (lost : before.knows.lost ≤ seat.token.knows.lost) (most : ℕ) (some : 1 ≤ most) (old_list new_list : List T) (result : Result Drained FlowFault) (after : SeatState K (Said C R)) (i : TakesInside kind n StandsAs most seat old_list result new_list after) where
+      same_state : i.state ≡ f.state
+      same_state = some_is (sym i.held ∙ f.held)
+        where
+          some_is : {a b : K} → Some a ≡ Some b → a ≡ b
+          some_is e = cc
 
-    module _ (lost : before.knows.lost ≤ held.token.knows.lost) (most : ℕ) (some : 1 ≤ most) (old_list new_list : List T) (result : Result Drained FlowFault) (after : Token (Said C R)) (i : TakesInside kind n StandsAs most held old_list result new_list after) where
-      abbrev end : Token (Said C R)
-      end = seen_after kind StandsAs law flow n before held.token.knows.lost f.history held.state lost f.fits found subscribed i.takes.values result
+      stood : StandsForHistory kind StandsAs flow.first i.state f.history
+      stood = subst (λ (k : K). StandsForHistory kind StandsAs flow.first k f.history) (sym same_state) found
 
-      is_end : after ≡ end
-      is_end = i.left ∙ ap (λ (t : Token (Said C R)). knowing t (adds (said_values kind n i.takes.values ++ said_end kind n result) t.knows)) f.token
+      abbrev end : GateToken (Said C R)
+      end = seen_after kind StandsAs law flow n before seat.token.knows.lost f.history i.state lost f.fits stood subscribed i.takes.values result
 
-      pub same_flow : after.table_id ≡ before.table_id
-      same_flow = ap (λ (t : Token (Said C R)). t.table_id) is_end
+      is_end : after.token ≡ end
+      is_end = ap (λ (z : SeatState K (Said C R)). z.token) i.left ∙ ap (λ (t : GateToken (Said C R)). knowing t (adds (said_values kind n i.takes.values ++ said_end kind n result) t.knows)) f.token
 
-      pub subscribed_after : IsSubscription kind after.knows n
-      subscribed_after = subst (λ (t : Token (Said C R)). IsSubscription kind t.knows n) (sym is_end)
-          (subscribed_still kind StandsAs law flow n before held.token.knows.lost f.history held.state lost f.fits found subscribed most some old_list new_list result i.core i.takes)
+      pub same_flow : after.token.table_id ≡ before.table_id
+      same_flow = ap (λ (t : GateToken (Said C R)). t.table_id) is_end
 
-      pub drains_by : DrainsBy (NextsOf kind flow) most (numbered before n) old_list result new_list (numbered after n)
-      drains_by = subst (λ (t : Token (Said C R)). DrainsBy (NextsOf kind flow) most (numbered before n) old_list result new_list (numbered t n)) (sym is_end)
-          (drains kind StandsAs law flow n before held.token.knows.lost f.history held.state lost f.fits found subscribed most some old_list new_list result i.core i.takes)
+      pub is_left : after.held ≡ None
+      is_left = ap (λ (z : SeatState K (Said C R)). z.held) i.left
+
+      pub subscribed_after : IsSubscription kind after.token.knows n
+      subscribed_after = subst (λ (t : GateToken (Said C R)). IsSubscription kind t.knows n) (sym is_end)
+          (subscribed_still kind StandsAs law flow n before seat.token.knows.lost f.history i.state lost f.fits stood subscribed most some old_list new_list result i.core i.takes)
+
+      pub drains_by : DrainsBy (NextsOf kind flow) most (numbered_token before n) old_list result new_list (numbered_token after.token n)
+      drains_by = subst (λ (t : GateToken (Said C R)). DrainsBy (NextsOf kind flow) most (numbered_token before n) old_list result new_list (numbered_token t n)) (sym is_end)
+          (drains kind StandsAs law flow n before seat.token.knows.lost f.history i.state lost f.fits stood subscribed most some old_list new_list result i.core i.takes)
 
 -- a subscription stays one, so a drain never finds it gone
-module _ {T S C R : Type 0} (kind : Kind T S C R) (law : Lawful kind) (flow : Origin S) where
-  keeps : (values : List T) (old last : NumberedToken (Said C R)) → NextsGive (NextsOf kind flow) old values last → IsSubscription kind old.token.knows old.number → IsSubscription kind last.token.knows last.number
-  keeps [] old last taken subscribed = subst (λ (s : NumberedToken (Said C R)). IsSubscription kind s.token.knows s.number) taken subscribed
+module _ {T S C R : Type 0} (kind : Kind T S C R) (law : Lawful kind) (flow : GateOrigin S) where
+  keeps : (values : List T) (old last : GateNumbered (Said C R)) → NextsGive (NextsOf kind flow) old values last → IsSubscription kind old.token.knows old.number → IsSubscription kind last.token.knows last.number
+  keeps [] old last taken subscribed = subst (λ (s : GateNumbered (Said C R)). IsSubscription kind s.token.knows s.number) taken subscribed
   keeps (v ∷ values) old last taken subscribed =
       let still = subscription_after_next kind law flow.first old.token.knows taken.0.token.knows old.number (kind.received (next.Value v)) taken.1.0.1 subscribed in
       keeps values taken.0 last taken.2 (subst (IsSubscription kind taken.0.token.knows) (sym taken.1.1) still)
 
-  pub never_ends_gone : (most : ℕ) (old new : NumberedToken (Said C R)) (old_list new_list : List T) (result : Result Drained FlowFault) → DrainsBy (NextsOf kind flow) most old old_list result new_list new
+  pub never_ends_gone : (most : ℕ) (old new : GateNumbered (Said C R)) (old_list new_list : List T) (result : Result Drained FlowFault) → DrainsBy (NextsOf kind flow) most old old_list result new_list new
       → IsSubscription kind old.token.knows old.number → result ≢ Ok drained.Gone
   never_ends_gone most old new old_list new_list result d subscribed gone =
       let g = subst (λ (r : Result Drained FlowFault). DrainsBy (NextsOf kind flow) most old old_list r new_list new) gone d in

@@ -8,19 +8,20 @@ use Rattle.flow_law.specs.declared.call.SharedCall.TheVariants as call
 use Rattle.flow_law.specs.declared.call.SharedReply.{SharedReply}
 use Rattle.flow_law.specs.declared.call.SharedReply.TheVariants as reply
 use Rattle.flow_law.specs.declared.states.SharedFlowState.{SharedFlowState}
+use Rattle.flow_law.specs.Done.{is_same_name}
 use Rattle.flow_law.specs.Growth.{event, IsSilent}
 use Rattle.flow_law.specs.OneHistory.{said}
 use Rattle.flow_law.specs.SharedHistory.{History}
 use Rattle.flow_law.specs.Tokens.{IsBusy}
 use Rattle.flow_law.specs.Values.{numbers_exact}
-use Rattle.flow_gate.specs.Tokens.{Origin}
+use Rattle.flow_gate.specs.Tokens.{GateOrigin}
 use Rattle.flow_shared.specs.declared.emit_future.EmitStage.{EmitStage}
 use Rattle.flow_shared.specs.declared.emit_future.EmitStage.TheVariants.{Fresh, Waiting, Ended}
 use Rattle.flow_shared.specs.declared.emit_future.Sent.{Sent}
 use Rattle.flow_shared.specs.declared.emit_future.Sent.TheVariants as sent
-use Rattle.flow_shared.specs.SharedReplies.{SharedToken, Calls, CallsAtOnce}
-use Rattle.flow_shared.specs.EmitCounts.{is_same_name, emit_of, emits}
-use Rattle.flow_shared.specs.EmitFutures.{EmitPolls, KeepsCount, Says, held, token_after}
+use Rattle.flow_shared.specs.SharedReplies.{SharedToken, SharedCalls, SharedCallsAtOnce}
+use Rattle.flow_shared.specs.EmitCounts.{emit_of, emits}
+use Rattle.flow_shared.specs.EmitFutures.{EmitPolls, KeepsCount, SaysSent, held_by_emit, token_after_emit}
 use Rattle.flow_shared.specs.Futures.{SharedNumbered, OneEach, PollsOnce}
 
 is_not : (b : Bool) → (b ≡ true → ⊥) → b ≡ false
@@ -55,7 +56,7 @@ module _ {T : Type 0} where
   abbrev pub count : SharedToken T → ℕ
   count t = emits t.knows.name t.knows.seen
 
-  pub count_called : (flow : Origin (SharedFlowState T)) (t u : SharedToken T) (c : SharedCall T) (r : SharedReply T) → Calls flow t c r u → count u ≡ count t + emit_of true c
+  pub count_called : (flow : GateOrigin (SharedFlowState T)) (t u : SharedToken T) (c : SharedCall T) (r : SharedReply T) → SharedCalls flow t c r u → count u ≡ count t + emit_of true c
   count_called flow t u c r called =
       let g = called.1.grows in let k = t.knows.name in let e = event k (said c r) in
       let quiet : emits k (t.knows.seen ++ g.0) ≡ count t = emits_append k t.knows.seen g.0 ∙ (ap (λ z. count t + z) (emits_others k g.0 g.2) ∙ plus_zero (count t)) in
@@ -65,21 +66,21 @@ module _ {T : Type 0} where
   count_busy : (t u : SharedToken T) → IsBusy t u → count u ≡ count t
   count_busy t u busy = ap count busy
 
-module _ {T : Type 0} (flow : Origin (SharedFlowState T)) where
-  more_one : (t u : SharedToken T) (v : T) (r : SharedReply T) → Calls flow t (call.Emit v) r u → count u + 0 ≡ count t + 1
+module _ {T : Type 0} (flow : GateOrigin (SharedFlowState T)) where
+  more_one : (t u : SharedToken T) (v : T) (r : SharedReply T) → SharedCalls flow t (call.Emit v) r u → count u + 0 ≡ count t + 1
   more_one t u v r called = plus_zero (count u) ∙ count_called flow t u (call.Emit v) r called
 
-  more_none : (t u : SharedToken T) (n : ℕ) (r : SharedReply T) → Calls flow t (call.Poll n) r u → count u + 0 ≡ count t + 0
+  more_none : (t u : SharedToken T) (n : ℕ) (r : SharedReply T) → SharedCalls flow t (call.Poll n) r u → count u + 0 ≡ count t + 0
   more_none t u n r called = plus_zero (count u) ∙ count_called flow t u (call.Poll n) r called
 
   abbrev Waits : SharedNumbered T → SharedNumbered T → Type 0
-  Waits e f = IsBusy e.token f.token ⊎ CallsAtOnce flow e.token (call.Poll e.number) (reply.Tested true) f.token
+  Waits e f = IsBusy e.token f.token ⊎ SharedCallsAtOnce flow e.token (call.Poll e.number) (reply.Tested true) f.token
 
   waits_none : (e f : SharedNumbered T) → Waits e f → count f.token + 0 ≡ count e.token + 0
   waits_none e f (inl busy) = ap (λ n. n + 0) (count_busy e.token f.token busy)
   waits_none e f (inr called) = more_none e.token f.token e.number (reply.Tested true) called.0
 
-module _ {T A : Type 0} (flow : Origin (SharedFlowState T)) where
+module _ {T A : Type 0} (flow : GateOrigin (SharedFlowState T)) where
   pub keeps_count : (s : EmitStage T A) (p : Polled (Sent T A)) (s' : EmitStage T A) → EmitPolls flow s p s' → KeepsCount s p s'
   keeps_count (Fresh t v) Pending (Fresh u w) h = ap (λ n. n + 1) (count_busy t u h.1)
   keeps_count (Fresh t v) Pending (Waiting e) h = more_one flow t e.token v (reply.Emitted (Queued e.number)) h.0
@@ -102,11 +103,11 @@ module _ {T A : Type 0} (flow : Origin (SharedFlowState T)) where
   keeps_count Ended Pending (Waiting e) h = absurd h
   keeps_count Ended (Ready x) s' h = absurd h
 
-  waits_once : (e f : SharedNumbered T) → Waits flow e f → PollsOnce (Says {T = T} {A = A}) flow e.token (call.Poll e.number) Pending f.token
+  waits_once : (e f : SharedNumbered T) → Waits flow e f → PollsOnce (SaysSent {T = T} {A = A}) flow e.token (call.Poll e.number) Pending f.token
   waits_once e f (inl busy) = inl (busy, refl)
   waits_once e f (inr called) = inr (reply.Tested true, called, refl)
 
-  pub one_each : (s : EmitStage T A) (p : Polled (Sent T A)) (s' : EmitStage T A) → EmitPolls flow s p s' → OneEach Says flow (held s) p (token_after p s')
+  pub one_each : (s : EmitStage T A) (p : Polled (Sent T A)) (s' : EmitStage T A) → EmitPolls flow s p s' → OneEach SaysSent flow (held_by_emit s) p (token_after_emit p s')
   one_each (Fresh t v) Pending (Fresh u w) h = (u, refl, inl (h.1, refl))
   one_each (Fresh t v) Pending (Waiting e) h = (e.token, refl, inr (reply.Emitted (Queued e.number), h, refl))
   one_each (Fresh t v) Pending Ended h = absurd h

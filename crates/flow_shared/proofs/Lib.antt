@@ -1,5 +1,4 @@
 pub mod Inside
-pub mod Seats
 pub mod Drains
 pub mod Emissions
 pub mod EmitCountLemmas
@@ -10,6 +9,7 @@ pub mod Refusals
 pub mod Rounds
 pub mod DrainEnds
 pub mod Attending
+pub mod Sleeping
 pub mod Waits
 pub mod Tries
 pub mod PollRuns

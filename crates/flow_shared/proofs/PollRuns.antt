@@ -1,5 +1,5 @@
 -- From one poll of a reader to what a whole run of polls gives.
-use Rattle.std.proofs.Common.{◌≡◌, inl, inr, List, [], ◌∷◌, Option, Some, None, Result, Ok, Err, refl, ◌∙◌, subst}
+use Rattle.std.proofs.Common.{◌≡◌, ◌≢◌, inl, inr, List, [], ◌∷◌, Option, Some, None, Result, Ok, Err, refl, ◌∙◌, subst}
 use Rattle.atomic_table.specs.Seated.{TableId}
 use Rattle.futures.specs.declared.task.Poll.TheVariants.{Ready, Pending}
 use Rattle.futures.specs.Poll.{OnPending}
@@ -15,26 +15,26 @@ use Rattle.flow_law.specs.History.{Kind, replied}
 use Rattle.flow_law.specs.Lawful.{Lawful}
 use Rattle.flow_law.specs.Tokens.{IsBusy, CallsIn, CallsAtOnceIn}
 use Rattle.flow_law.proofs.TokenLemmas.{next_fault}
-use Rattle.flow_gate.specs.Tokens.{Origin}
-use Rattle.flow_shared.specs.Calls.{NumberedToken, NextsOf, NextsNow}
-use Rattle.flow_shared.specs.Receiving.{NextsAfter, Receives, taken}
+use Rattle.flow_gate.specs.Tokens.{GateOrigin}
+use Rattle.flow_shared.specs.Calls.{GateNumbered, NextsOf, NextsNow}
+use Rattle.flow_shared.specs.Receiving.{NextsAfter, FlowReceives, as_next}
 use Rattle.flow_shared.specs.Polling.{NextsAtOnce, PollsNext, Yields, GivesChanged, polled_by}
-use Rattle.flow_shared.specs.Attended.{IsWait}
+use Rattle.flow_shared.specs.CoreCalls.{IsWait}
 use Rattle.flow_shared.proofs.Waits.{called_later}
 
 -- a pending poll has received nothing
-pub armed_by : {T : Type 0} → (answer : Result (Next T) FlowFault) (P : Type 0) → (IsWait answer → P) → OnPending (polled_by answer) P
-armed_by (Ok (Value v)) P h = tt
-armed_by (Ok Empty) P h = h tt
-armed_by (Ok Gone) P h = h tt
-armed_by (Err OutOfMemory) P h = tt
-armed_by (Err TooLarge) P h = tt
-armed_by (Err NeedsBuffer) P h = tt
-armed_by (Err Exhausted) P h = tt
-armed_by (Err Unsupported) P h = tt
-armed_by (Err Busy) P h = h tt
+pub armed_by : {T : Type 0} → (answer : Result (Next T) FlowFault) (P : Type 0) → answer ≢ Ok Gone → (IsWait answer → P) → OnPending (polled_by answer) P
+armed_by (Ok (Value v)) P live h = tt
+armed_by (Ok Empty) P live h = h tt
+armed_by (Ok Gone) P live h = absurd (live refl)
+armed_by (Err OutOfMemory) P live h = tt
+armed_by (Err TooLarge) P live h = tt
+armed_by (Err NeedsBuffer) P live h = tt
+armed_by (Err Exhausted) P live h = tt
+armed_by (Err Unsupported) P live h = tt
+armed_by (Err Busy) P live h = h tt
 
-module _ {T S C R : Type 0} (kind : Kind T S C R) (law : Lawful kind) (flow : Origin S) (s u : NumberedToken (Said C R)) where
+module _ {T S C R : Type 0} (kind : Kind T S C R) (law : Lawful kind) (flow : GateOrigin S) (s u : GateNumbered (Said C R)) where
   refused : (fault : FlowFault) → (u.number ≡ s.number) × CallsAtOnceIn kind flow.first s.token (kind.take_next s.number) (kind.refused fault) u.token → NextsAtOnce kind flow s (Err OutOfMemory) u
   refused fault h = (subst (λ (f : FlowFault). NextsOf kind flow s (Err f) u) (next_fault kind law flow.first s.token.knows u.token.knows s.number (Err fault) h.1.0.1) (h.1.0, h.0), h.1.1)
 
@@ -49,27 +49,27 @@ module _ {T S C R : Type 0} (kind : Kind T S C R) (law : Lawful kind) (flow : Or
   polls_next (Err Unsupported) h = refused Unsupported h
   polls_next (Err Busy) h = inl h
 
-module _ {T S C R : Type 0} (kind : Kind T S C R) (flow : Origin S) where
-  nexts_later : (s u w : NumberedToken (Said C R)) (answer : Result (Next T) FlowFault) → (u.number ≡ s.number) × IsBusy s.token u.token → NextsOf kind flow u answer w → NextsOf kind flow s answer w
+module _ {T S C R : Type 0} (kind : Kind T S C R) (flow : GateOrigin S) where
+  nexts_later : (s u w : GateNumbered (Said C R)) (answer : Result (Next T) FlowFault) → (u.number ≡ s.number) × IsBusy s.token u.token → NextsOf kind flow u answer w → NextsOf kind flow s answer w
   nexts_later s u w answer busy h = (
     called_later kind flow s.token u.token w.token (kind.take_next s.number) (replied kind kind.received answer) busy.1
         (subst (λ n. CallsIn kind flow.first u.token (kind.take_next n) (replied kind kind.received answer) w.token) busy.0 h.0),
     h.1 ∙ busy.0,
   )
 
-  after_later : (us : List (NumberedToken (Said C R))) (s u : NumberedToken (Said C R)) (answer : Result (Next T) FlowFault) (new : NumberedToken (Said C R)) → (u.number ≡ s.number) × IsBusy s.token u.token → NextsAfter kind flow us u answer new → NextsAfter kind flow us s answer new
+  after_later : (us : List (GateNumbered (Said C R))) (s u : GateNumbered (Said C R)) (answer : Result (Next T) FlowFault) (new : GateNumbered (Said C R)) → (u.number ≡ s.number) × IsBusy s.token u.token → NextsAfter kind flow us u answer new → NextsAfter kind flow us s answer new
   after_later [] s u answer new busy h = nexts_later s u new answer busy h
   after_later (x ∷ us) s u answer new busy h = (nexts_later s u x (Ok Empty) busy h.0, h.1)
 
   -- a pending poll and then a run is a run
-  pub receives_on : (s u w : NumberedToken (Said C R)) (result : Result T FlowFault) → PollsNext kind flow s Pending u → Receives kind flow u result w → Receives kind flow s result w
-  receives_on s u w result (inl busy) h = (h.0, after_later h.0 s u (taken result) w busy h.1)
+  pub receives_on : (s u w : GateNumbered (Said C R)) (result : Result T FlowFault) → PollsNext kind flow s Pending u → FlowReceives kind flow u result w → FlowReceives kind flow s result w
+  receives_on s u w result (inl busy) h = (h.0, after_later h.0 s u (as_next result) w busy h.1)
   receives_on s u w result (inr called) h = (u ∷ h.0, (called.0, h.1))
 
-  pub receives_at_once : (s u : NumberedToken (Said C R)) (given : Result T MemoryError) → PollsNext kind flow s (Ready given) u → Receives kind flow s (answer_by memory_fault given) u
+  pub receives_at_once : (s u : GateNumbered (Said C R)) (given : Result T MemoryError) → PollsNext kind flow s (Ready given) u → FlowReceives kind flow s (answer_by memory_fault given) u
   receives_at_once s u given h = ([], h.0)
 
-  pub yields_on : (s u : NumberedToken (Said C R)) → PollsNext kind flow s Pending u → (xs : List (Result T MemoryError)) (next : Option (Result T MemoryError)) → Yields kind flow u xs next → Yields kind flow s xs next
+  pub yields_on : (s u : GateNumbered (Said C R)) → PollsNext kind flow s Pending u → (xs : List (Result T MemoryError)) (next : Option (Result T MemoryError)) → Yields kind flow u xs next → Yields kind flow s xs next
   yields_on s u p [] (Some x) h = (h.0, receives_on s u h.0 (answer_by memory_fault x) p h.1)
   yields_on s u p [] None h = absurd h
   yields_on s u p (x ∷ xs) next h = (h.0, receives_on s u h.0 (answer_by memory_fault x) p h.1, h.2)
@@ -96,5 +96,5 @@ module _ {T S C R : Type 0} (kind : Kind T S C R) where
       → (given : Bound × Result T MemoryError) → GivesChanged kind (Some w) given → GivesChanged kind (Some r) given
   changed_later r w is p given h =
       let result = answer_by memory_fault given.1 in
-      let now = subst (λ f. Receives kind f w.subscription result given.0.subscription) is h.1 in
+      let now = subst (λ f. FlowReceives kind f w.subscription result given.0.subscription) is h.1 in
       (h.0 ∙ is, receives_on kind r.flow r.subscription w.subscription given.0.subscription result p now)

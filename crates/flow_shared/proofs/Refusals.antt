@@ -21,48 +21,48 @@ use Rattle.flow_law.proofs.StateLawful.{state_lawful}
 use Rattle.flow_law.proofs.TokenLemmas.{replied_in, next_fault as next_fault_of}
 use Rattle.flow_core.specs.SharedCore.{try_emit_reply, cache_reply}
 use Rattle.flow_core.specs.StateCore as state
-use Rattle.flow_gate.specs.Tokens.{Origin}
-use Rattle.flow_shared.specs.SharedReplies.{SharedToken, Calls, EmitsNow, IsEmitFault, EmitRefusedIfDue, emitted_reply}
-use Rattle.flow_shared.specs.Calls.{NumberedToken, NextsNow}
+use Rattle.flow_gate.specs.Tokens.{GateOrigin}
+use Rattle.flow_shared.specs.SharedReplies.{SharedToken, SharedCalls, EmitsNow, IsEmitFault, EmitRefusedIfDue, emitted_reply}
+use Rattle.flow_shared.specs.Calls.{GateNumbered, NextsNow}
 use Rattle.flow_shared.specs.StateReplies.{StateToken, StateCalls}
 use Rattle.flow_shared.specs.declared.answers.Emitted.{Emitted}
 use Rattle.flow_shared.specs.declared.answers.Emitted.TheVariants as emitted
 
-module _ {T : Type 0} (flow : Origin (SharedFlowState T)) (t u : SharedToken T) where
-  pub emit_fault : (v : T) (fault : FlowFault) → Calls flow t (call.Emit v) (reply.Refused fault) u → IsEmitFault fault
+module _ {T : Type 0} (flow : GateOrigin (SharedFlowState T)) (t u : SharedToken T) where
+  pub emit_fault : (v : T) (fault : FlowFault) → SharedCalls flow t (call.Emit v) (reply.Refused fault) u → IsEmitFault fault
   emit_fault v fault called = let there = replied_in shared_flow shared_lawful flow.first t.knows u.knows (call.Emit v) (reply.Refused fault) called.1 in emit_refused there.0 fault v there.1
 
-  pub next_fault : (n : ℕ) (fault : FlowFault) → Calls flow t (call.TakeNext n) (reply.Refused fault) u → fault ≡ OutOfMemory
+  pub next_fault : (n : ℕ) (fault : FlowFault) → SharedCalls flow t (call.TakeNext n) (reply.Refused fault) u → fault ≡ OutOfMemory
   next_fault n fault called = let there = replied_in shared_flow shared_lawful flow.first t.knows u.knows (call.TakeNext n) (reply.Refused fault) called.1 in next_refused there.0 fault n there.1
 
-  pub try_emit_fault : (v : T) (result : Result Bool (Refused T)) → Calls flow t (call.TryEmit v) (try_emit_reply result) u → IfErr result (λ refused. refused.fault ≡ Exhausted)
+  pub try_emit_fault : (v : T) (result : Result Bool (Refused T)) → SharedCalls flow t (call.TryEmit v) (try_emit_reply result) u → IfErr result (λ refused. refused.fault ≡ Exhausted)
   try_emit_fault v (Ok taken) called = tt
   try_emit_fault v (Err r) called = let there = replied_in shared_flow shared_lawful flow.first t.knows u.knows (call.TryEmit v) (reply.Refused r.fault) called.1 in try_emit_refused there.0 r.fault v there.1
 
-  pub cache_fault : {A : Type 0} (result : Result (Vec T A) FlowFault) → Calls flow t call.ReplayCache (cache_reply result) u → IfErr result (λ fault. fault ≡ OutOfMemory)
+  pub cache_fault : {A : Type 0} (result : Result (Vec T A) FlowFault) → SharedCalls flow t call.ReplayCache (cache_reply result) u → IfErr result (λ fault. fault ≡ OutOfMemory)
   cache_fault (Ok values) called = tt
   cache_fault (Err fault) called = let there = replied_in shared_flow shared_lawful flow.first t.knows u.knows call.ReplayCache (reply.Refused fault) called.1 in cache_refused there.0 fault there.1
 
 -- r is the core's reply, and x the answer to the caller
-pub answer_fault : {T A : Type 0} (flow : Origin (SharedFlowState T)) (t u : SharedToken T) (v : T) (r : SharedReply T) (x : Emitted T A) → emitted_reply x ≡ r → Calls flow t (call.Emit v) r u → EmitRefusedIfDue x
+pub answer_fault : {T A : Type 0} (flow : GateOrigin (SharedFlowState T)) (t u : SharedToken T) (v : T) (r : SharedReply T) (x : Emitted T A) → emitted_reply x ≡ r → SharedCalls flow t (call.Emit v) r u → EmitRefusedIfDue x
 answer_fault flow t u v r (emitted.Done u') is called = tt
 answer_fault flow t u v r (emitted.Queued e) is called = tt
-answer_fault flow t u v r (emitted.Refused u' w fault) is called = emit_fault flow t u v fault (subst (λ z. Calls flow t (call.Emit v) z u) (sym is) called)
+answer_fault flow t u v r (emitted.Refused u' w fault) is called = emit_fault flow t u v fault (subst (λ z. SharedCalls flow t (call.Emit v) z u) (sym is) called)
 
-module _ {T : Type 0} (flow : Origin (StateFlowState T)) (t u : StateToken T) where
+module _ {T : Type 0} (flow : GateOrigin (StateFlowState T)) (t u : StateToken T) where
   pub value_fault : (result : Result T FlowFault) → StateCalls flow t state_call.GetValue (state.value_reply result) u → IfErr result (λ fault. fault ≡ OutOfMemory)
   value_fault (Ok value) called = tt
   value_fault (Err fault) called = let there = replied_in state_flow state_lawful flow.first t.knows u.knows state_call.GetValue _ called.1 in value_refused there.0 fault there.1
 
-  pub state_cache_fault : {A : Type 0} (result : Result (Vec T A) FlowFault) → StateCalls flow t state_call.ReplayCache (state.cache_reply result) u → IfErr result (λ fault. fault ≡ OutOfMemory)
+  pub state_cache_fault : {A : Type 0} (result : Result (Vec T A) FlowFault) → StateCalls flow t state_call.ReplayCache (state.state_cache_reply result) u → IfErr result (λ fault. fault ≡ OutOfMemory)
   state_cache_fault (Ok values) called = tt
   state_cache_fault (Err fault) called = let there = replied_in state_flow state_lawful flow.first t.knows u.knows state_call.ReplayCache _ called.1 in state_cache_refused there.0 fault there.1
 
-module _ {T : Type 0} (flow : Origin (SharedFlowState T)) (t u : SharedToken T) where
-  pub subscribe_fault : (name : List ℕ) (first : List T) (fault : FlowFault) → Calls flow t (call.Subscribe name first) (reply.Refused fault) u → IsEmitFault fault
+module _ {T : Type 0} (flow : GateOrigin (SharedFlowState T)) (t u : SharedToken T) where
+  pub subscribe_fault : (name : List ℕ) (first : List T) (fault : FlowFault) → SharedCalls flow t (call.Subscribe name first) (reply.Refused fault) u → IsEmitFault fault
   subscribe_fault name first fault called = let there = replied_in shared_flow shared_lawful flow.first t.knows u.knows (call.Subscribe name first) (reply.Refused fault) called.1 in subscribe_refused there.0 fault name first there.1
 
-module _ {T : Type 0} (A : Type 0) (flow : Origin (SharedFlowState T)) where
+module _ {T : Type 0} (A : Type 0) (flow : GateOrigin (SharedFlowState T)) where
   -- an emission that does not wait is refused as `emit` is, or is Busy
   pub emit_now_fault : (t u : SharedToken T) (v w : T) (fault : FlowFault) → EmitsNow {A = A} flow t v (emitted.Refused u w fault) → IsEmitFault fault ⊎ (fault ≡ Busy)
   emit_now_fault t u v w OutOfMemory h = inl (emit_fault flow t u v OutOfMemory h.1.0)
@@ -72,7 +72,7 @@ module _ {T : Type 0} (A : Type 0) (flow : Origin (SharedFlowState T)) where
   emit_now_fault t u v w Unsupported h = inl (emit_fault flow t u v Unsupported h.1.0)
   emit_now_fault t u v w Busy h = inr refl
 
-module _ {T S C R : Type 0} (kind : Kind T S C R) (law : Lawful kind) (flow : Origin S) (s u : NumberedToken (Said C R)) where
+module _ {T S C R : Type 0} (kind : Kind T S C R) (law : Lawful kind) (flow : GateOrigin S) (s u : GateNumbered (Said C R)) where
   given_fault : (fault : FlowFault) → CallsAtOnceIn kind flow.first s.token (kind.take_next s.number) (kind.refused fault) u.token → (fault ≡ OutOfMemory) ⊎ (fault ≡ Busy)
   given_fault fault called = inl (next_fault_of kind law flow.first s.token.knows u.token.knows s.number (Err fault) called.0.1)
 

@@ -11,14 +11,14 @@ use Rattle.flow_law.specs.Handles.{CallerOf}
 use Rattle.flow_law.specs.StateFlow.{state_flow}
 use Rattle.flow_law.specs.Tokens.{CallsIn}
 use Rattle.flow_law.specs.Updates.{IsRound, LosesRounds, one_lost, Updates, ReadsInVain, StopsAt, Refuses, RefusesOrKeepsNone}
-use Rattle.flow_gate.specs.Tokens.{Origin}
+use Rattle.flow_gate.specs.Tokens.{GateOrigin}
 use Rattle.flow_shared.specs.StateReplies.{StateToken}
 
 abbrev StateCaller : Type 0 → Type 0
 StateCaller T = CallerOf TableId (StateFlowState T) (Said (StateCall T) (StateReply T))
 
 -- one round: the handle is `now` before it, `mid` after its read, and `end` after it
-module _ {T : Type 0} (flow : Origin (StateFlowState T)) (Gives : T → T → Type 0) (now mid end : StateCaller T) (x y : T) where
+module _ {T : Type 0} (flow : GateOrigin (StateFlowState T)) (Gives : T → T → Type 0) (now mid end : StateCaller T) (x y : T) where
   -- the handles are of this flow, the value x was read, and the function returned y
   pub record Reads : Type 0 where
     pub of_flow : now.flow ≡ flow
@@ -41,7 +41,7 @@ module _ {T : Type 0} (flow : Origin (StateFlowState T)) (Gives : T → T → Ty
   won_by before lost r exchanged = record { between = now.token; lost = lost; won = round_by true r exchanged }
 
 -- a read in vain: the handle is `now` before it, and `end` after it
-pub stopped_by : {T : Type 0} (flow : Origin (StateFlowState T)) (Gives : T → T → Type 0) (Stops : T → Type 0) (now end : StateCaller T) (before : StateToken T)
+pub stopped_by : {T : Type 0} (flow : GateOrigin (StateFlowState T)) (Gives : T → T → Type 0) (Stops : T → Type 0) (now end : StateCaller T) (before : StateToken T)
     → LosesRounds flow.first Gives before now.token → now.flow ≡ flow → ReadsInVain now.flow.first Stops now.token end.token → StopsAt flow.first Gives Stops before end.token
 stopped_by flow Gives Stops now end before lost of_flow vain =
     record { between = now.token; lost = lost; stopped = subst (λ f. ReadsInVain f.first Stops now.token end.token) of_flow vain }

@@ -9,8 +9,8 @@ use Rattle.flow_law.specs.declared.call.SharedCall.{SharedCall}
 use Rattle.flow_law.specs.declared.call.SharedReply.{SharedReply}
 use Rattle.flow_law.specs.declared.states.SharedFlowState.{SharedFlowState}
 use Rattle.flow_law.specs.Handles.{CallerOf, ReaderOf}
-use Rattle.flow_gate.specs.Tokens.{Origin, Token}
-use Rattle.flow_shared.specs.Calls.{NumberedToken}
+use Rattle.flow_gate.specs.Tokens.{GateOrigin, GateToken}
+use Rattle.flow_shared.specs.Calls.{GateNumbered}
 use Rattle.flow_shared.specs.SharedReplies.{SharedToken}
 use Rattle.flow_shared.specs.BoundEmissions.{EmissionOf}
 use Rattle.flow_shared.specs.declared.answers.Emitted.{Emitted}
@@ -42,7 +42,7 @@ module _ {T A : Type 0} where
   emitted_by fault_of (emit_answer.Refused c r) = emitted.Refused c.token r.value (fault_of r.error)
 
   -- the flow of the handle that the answer has
-  abbrev pub emitted_flow : {E : Type 0} → EmitAnswer T E A → Origin (SharedFlowState T)
+  abbrev pub emitted_flow : {E : Type 0} → EmitAnswer T E A → GateOrigin (SharedFlowState T)
   emitted_flow (emit_answer.Done c) = c.flow
   emitted_flow (emit_answer.Queued e) = e.flow
   emitted_flow (emit_answer.Refused c r) = c.flow
@@ -50,12 +50,12 @@ module _ {T A : Type 0} where
   -- ---- a poll
 
   -- the flow's own answer to a poll
-  abbrev pub polled_by : PollAnswer T A → Polled T A
-  polled_by (poll_answer.Done c) = polled.Done c.token
-  polled_by (poll_answer.Waiting e) = polled.Waiting e.emission
+  abbrev pub own_polled : PollAnswer T A → Polled T A
+  own_polled (poll_answer.Done c) = polled.Done c.token
+  own_polled (poll_answer.Waiting e) = polled.Waiting e.emission
 
   -- the flow of the handle that a poll gives back
-  abbrev pub polled_flow : PollAnswer T A → Origin (SharedFlowState T)
+  abbrev pub polled_flow : PollAnswer T A → GateOrigin (SharedFlowState T)
   polled_flow (poll_answer.Done c) = c.flow
   polled_flow (poll_answer.Waiting e) = e.flow
 
@@ -66,7 +66,7 @@ module _ {T A : Type 0} where
   polled_now_by (Err e) = polled_now.Busy e.emission
 
   -- the flow of the handle that a poll which does not wait gives back
-  abbrev pub polled_now_flow : Result (PollAnswer T A) (EmissionOf T) → Origin (SharedFlowState T)
+  abbrev pub polled_now_flow : Result (PollAnswer T A) (EmissionOf T) → GateOrigin (SharedFlowState T)
   polled_now_flow (Ok p) = polled_flow p
   polled_now_flow (Err e) = e.flow
 
@@ -74,12 +74,12 @@ module _ {T A : Type 0} where
 
 module _ {S E : Type 0} where
   -- the flow's own answer to an unsubscribe
-  abbrev pub left_by : Result (CallerOf TableId S E) (ReaderOf TableId S E) → Result (Token E) (NumberedToken E)
+  abbrev pub left_by : Result (CallerOf TableId S E) (ReaderOf TableId S E) → Result (GateToken E) (GateNumbered E)
   left_by (Ok c) = Ok c.token
   left_by (Err r) = Err r.subscription
 
   -- the flow of the handle that an unsubscribe gives back
-  abbrev pub left_flow : Result (CallerOf TableId S E) (ReaderOf TableId S E) → Origin S
+  abbrev pub left_flow : Result (CallerOf TableId S E) (ReaderOf TableId S E) → GateOrigin S
   left_flow (Ok c) = c.flow
   left_flow (Err r) = r.flow
 
@@ -91,11 +91,11 @@ SharedCaller T = CallerOf TableId (SharedFlowState T) (Said (SharedCall T) (Shar
 
 module _ {T : Type 0} where
   -- the flow's own answer to a cancel
-  abbrev pub cancelled_by : Result (SharedCaller T × Bool) (EmissionOf T) → Result (SharedToken T × Bool) (NumberedToken (Said (SharedCall T) (SharedReply T)))
+  abbrev pub cancelled_by : Result (SharedCaller T × Bool) (EmissionOf T) → Result (SharedToken T × Bool) (GateNumbered (Said (SharedCall T) (SharedReply T)))
   cancelled_by (Ok ended) = Ok (ended.0.token, ended.1)
   cancelled_by (Err e) = Err e.emission
 
   -- the flow of the handle that a cancel gives back
-  abbrev pub cancelled_flow : Result (SharedCaller T × Bool) (EmissionOf T) → Origin (SharedFlowState T)
+  abbrev pub cancelled_flow : Result (SharedCaller T × Bool) (EmissionOf T) → GateOrigin (SharedFlowState T)
   cancelled_flow (Ok ended) = ended.0.flow
   cancelled_flow (Err e) = e.flow

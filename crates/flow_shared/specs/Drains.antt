@@ -1,5 +1,5 @@
 -- Draining in one entry: what the calls of the core do in a row, and the events with which the caller leaves.
-use Rattle.std.specs.Prelude.{◌≡◌, ℕ, List, [], ◌∷◌, ◌++◌, map, length, drop, Result, Ok, Err}
+use Rattle.std.specs.Prelude.{◌≡◌, ℕ, List, [], ◌∷◌, ◌++◌, map, length, drop, Some, Result, Ok, Err}
 use Rattle.flow_law.specs.declared.fault.FlowFault.{FlowFault}
 use Rattle.flow_law.specs.declared.history.Said.{Said}
 use Rattle.flow_law.specs.declared.outcome.Next.{Next}
@@ -12,7 +12,7 @@ use Rattle.flow_law.specs.History.{Kind, replied}
 use Rattle.flow_law.specs.OneHistory.{said}
 use Rattle.flow_law.specs.Standing.{Documents}
 use Rattle.flow_law.specs.Tokens.{knowing}
-use Rattle.flow_gate.specs.Tokens.{Token, HeldState}
+use Rattle.flow_gate.specs.Tokens.{SeatState, idle_seat}
 
 module _ {T S C R : Type 0} (kind : Kind T S C R) (number : ℕ) where
   -- one `next` of a core of this kind
@@ -35,7 +35,9 @@ module _ {T S C R : Type 0} (kind : Kind T S C R) (number : ℕ) where
   said_since old new result = said_values (drop (length old) new) ++ said_end result
 
   -- A caller that was inside took these values and left.
-  pub record TakesInside {K : Type 0} (StandsAs : K → S → Type 0) (most : ℕ) (held : HeldState K (Said C R)) (old_list : List T) (result : Result Drained FlowFault) (new_list : List T) (after : Token (Said C R)) : Type 0 where
+  pub record TakesInside {K : Type 0} (StandsAs : K → S → Type 0) (most : ℕ) (before : SeatState K (Said C R)) (old_list : List T) (result : Result Drained FlowFault) (new_list : List T) (after : SeatState K (Said C R)) : Type 0 where
+    pub state : K
+    pub held : before.held ≡ Some state
     pub core : K
-    pub takes : TakesBy (CoreNexts StandsAs) most held.state old_list result new_list core
-    pub left : after ≡ knowing held.token (adds (said_values takes.values ++ said_end result) held.token.knows)
+    pub takes : TakesBy (CoreNexts StandsAs) most state old_list result new_list core
+    pub left : after ≡ idle_seat (knowing before.token (adds (said_values takes.values ++ said_end result) before.token.knows))

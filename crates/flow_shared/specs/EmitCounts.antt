@@ -1,16 +1,12 @@
 -- How many events with a name are an `emit`.
-use Rattle.std.specs.Prelude.{ℕ, ◌+◌, nat_eq, Bool, true, List, [], ◌∷◌, Option, Some, None}
+use Rattle.std.specs.Prelude.{ℕ, ◌+◌, Bool, true, List, [], ◌∷◌, Option, Some, None}
 use Rattle.flow_law.specs.declared.history.HistoryEvent.{HistoryEvent}
 use Rattle.flow_law.specs.declared.history.Said.{Said}
 use Rattle.flow_law.specs.declared.call.SharedCall.{SharedCall}
 use Rattle.flow_law.specs.declared.call.SharedCall.TheVariants.{Emit}
 use Rattle.flow_law.specs.declared.call.SharedReply.{SharedReply}
-use Rattle.flow_law.specs.Values.{is_same_list}
+use Rattle.flow_law.specs.Done.{is_same_name}
 use Rattle.flow_shared.specs.SharedReplies.{SharedToken}
-
--- the names are the same
-abbrev pub is_same_name : List ℕ → List ℕ → Bool
-is_same_name = is_same_list nat_eq
 
 module _ {T : Type 0} where
   -- 1 for an `emit` of an event with this name, else 0
@@ -24,6 +20,6 @@ module _ {T : Type 0} where
   emits name (e ∷ es) = emit_of (is_same_name name e.name) e.what.call + emits name es
 
   -- how many `emit`s the token has made
-  abbrev pub emitted : Option (SharedToken T) → ℕ
-  emitted (Some t) = emits t.knows.name t.knows.seen
-  emitted None = 0
+  abbrev pub emits_made : Option (SharedToken T) → ℕ
+  emits_made (Some t) = emits t.knows.name t.knows.seen
+  emits_made None = 0

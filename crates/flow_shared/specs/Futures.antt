@@ -11,13 +11,13 @@ use Rattle.flow_law.specs.declared.call.SharedReply.{SharedReply}
 use Rattle.flow_law.specs.declared.call.SharedReply.TheVariants as reply
 use Rattle.flow_law.specs.declared.states.SharedFlowState.{SharedFlowState}
 use Rattle.flow_law.specs.Tokens.{IsBusy}
-use Rattle.flow_gate.specs.Tokens.{Origin}
-use Rattle.flow_shared.specs.Calls.{NumberedToken}
-use Rattle.flow_shared.specs.SharedReplies.{SharedToken, CallsAtOnce}
+use Rattle.flow_gate.specs.Tokens.{GateOrigin}
+use Rattle.flow_shared.specs.Calls.{GateNumbered}
+use Rattle.flow_shared.specs.SharedReplies.{SharedToken, SharedCallsAtOnce}
 
 -- a subscription to a shared flow, or an emission into one
 abbrev pub SharedNumbered : Type 0 → Type 0
-SharedNumbered T = NumberedToken (Said (SharedCall T) (SharedReply T))
+SharedNumbered T = GateNumbered (Said (SharedCall T) (SharedReply T))
 
 module _ {T : Type 0} where
   -- what `emit`, `poll` and `next` reply to a caller that has to ask again: the emission waits, or there is no value
@@ -30,15 +30,15 @@ module _ {T : Type 0} where
 
   module _ {Answer : Type 0} (Says : Answer → SharedReply T → Type 0) where
     -- pending if the reply is a wait, else ready with an answer that says what the reply says
-    abbrev pub PassesOn : Polled Answer → SharedReply T → Type 0
-    PassesOn Pending r = is_wait r ≡ true
-    PassesOn (Ready answer) r = (is_wait r ≡ false) × Says answer r
+    abbrev pub AnswersAs : Polled Answer → SharedReply T → Type 0
+    AnswersAs Pending r = is_wait r ≡ true
+    AnswersAs (Ready answer) r = (is_wait r ≡ false) × Says answer r
 
     -- The poll was busy: one exchange was lost, nothing else has changed, and it is pending. Or it made this one call, lost no
     -- exchange, and passes the reply on.
-    abbrev pub PollsOnce : Origin (SharedFlowState T) → SharedToken T → SharedCall T → Polled Answer → SharedToken T → Type 0
-    PollsOnce flow before call polled after = (IsBusy before after × (polled ≡ Pending)) ⊎ ((r : SharedReply T) × CallsAtOnce flow before call r after × PassesOn polled r)
+    abbrev pub PollsOnce : GateOrigin (SharedFlowState T) → SharedToken T → SharedCall T → Polled Answer → SharedToken T → Type 0
+    PollsOnce flow before call polled after = (IsBusy before after × (polled ≡ Pending)) ⊎ ((r : SharedReply T) × SharedCallsAtOnce flow before call r after × AnswersAs polled r)
 
     -- While the future holds a token, each poll is busy or makes this one call through it, and does not lose the token.
-    abbrev pub OneEach : Origin (SharedFlowState T) → Option (SharedToken T × SharedCall T) → Polled Answer → Option (SharedToken T) → Type 0
+    abbrev pub OneEach : GateOrigin (SharedFlowState T) → Option (SharedToken T × SharedCall T) → Polled Answer → Option (SharedToken T) → Type 0
     OneEach flow held polled after = IfSome held (λ h. (t : SharedToken T) × (after ≡ Some t) × PollsOnce flow h.0 h.1 polled t)

@@ -1,4 +1,4 @@
-pub mod Tokens
+pub mod CoreCalls
 pub mod Attended
 pub mod Calls
 pub mod Drains

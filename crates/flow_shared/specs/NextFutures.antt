@@ -13,13 +13,13 @@ use Rattle.flow_law.specs.declared.call.SharedReply.{SharedReply}
 use Rattle.flow_law.specs.declared.call.SharedReply.TheVariants as reply
 use Rattle.flow_law.specs.declared.states.SharedFlowState.{SharedFlowState}
 use Rattle.flow_law.specs.Tokens.{IsBusy}
-use Rattle.flow_gate.specs.Tokens.{Origin}
+use Rattle.flow_gate.specs.Tokens.{GateOrigin}
 use Rattle.flow_shared.specs.Futures.{SharedNumbered}
-use Rattle.flow_shared.specs.SharedReplies.{SharedToken, Calls, CallsAtOnce}
+use Rattle.flow_shared.specs.SharedReplies.{SharedToken, SharedCalls, SharedCallsAtOnce}
 
 -- a next future: its flow, and its subscription until it was ready
 pub record Receiving (T : Type 0) : Type 0 where
-  pub flow : Origin (SharedFlowState T)
+  pub flow : GateOrigin (SharedFlowState T)
   pub subscription : Option (SharedNumbered T)
 
 -- what a next future gives: its subscription, and a value or a refusal
@@ -28,7 +28,7 @@ Received T = SharedNumbered T × Result T FlowFault
 
 module _ {T : Type 0} where
   -- the future of this flow and this subscription
-  abbrev pub receiving : Origin (SharedFlowState T) → Option (SharedNumbered T) → Receiving T
+  abbrev pub receiving : GateOrigin (SharedFlowState T) → Option (SharedNumbered T) → Receiving T
   receiving flow subscription = record { flow = flow; subscription = subscription }
 
   -- the subscription is to this flow
@@ -43,32 +43,32 @@ module _ {T : Type 0} where
   given_by (Err fault) = Some (Err fault)
 
   -- the reply that ends the wait
-  abbrev pub Says : Received T → SharedReply T → Type 0
-  Says (s, Ok v) r = r ≡ reply.Received (Value v)
-  Says (s, Err fault) r = r ≡ reply.Refused fault
+  abbrev pub SaysReceived : Received T → SharedReply T → Type 0
+  SaysReceived (s, Ok v) r = r ≡ reply.Received (Value v)
+  SaysReceived (s, Err fault) r = r ≡ reply.Refused fault
 
   -- if nothing was received, the fault is `OutOfMemory`
-  abbrev pub IsRefusedIfDue : Received T → Type 0
-  IsRefusedIfDue r = IfErr r.1 (λ fault. fault ≡ OutOfMemory)
+  abbrev pub ReceivedRefusedIfDue : Received T → Type 0
+  ReceivedRefusedIfDue r = IfErr r.1 (λ fault. fault ≡ OutOfMemory)
 
   -- the token that the future holds, and the call that it makes through it
-  abbrev pub held : Option (SharedNumbered T) → Option (SharedToken T × SharedCall T)
-  held (Some s) = Some (s.token, call.TakeNext s.number)
-  held None = None
+  abbrev pub held_by_next : Option (SharedNumbered T) → Option (SharedToken T × SharedCall T)
+  held_by_next (Some s) = Some (s.token, call.TakeNext s.number)
+  held_by_next None = None
 
   -- the token after a poll: the answer has it, or the future if the poll is pending
-  abbrev pub token_after : Polled (Received T) → Option (SharedNumbered T) → Option (SharedToken T)
-  token_after (Ready r) new = Some r.0.token
-  token_after Pending (Some s) = Some s.token
-  token_after Pending None = None
+  abbrev pub token_after_next : Polled (Received T) → Option (SharedNumbered T) → Option (SharedToken T)
+  token_after_next (Ready r) new = Some r.0.token
+  token_after_next Pending (Some s) = Some s.token
+  token_after_next Pending None = None
 
-  module _ (flow : Origin (SharedFlowState T)) where
+  module _ (flow : GateOrigin (SharedFlowState T)) where
     -- One poll, by the subscription before it, its answer and the subscription after it. A busy poll has lost one exchange; a poll
     -- after the end does nothing; any other poll makes one call, and is ready if that gave a value or was refused.
     abbrev pub NextPolls : Option (SharedNumbered T) → Polled (Received T) → Option (SharedNumbered T) → Type 0
-    NextPolls (Some s) Pending (Some u) = (u.number ≡ s.number) × (IsBusy s.token u.token ⊎ CallsAtOnce flow s.token (call.TakeNext s.number) (reply.Received Empty) u.token)
-    NextPolls (Some s) (Ready (u, Ok v)) None = (u.number ≡ s.number) × CallsAtOnce flow s.token (call.TakeNext s.number) (reply.Received (Value v)) u.token
-    NextPolls (Some s) (Ready (u, Err fault)) None = (u.number ≡ s.number) × (fault ≢ Busy) × CallsAtOnce flow s.token (call.TakeNext s.number) (reply.Refused fault) u.token
+    NextPolls (Some s) Pending (Some u) = (u.number ≡ s.number) × (IsBusy s.token u.token ⊎ SharedCallsAtOnce flow s.token (call.TakeNext s.number) (reply.Received Empty) u.token)
+    NextPolls (Some s) (Ready (u, Ok v)) None = (u.number ≡ s.number) × SharedCallsAtOnce flow s.token (call.TakeNext s.number) (reply.Received (Value v)) u.token
+    NextPolls (Some s) (Ready (u, Err fault)) None = (u.number ≡ s.number) × (fault ≢ Busy) × SharedCallsAtOnce flow s.token (call.TakeNext s.number) (reply.Refused fault) u.token
     NextPolls None Pending None = ⊤
     NextPolls _ _ _ = ⊥
 
@@ -76,19 +76,19 @@ module _ {T : Type 0} where
 
     -- calls of `next` that found nothing, by the tokens after each, and then one with this reply
     abbrev pub FindsAfter : List (SharedToken T) → SharedCall T → SharedReply T → SharedToken T → SharedToken T → Type 0
-    FindsAfter [] next r t after = Calls flow t next r after
-    FindsAfter (u ∷ us) next r t after = Calls flow t next (reply.Received Empty) u × FindsAfter us next r u after
+    FindsAfter [] next r t after = SharedCalls flow t next r after
+    FindsAfter (u ∷ us) next r t after = SharedCalls flow t next (reply.Received Empty) u × FindsAfter us next r u after
 
     -- some calls find nothing, and one has this reply
     abbrev pub FindsInTheEnd : SharedCall T → SharedReply T → SharedToken T → SharedToken T → Type 0
     FindsInTheEnd next r t after = (us : List (SharedToken T)) × FindsAfter us next r t after
 
     -- what the future may give: after some calls of `next` that found nothing, the value or the refusal of one more
-    abbrev pub Receives : Option (SharedNumbered T) → Received T → Type 0
-    Receives (Some s) (u, Ok v) = (u.number ≡ s.number) × FindsInTheEnd (call.TakeNext s.number) (reply.Received (Value v)) s.token u.token
-    Receives (Some s) (u, Err fault) = (u.number ≡ s.number) × (fault ≡ OutOfMemory) × FindsInTheEnd (call.TakeNext s.number) (reply.Refused fault) s.token u.token
-    Receives None r = ⊥
+    abbrev pub FutureReceives : Option (SharedNumbered T) → Received T → Type 0
+    FutureReceives (Some s) (u, Ok v) = (u.number ≡ s.number) × FindsInTheEnd (call.TakeNext s.number) (reply.Received (Value v)) s.token u.token
+    FutureReceives (Some s) (u, Err fault) = (u.number ≡ s.number) × (fault ≡ OutOfMemory) × FindsInTheEnd (call.TakeNext s.number) (reply.Refused fault) s.token u.token
+    FutureReceives None r = ⊥
 
   -- what the future may give; the subscription in it is to the future's flow
   abbrev pub GivesReceived : Receiving T → Received T → Type 0
-  GivesReceived f r = (r.0.token.table_id ≡ f.flow.table_id) × Receives f.flow f.subscription r
+  GivesReceived f r = (r.0.token.table_id ≡ f.flow.table_id) × FutureReceives f.flow f.subscription r

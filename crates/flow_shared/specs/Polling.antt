@@ -14,9 +14,9 @@ use Rattle.flow_law.specs.HandleFaults.{answer_by, memory_fault}
 use Rattle.flow_law.specs.Handles.{ReaderOf}
 use Rattle.flow_law.specs.History.{Kind}
 use Rattle.flow_law.specs.Tokens.{IsBusy}
-use Rattle.flow_gate.specs.Tokens.{Origin}
-use Rattle.flow_shared.specs.Calls.{NumberedToken, NextsOf}
-use Rattle.flow_shared.specs.Receiving.{Receives, taken}
+use Rattle.flow_gate.specs.Tokens.{GateOrigin}
+use Rattle.flow_shared.specs.Calls.{GateNumbered, NextsOf}
+use Rattle.flow_shared.specs.Receiving.{FlowReceives, as_next}
 
 -- what a poll returns for this answer of the flow
 abbrev pub polled_by : {T : Type 0} → Result (Next T) FlowFault → Polled (Result T MemoryError)
@@ -25,27 +25,27 @@ polled_by (Ok _) = Pending
 polled_by (Err Busy) = Pending
 polled_by (Err fault) = Ready (Err (record {}))
 
-module _ {T S C R : Type 0} (kind : Kind T S C R) (flow : Origin S) where
+module _ {T S C R : Type 0} (kind : Kind T S C R) (flow : GateOrigin S) where
   -- one call of `next`, which lost no exchange
-  abbrev pub NextsAtOnce : NumberedToken (Said C R) → Result (Next T) FlowFault → NumberedToken (Said C R) → Type 0
+  abbrev pub NextsAtOnce : GateNumbered (Said C R) → Result (Next T) FlowFault → GateNumbered (Said C R) → Type 0
   NextsAtOnce old result new = NextsOf kind flow old result new × (new.token.knows.lost ≡ old.token.knows.lost)
 
   -- One poll: it was busy and lost one exchange, or it made one call of `next`, and is ready if that gave a value or was refused.
-  abbrev pub PollsNext : NumberedToken (Said C R) → Polled (Result T MemoryError) → NumberedToken (Said C R) → Type 0
+  abbrev pub PollsNext : GateNumbered (Said C R) → Polled (Result T MemoryError) → GateNumbered (Said C R) → Type 0
   PollsNext old Pending new = ((new.number ≡ old.number) × IsBusy old.token new.token) ⊎ NextsAtOnce old (Ok Empty) new
-  PollsNext old (Ready given) new = NextsAtOnce old (taken (answer_by memory_fault given)) new
+  PollsNext old (Ready given) new = NextsAtOnce old (as_next (answer_by memory_fault given)) new
 
   -- one poll of a stream, which does not end
-  abbrev pub PollsItem : NumberedToken (Said C R) → Polled (Option (Result T MemoryError)) → NumberedToken (Said C R) → Type 0
+  abbrev pub PollsItem : GateNumbered (Said C R) → Polled (Option (Result T MemoryError)) → GateNumbered (Said C R) → Type 0
   PollsItem old Pending new = PollsNext old Pending new
   PollsItem old (Ready (Some given)) new = PollsNext old (Ready given) new
   PollsItem old (Ready None) new = ⊥
 
   -- each item is what one `receive` may give, in order, and the stream does not end
-  abbrev pub Yields : NumberedToken (Said C R) → List (Result T MemoryError) → Option (Result T MemoryError) → Type 0
-  Yields old [] (Some x) = (u : NumberedToken (Said C R)) × Receives kind flow old (answer_by memory_fault x) u
+  abbrev pub Yields : GateNumbered (Said C R) → List (Result T MemoryError) → Option (Result T MemoryError) → Type 0
+  Yields old [] (Some x) = (u : GateNumbered (Said C R)) × FlowReceives kind flow old (answer_by memory_fault x) u
   Yields old [] None = ⊥
-  Yields old (x ∷ xs) next = (u : NumberedToken (Said C R)) × Receives kind flow old (answer_by memory_fault x) u × Yields u xs next
+  Yields old (x ∷ xs) next = (u : GateNumbered (Said C R)) × FlowReceives kind flow old (answer_by memory_fault x) u × Yields u xs next
 
 -- One poll of a future of a reader, by the reader before it, its answer and the reader after it. A poll after `Ready` does nothing.
 abbrev pub PollsChange : {T S C R : Type 0} → Kind T S C R → Option (ReaderOf TableId S (Said C R)) → Polled (ReaderOf TableId S (Said C R) × Result T MemoryError) → Option (ReaderOf TableId S (Said C R)) → Type 0
@@ -56,5 +56,5 @@ PollsChange kind _ _ _ = ⊥
 
 -- what a future of a reader may give: the reader, and the value that it received or its refusal; nothing more after `Ready`
 abbrev pub GivesChanged : {T S C R : Type 0} → Kind T S C R → Option (ReaderOf TableId S (Said C R)) → ReaderOf TableId S (Said C R) × Result T MemoryError → Type 0
-GivesChanged kind (Some reader) given = (given.0.flow ≡ reader.flow) × Receives kind reader.flow reader.subscription (answer_by memory_fault given.1) given.0.subscription
+GivesChanged kind (Some reader) given = (given.0.flow ≡ reader.flow) × FlowReceives kind reader.flow reader.subscription (answer_by memory_fault given.1) given.0.subscription
 GivesChanged kind None given = ⊥

@@ -15,28 +15,32 @@ use Rattle.flow_law.specs.History.{IsEmission}
 use Rattle.flow_law.specs.SharedHistory.{shared_flow}
 use Rattle.flow_law.specs.declared.states.SharedFlowState.{SharedFlowState}
 use Rattle.flow_law.specs.Tokens.{IsBusy}
-use Rattle.flow_gate.specs.Tokens.{Token, Origin}
+use Rattle.flow_gate.specs.Tokens.{GateToken, GateOrigin}
 use Rattle.flow_shared.specs.declared.answers.Emitted.{Emitted}
 use Rattle.flow_shared.specs.declared.answers.Emitted.TheVariants as emitted
 use Rattle.flow_shared.specs.declared.answers.Polled.{Polled}
 use Rattle.flow_shared.specs.declared.answers.Polled.TheVariants as polled
 use Rattle.flow_shared.specs.declared.answers.PolledNow.{PolledNow}
 use Rattle.flow_shared.specs.declared.answers.PolledNow.TheVariants as polled_now
-use Rattle.flow_shared.specs.Calls.{NumberedToken}
+use Rattle.flow_shared.specs.Calls.{GateNumbered}
 use Rattle.flow_shared.specs.Calls as flows
 
 -- a token of a shared flow
 abbrev pub SharedToken : Type 0 → Type 0
-SharedToken T = Token (Said (SharedCall T) (SharedReply T))
+SharedToken T = GateToken (Said (SharedCall T) (SharedReply T))
 
-module _ {T : Type 0} (flow : Origin (SharedFlowState T)) where
+module _ {T : Type 0} (flow : GateOrigin (SharedFlowState T)) where
   -- the call adds one event, with this reply, to what the token has seen
-  abbrev pub Calls : SharedToken T → SharedCall T → SharedReply T → SharedToken T → Type 0
-  Calls = flows.Calls shared_flow flow
+  abbrev pub SharedCalls : SharedToken T → SharedCall T → SharedReply T → SharedToken T → Type 0
+  SharedCalls = flows.Calls shared_flow flow
 
-  -- `Calls`, and no exchange was lost
-  abbrev pub CallsAtOnce : SharedToken T → SharedCall T → SharedReply T → SharedToken T → Type 0
-  CallsAtOnce = flows.CallsAtOnce shared_flow flow
+  -- `SharedCalls`, and no exchange was lost
+  abbrev pub SharedCallsAtOnce : SharedToken T → SharedCall T → SharedReply T → SharedToken T → Type 0
+  SharedCallsAtOnce = flows.CallsAtOnce shared_flow flow
+
+  -- `SharedCalls`; if the call does not wait, no exchange was lost
+  abbrev pub SharedCallsBy : Type 0 → SharedToken T → SharedCall T → SharedReply T → SharedToken T → Type 0
+  SharedCallsBy at_once = flows.CallsBy shared_flow flow at_once
 
 -- why an `emit` is refused
 abbrev pub IsEmitFault : FlowFault → Type 0
@@ -82,58 +86,69 @@ module _ {T A : Type 0} where
   KeepsNumber number (polled.Waiting e) = e.number ≡ number
   KeepsNumber number _ = ⊤
 
-  module _ (flow : Origin (SharedFlowState T)) where
+  module _ (flow : GateOrigin (SharedFlowState T)) where
     -- the call is one event, with the reply and the token that the answer has; a refusal returns the value
     abbrev pub Emits : SharedToken T → T → Emitted T A → Type 0
-    Emits before value answer = Calls flow before (call.Emit value) (emitted_reply answer) (emitted_token answer) × HandsBack value answer
+    Emits before value answer = SharedCalls flow before (call.Emit value) (emitted_reply answer) (emitted_token answer) × HandsBack value answer
 
     -- a poll of an emission
-    abbrev pub Polls : NumberedToken (Said (SharedCall T) (SharedReply T)) → Polled T A → Type 0
-    Polls e answer = Calls flow e.token (call.Poll e.number) (polled_reply answer) (polled_token answer) × KeepsNumber e.number answer
+    abbrev pub Polls : GateNumbered (Said (SharedCall T) (SharedReply T)) → Polled T A → Type 0
+    Polls e answer = SharedCalls flow e.token (call.Poll e.number) (polled_reply answer) (polled_token answer) × KeepsNumber e.number answer
+
+    -- ---- calls that wait, or do not: `at_once` says which
+
+    -- an `emit`
+    abbrev pub EmitsBy : Type 0 → SharedToken T → T → Emitted T A → Type 0
+    EmitsBy at_once before value (emitted.Done t) = SharedCallsBy flow at_once before (call.Emit value) (reply.Emitted Done) t
+    EmitsBy at_once before value (emitted.Queued e) = SharedCallsBy flow at_once before (call.Emit value) (reply.Emitted (Queued e.number)) e.token
+    EmitsBy at_once before value (emitted.Refused t v Busy) = (v ≡ value) × (at_once × IsBusy before t)
+    EmitsBy at_once before value (emitted.Refused t v fault) = (v ≡ value) × SharedCallsBy flow at_once before (call.Emit value) (reply.Refused fault) t
+
+    -- a poll
+    abbrev pub PollsBy : Type 0 → GateNumbered (Said (SharedCall T) (SharedReply T)) → PolledNow T A → Type 0
+    PollsBy at_once e (polled_now.Done t) = SharedCallsBy flow at_once e.token (call.Poll e.number) (reply.Tested false) t
+    PollsBy at_once e (polled_now.Waiting f) = (f.number ≡ e.number) × SharedCallsBy flow at_once e.token (call.Poll e.number) (reply.Tested true) f.token
+    PollsBy at_once e (polled_now.Busy f) = (f.number ≡ e.number) × (at_once × IsBusy e.token f.token)
 
     -- ---- calls that do not wait: Busy exactly if one exchange was lost
 
     -- an `emit` that does not wait
     abbrev pub EmitsNow : SharedToken T → T → Emitted T A → Type 0
-    EmitsNow before value (emitted.Done t) = CallsAtOnce flow before (call.Emit value) (reply.Emitted Done) t
-    EmitsNow before value (emitted.Queued e) = CallsAtOnce flow before (call.Emit value) (reply.Emitted (Queued e.number)) e.token
+    EmitsNow before value (emitted.Done t) = SharedCallsAtOnce flow before (call.Emit value) (reply.Emitted Done) t
+    EmitsNow before value (emitted.Queued e) = SharedCallsAtOnce flow before (call.Emit value) (reply.Emitted (Queued e.number)) e.token
     EmitsNow before value (emitted.Refused t v Busy) = (v ≡ value) × IsBusy before t
-    EmitsNow before value (emitted.Refused t v fault) = (v ≡ value) × CallsAtOnce flow before (call.Emit value) (reply.Refused fault) t
+    EmitsNow before value (emitted.Refused t v fault) = (v ≡ value) × SharedCallsAtOnce flow before (call.Emit value) (reply.Refused fault) t
 
     -- a poll that does not wait
-    abbrev pub PollsNow : NumberedToken (Said (SharedCall T) (SharedReply T)) → PolledNow T A → Type 0
-    PollsNow e (polled_now.Done t) = CallsAtOnce flow e.token (call.Poll e.number) (reply.Tested false) t
-    PollsNow e (polled_now.Waiting f) = (f.number ≡ e.number) × CallsAtOnce flow e.token (call.Poll e.number) (reply.Tested true) f.token
+    abbrev pub PollsNow : GateNumbered (Said (SharedCall T) (SharedReply T)) → PolledNow T A → Type 0
+    PollsNow e (polled_now.Done t) = SharedCallsAtOnce flow e.token (call.Poll e.number) (reply.Tested false) t
+    PollsNow e (polled_now.Waiting f) = (f.number ≡ e.number) × SharedCallsAtOnce flow e.token (call.Poll e.number) (reply.Tested true) f.token
     PollsNow e (polled_now.Busy f) = (f.number ≡ e.number) × IsBusy e.token f.token
 
-  -- the emission is not done
+  -- the emission waits, or the flow was busy
   abbrev pub EmitIsWait : Emitted T A → Type 0
-  EmitIsWait (emitted.Done t) = ⊥
-  EmitIsWait _ = ⊤
-
-  -- the emission still waits
-  abbrev pub IsStillWaiting : Polled T A → Type 0
-  IsStillWaiting (polled.Done t) = ⊥
-  IsStillWaiting (polled.Waiting e) = ⊤
+  EmitIsWait (emitted.Queued e) = ⊤
+  EmitIsWait (emitted.Refused t v Busy) = ⊤
+  EmitIsWait _ = ⊥
 
   -- the emission still waits, or the flow was busy
   abbrev pub PollIsWait : PolledNow T A → Type 0
   PollIsWait (polled_now.Done t) = ⊥
   PollIsWait _ = ⊤
 
-module _ {T : Type 0} (flow : Origin (SharedFlowState T)) where
+module _ {T : Type 0} (flow : GateOrigin (SharedFlowState T)) where
   -- a reset that does not wait
   abbrev pub ResetsNow : SharedToken T → Result (Unit {0}) FlowFault → SharedToken T → Type 0
-  ResetsNow before (Ok none) after = CallsAtOnce flow before call.ResetReplayCache reply.Reset after
+  ResetsNow before (Ok none) after = SharedCallsAtOnce flow before call.ResetReplayCache reply.Reset after
   ResetsNow before (Err fault) after = (fault ≡ Busy) × IsBusy before after
 
   -- the emission's wait has ended, and the answer says whether it waited
-  abbrev pub Cancels : NumberedToken (Said (SharedCall T) (SharedReply T)) → SharedToken T × Bool → Type 0
-  Cancels e ended = Calls flow e.token (call.Cancel e.number) (reply.Tested ended.1) ended.0
+  abbrev pub Cancels : GateNumbered (Said (SharedCall T) (SharedReply T)) → SharedToken T × Bool → Type 0
+  Cancels e ended = SharedCalls flow e.token (call.Cancel e.number) (reply.Tested ended.1) ended.0
 
   -- a cancel that does not wait
-  abbrev pub CancelsNow : NumberedToken (Said (SharedCall T) (SharedReply T)) → Result (SharedToken T × Bool) (NumberedToken (Said (SharedCall T) (SharedReply T))) → Type 0
-  CancelsNow e (Ok ended) = CallsAtOnce flow e.token (call.Cancel e.number) (reply.Tested ended.1) ended.0
+  abbrev pub CancelsNow : GateNumbered (Said (SharedCall T) (SharedReply T)) → Result (SharedToken T × Bool) (GateNumbered (Said (SharedCall T) (SharedReply T))) → Type 0
+  CancelsNow e (Ok ended) = SharedCallsAtOnce flow e.token (call.Cancel e.number) (reply.Tested ended.1) ended.0
   CancelsNow e (Err back) = (back.number ≡ e.number) × IsBusy e.token back.token
 
 -- if the emission waits, the history gave its number to the token

@@ -10,14 +10,14 @@ use Rattle.flow_law.specs.declared.call.StateReply.TheVariants as reply
 use Rattle.flow_law.specs.declared.states.StateFlowState.{StateFlowState}
 use Rattle.flow_law.specs.StateFlow.{state_flow}
 use Rattle.flow_law.specs.Tokens.{IsBusy}
-use Rattle.flow_gate.specs.Tokens.{Token, Origin}
+use Rattle.flow_gate.specs.Tokens.{GateToken, GateOrigin}
 use Rattle.flow_shared.specs.Calls as flows
 
 -- a token of a state flow
 abbrev pub StateToken : Type 0 → Type 0
-StateToken T = Token (Said (StateCall T) (StateReply T))
+StateToken T = GateToken (Said (StateCall T) (StateReply T))
 
-module _ {T : Type 0} (flow : Origin (StateFlowState T)) where
+module _ {T : Type 0} (flow : GateOrigin (StateFlowState T)) where
   -- the call adds one event, with this reply, to what the token has seen
   abbrev pub StateCalls : StateToken T → StateCall T → StateReply T → StateToken T → Type 0
   StateCalls = flows.Calls state_flow flow

@@ -11,15 +11,15 @@ use Rattle.flow_law.specs.declared.outcome.Next.TheVariants.{Value, Empty}
 use Rattle.flow_law.specs.declared.states.StateFlowState.{StateFlowState}
 use Rattle.flow_law.specs.StateFlow.{state_flow}
 use Rattle.flow_core.specs.StateCore.{value_reply}
-use Rattle.flow_gate.specs.Tokens.{Origin}
-use Rattle.flow_shared.specs.Calls.{NumberedToken, NextsOf}
-use Rattle.flow_shared.specs.Receiving.{NextsUntil, taken}
+use Rattle.flow_gate.specs.Tokens.{GateOrigin}
+use Rattle.flow_shared.specs.Calls.{GateNumbered, NextsOf}
+use Rattle.flow_shared.specs.Receiving.{NextsUntil, as_next}
 use Rattle.flow_shared.specs.StateReplies.{StateCalls}
 
 abbrev pub StateNumbered : Type 0 → Type 0
-StateNumbered T = NumberedToken (Said (StateCall T) (StateReply T))
+StateNumbered T = GateNumbered (Said (StateCall T) (StateReply T))
 
-module _ {T : Type 0} (flow : Origin (StateFlowState T)) where
+module _ {T : Type 0} (flow : GateOrigin (StateFlowState T)) where
   -- one `value` through the seat of the subscription, which keeps its number
   abbrev pub ValuesBy : StateNumbered T → Result T FlowFault → StateNumbered T → Type 0
   ValuesBy old answer new = StateCalls flow old.token GetValue (value_reply answer) new.token × (new.number ≡ old.number)
@@ -46,4 +46,4 @@ module _ {T : Type 0} (flow : Origin (StateFlowState T)) where
 
   -- `NextsIf` without a time limit: this value passed, or this was the refusal
   abbrev pub ReceivesIf : (Passes Fails : T → Type 0) → StateNumbered T → Result T FlowFault → StateNumbered T → Type 0
-  ReceivesIf Passes Fails old result new = NextsIf Passes Fails old (taken result) new
+  ReceivesIf Passes Fails old result new = NextsIf Passes Fails old (as_next result) new

@@ -4,10 +4,9 @@ ghost use Rattle.flow_law.specs.declared.call.SharedCall.{SharedCall};
 ghost use Rattle.flow_law.specs.declared.call.SharedReply.{SharedReply};
 ghost use Rattle.flow_law.specs.History.{IsEmission};
 ghost use Rattle.flow_law.specs.SharedHistory.{shared_flow};
-ghost use Rattle.flow_law.specs.Tokens.{numbered};
-ghost use Rattle.flow_shared.specs.Calls.{NumberedToken};
+ghost use Rattle.flow_law.specs.Tokens.{numbered_token};
+ghost use Rattle.flow_shared.specs.Calls.{GateNumbered};
 
-use crate::attended::Attended;
 use crate::token::FlowSeat;
 use flow_core::SharedCore;
 use flow_law::{FlowFault, FlowValue};
@@ -20,14 +19,14 @@ use std::marker::Model;
 /// A dropped emission stays queued or offered, and its seat is lost. Call `cancel` to end its wait.
 #[derive(Drop)]
 pub struct Emission<T: FlowValue, A: Allocator + Copy = Global> {
-    pub(crate) seat: flow_gate::Seat<Attended<SharedCore<T, A>, A>, A>,
+    pub(crate) seat: FlowSeat<SharedCore<T, A>, A>,
     pub(crate) number: u64,
 }
 
 impl<T: FlowValue, A: Allocator + Copy> Model for Emission<T, A> {
-    ghost Value = { NumberedToken (Said (SharedCall T) (SharedReply T)) };
+    ghost Value = { GateNumbered (Said (SharedCall T) (SharedReply T)) };
 
-    ghost view = { λ e. numbered e.seat e.number };
+    ghost view = { λ e. numbered_token e.seat e.number };
 
     ghost invariant = { λ e. IsEmission shared_flow e.seat.knows e.number };
 }

@@ -5,24 +5,49 @@ ghost use Rattle.std.specs.Vec.{vec_len, vec_capacity};
 ghost use Rattle.flow_law.specs.Draining.{DrainsBy, TakesBy, IsFull};
 ghost use Rattle.flow_law.specs.Growth.{NamesOnlyMade};
 ghost use Rattle.flow_law.specs.History.{IsSubscription};
-ghost use Rattle.flow_law.specs.Tokens.{numbered};
-ghost use Rattle.flow_law.specs.declared.outcome.Drained.TheVariants.{Gone};
+ghost use Rattle.flow_law.specs.Tokens.{numbered_token};
+ghost use Rattle.flow_law.specs.declared.outcome.Drained.TheVariants.{Gone, Most};
 ghost use Rattle.flow_core.specs.SubId.{number_of};
-ghost use Rattle.flow_shared.specs.Attended.{AttendedAs, attended_stands};
-ghost use Rattle.flow_shared.specs.Calls.{NextsOf};
+ghost use Rattle.flow_shared.specs.Attended.{AttendedAs};
+ghost use Rattle.flow_shared.specs.Calls.{HoldsFor, NextsOf};
 ghost use Rattle.flow_shared.specs.Drains.{CoreNexts, TakesInside, said_since};
 
 use crate::attended::Attended;
-use crate::core_call::leave_and_wake;
+use crate::calling::GateSeat;
 use crate::flow::Flow;
+use crate::sleepless::Sleepless;
 use crate::subscriber::TakeNext;
+use crate::to_wake::ToWake;
 use crate::token::{FlowSeat, FlowSubscription};
 use flow_core::{FlowCore, SubId, SubscriberCalls};
-use flow_gate::{Held, NamesEvents, Seat};
+use flow_gate::NamesEvents;
 use flow_law::{Drained, FlowFault, Next, Said};
 use std::alloc::Allocator;
 use std::snapshot::Snapshot;
 use std::sync::Wait;
+
+impl<S: SubscriberCalls, A: Allocator + Copy> Attended<S, A> {
+    /// Appends values that a subscriber can receive, at most `most`, to the list, if no caller sleeps. Returns how
+    /// many.
+    pub(crate) fn take_held<B: Allocator>(
+        &mut self,
+        id: SubId,
+        most: usize,
+        values: &mut Vec<S::Item, B>,
+    ) -> usize
+        ensures most { result ≤ most }
+        ensures taken { DrainsBy
+            (CoreNexts S.kind (number_of id) (AttendedAs S.sleeping S.stands_as)) result
+            self.old values.old.items (Ok Most) values.new.items self.new }
+        ensures room { (vec_len values.new ≡ vec_len values.old + result) ×
+            (vec_capacity values.old ≤ vec_capacity values.new) }
+    {
+        if self.is_alone() {
+            return self.core.take_held(id, most, values);
+        }
+        0
+    }
+}
 
 /// Takes the values that a subscriber can receive, at most `most`, into a list that has room for them: first those that
 /// the core holds, all at once, and then the others by `next`.
@@ -31,6 +56,7 @@ fn take_values<S: SubscriberCalls, A: Allocator + Copy, B: Allocator>(
     id: SubId,
     most: usize,
     values: &mut Vec<S::Item, B>,
+    woken: &mut ToWake<A>,
 ) -> Result<Drained, FlowFault>
     requires { vec_len values.old + most ≤ vec_capacity values.old }
     ensures takes { TakesBy
@@ -40,7 +66,7 @@ fn take_values<S: SubscriberCalls, A: Allocator + Copy, B: Allocator>(
 {
     let taken = state.take_held(id, most, values);
     for _ in taken..most {
-        match state.call(TakeNext { id })? {
+        match state.call(TakeNext { id }, &mut Sleepless, woken)? {
             Next::Value(value) => values.push_reserved(value),
             Next::Empty => return Ok(Drained::Empty),
             Next::Gone => return Ok(Drained::Gone),
@@ -62,40 +88,44 @@ impl<'a, S: FlowCore, B: Allocator> NamesEvents<Said<S::Call, S::Reply>> for Tak
     ghost events = { λ e _. said_since S.kind e.id.number e.before.value.items e.values.now.items e.ended.now };
 }
 
-/// Takes values of the core inside a gate, and leaves with the events that name the calls.
-fn take_inside<S: SubscriberCalls, A: Allocator + Copy, B: Allocator>(
-    held: Held<'_, Attended<S, A>, A>,
-    id: SubId,
-    most: usize,
-    values: &mut Vec<S::Item, B>,
-) -> (Seat<Attended<S, A>, A>, Result<Drained, FlowFault>)
-    requires stood { attended_stands S.sleeping S.first
-        S.stands_as held.first held.state held.token.knows.seen }
-    requires subscribed { IsSubscription S.kind held.token.knows (number_of id) }
-    requires names { NamesOnlyMade held.token.knows.name
-        held.token.knows.made held.token.knows.seen }
-    requires some { most ≢ 0 }
-    requires room { vec_len values.old + most ≤ vec_capacity values.old }
-    ensures takes { TakesInside S.kind (number_of id) (AttendedAs S.sleeping S.stands_as) most
-        held.entry values.old.items result.1 values.new.items result.0 }
-    ensures given { S.Item.IsAlwaysCopied → IsOk result.1 }
-{
-    let mut held = held;
-    let before = Snapshot::of(values);
-    let ended = take_values(held.state(), id, most, values);
-    let seat = leave_and_wake(
-        held,
-        &Taken::<S, B> {
-            id,
-            before,
-            values,
-            ended: &ended,
-        },
-    );
-    (seat, ended)
-}
-
 impl<S: SubscriberCalls + Drop, A: Allocator + Copy> Flow<S, A> {
+    /// Takes values of the core of a caller inside, which then leaves with the events that name the calls.
+    fn take_inside<B: Allocator>(
+        &self,
+        seat: &mut GateSeat<S, A>,
+        id: SubId,
+        most: usize,
+        values: &mut Vec<S::Item, B>,
+    ) -> Result<Drained, FlowFault>
+        requires flow { seat.old.token.table_id ≡ self.now.table_id }
+        requires stood { HoldsFor S.kind (AttendedAs S.sleeping S.stands_as)
+            self.now.first seat.old }
+        requires subscribed { IsSubscription S.kind seat.old.token.knows (number_of id) }
+        requires names { NamesOnlyMade seat.old.token.knows.name
+            seat.old.token.knows.made seat.old.token.knows.seen }
+        requires some { most ≢ 0 }
+        requires room { vec_len values.old + most ≤ vec_capacity values.old }
+        ensures takes { TakesInside S.kind (number_of id) (AttendedAs S.sleeping S.stands_as) most
+            seat.old values.old.items result values.new.items seat.new }
+        ensures given { S.Item.IsAlwaysCopied → IsOk result }
+    {
+        let before = Snapshot::of(values);
+        let state = seat.state(&self.gate);
+        let mut woken = state.none_to_wake();
+        let ended = take_values(state, id, most, values, &mut woken);
+        self.gate.leave(
+            seat,
+            &Taken::<S, B> {
+                id,
+                before,
+                values,
+                ended: &ended,
+            },
+        );
+        woken.wake();
+        ended
+    }
+
     /// Takes values in one entry, so that no other caller comes in between.
     fn take<R: Wait, B: Allocator>(
         &self,
@@ -110,17 +140,14 @@ impl<S: SubscriberCalls + Drop, A: Allocator + Copy> Flow<S, A> {
         requires flow { seat.old.table_id ≡ self.now.table_id }
         requires subscribed { IsSubscription S.kind seat.old.knows (number_of id) }
         ensures drained { DrainsBy (NextsOf S.kind self.now) most
-            (numbered seat.old (number_of id)) values.old.items
-            result values.new.items (numbered seat.new (number_of id)) }
+            (numbered_token seat.old (number_of id)) values.old.items
+            result values.new.items (numbered_token seat.new (number_of id)) }
         ensures subscribed { IsSubscription S.kind seat.new.knows (number_of id) }
         ensures flow { seat.new.table_id ≡ seat.old.table_id }
         ensures given { S.Item.IsAlwaysCopied → IsOk result }
     {
-        let own = seat.seat.take().unwrap();
-        let held = self.gate.enter(rt, own);
-        let (own, ended) = take_inside(held, id, most, values);
-        seat.seat = Some(own);
-        ended
+        self.gate.enter(rt, &mut seat.seat);
+        self.take_inside(&mut seat.seat, id, most, values)
     }
 
     /// Takes values, in one entry for all that the list has room for.
@@ -135,8 +162,8 @@ impl<S: SubscriberCalls + Drop, A: Allocator + Copy> Flow<S, A> {
         requires flow { seat.old.table_id ≡ self.now.table_id }
         requires subscribed { IsSubscription S.kind seat.old.knows (number_of id) }
         ensures drained { DrainsBy (NextsOf S.kind self.now) most
-            (numbered seat.old (number_of id)) values.old.items
-            result values.new.items (numbered seat.new (number_of id)) }
+            (numbered_token seat.old (number_of id)) values.old.items
+            result values.new.items (numbered_token seat.new (number_of id)) }
         ensures subscribed { IsSubscription S.kind seat.new.knows (number_of id) }
         ensures flow { seat.new.table_id ≡ seat.old.table_id }
         ensures full { S.Item.IsAlwaysCopied → OnErr result (IsFull values.new) }

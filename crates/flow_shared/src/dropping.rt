@@ -7,8 +7,10 @@ ghost use Rattle.flow_shared.specs.Calls.{Unsubscribes, UnsubscribesNow};
 ghost use Rattle.flow_shared.specs.SharedReplies.{Cancels};
 
 use crate::answers::Emission;
+use crate::calling::AtOnce;
 use crate::flow::Flow;
 use crate::shared::Seat;
+use crate::sleepless::Sleepless;
 use crate::subscriber::Unsubscribe;
 use crate::token::{FlowSeat, FlowSubscription};
 use flow_core::{ReaderCalls, SharedCore};
@@ -29,7 +31,7 @@ impl<S: ReaderCalls + Drop, A: Allocator + Copy> Flow<S, A> {
         ensures { UnsubscribesNow S.kind self.now subscription result }
     {
         let FlowSubscription { mut seat, id } = subscription;
-        match self.call_now(&mut seat, Unsubscribe { id }) {
+        match self.call_by(&AtOnce, &mut seat, Unsubscribe { id }, &mut Sleepless) {
             Ok(_was_there) => Ok(seat),
             Err(_back) => Err(FlowSubscription { seat, id }),
         }

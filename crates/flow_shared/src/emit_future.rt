@@ -4,9 +4,10 @@ ghost use Rattle.futures.specs.Task.{Covers, Keeps};
 ghost use Rattle.futures.specs.Poll.{IfReady, OnPending};
 ghost use Rattle.flow_shared.specs.declared.emit_future.EmitStage.TheVariants.{Fresh, Waiting, Ended};
 ghost use Rattle.flow_shared.specs.Futures.{OneEach};
-ghost use Rattle.flow_shared.specs.EmitFutures.{Emitting, emitting, HoldsOf, EmitPolls, Says, held, token_after, KeepsCount, IsRefusedIfDue, sent_token, GivesSent, Cancels};
+ghost use Rattle.flow_shared.specs.EmitFutures.{Emitting, emitting_at, HoldsOf, EmitPolls, SaysSent, held_by_emit, token_after_emit, KeepsCount, SentRefusedIfDue, sent_token, GivesSent, FutureCancels};
 
 use crate::answers::{Emission, Emitted, PolledNow};
+use crate::calling::AtOnce;
 use crate::dropping::TRIES;
 use crate::shared::{Seat, SharedFlow};
 use crate::sleepless::{Sleepless, again_if_pending};
@@ -66,7 +67,7 @@ impl<T: FlowValue, A: Allocator + Copy> Drop for EmitFuture<'_, T, A> {
 impl<'a, T: FlowValue, A: Allocator + Copy> Model for EmitFuture<'a, T, A> {
     ghost Value = { Emitting T A };
 
-    ghost view = { λ f. emitting f.flow.now f.stage };
+    ghost view = { λ f. emitting_at f.flow.now f.stage };
 
     ghost invariant = { λ f. HoldsOf f.flow.now.table_id f.stage };
 }
@@ -75,7 +76,7 @@ impl<'a, T: FlowValue, A: Allocator + Copy> EmitFuture<'a, T, A> {
     /// Returns a future that emits this value through this seat. Nothing is emitted before it is polled.
     pub fn new(flow: &'a SharedFlow<T, A>, seat: Seat<T, A>, value: T) -> EmitFuture<'a, T, A>
         requires { seat.table_id ≡ flow.now.table_id }
-        ensures { result ≡ emitting flow.now (Fresh seat value) }
+        ensures { result ≡ emitting_at flow.now (Fresh seat value) }
     {
         EmitFuture {
             flow,
@@ -89,7 +90,7 @@ impl<'a, T: FlowValue, A: Allocator + Copy> EmitFuture<'a, T, A> {
     /// A value that was not emitted, or is queued, is dropped. An offered one is withdrawn from the subscribers that
     /// have not received it.
     pub fn cancel<R: Wait>(self, rt: &R) -> Option<(Seat<T, A>, bool)>
-        ensures { Cancels self.entry result }
+        ensures { FutureCancels self.entry result }
     {
         let EmitFuture { flow, stage } = self;
         match stage {
@@ -108,11 +109,11 @@ impl<'a, T: FlowValue, A: Allocator + Copy> Future for EmitFuture<'a, T, A> {
     fn poll(&mut self, cx: &mut Context<'_>) -> Poll<Sent<T, A>>
         ensures flow { self.new.flow ≡ self.old.flow }
         ensures polls { EmitPolls self.old.flow self.old.stage result self.new.stage }
-        ensures one { OneEach Says self.old.flow
-            (held self.old.stage) result (token_after result self.new.stage) }
+        ensures one { OneEach SaysSent self.old.flow
+            (held_by_emit self.old.stage) result (token_after_emit result self.new.stage) }
         ensures asked { OnPending result (cx.new.is_woken ≡ true) }
         ensures count { KeepsCount self.old.stage result self.new.stage }
-        ensures refused { IfReady result IsRefusedIfDue }
+        ensures refused { IfReady result SentRefusedIfDue }
         // The clauses of the trait.
         ensures value { IfReady result (GivesSent self.old) }
         ensures again { OnPending result ⊤ }
@@ -134,7 +135,7 @@ impl<'a, T: FlowValue, A: Allocator + Copy> EmitFuture<'a, T, A> {
         ensures armed { OnPending result (W.is_armed waiter.new) }
         ensures kept { W.keeps waiter.old waiter.new }
     {
-        match self.flow.emit_or_sleep(seat, value, waiter) {
+        match self.flow.emit_by(&AtOnce, seat, value, waiter) {
             Emitted::Done(seat) => Poll::Ready(Sent::Done(seat)),
             Emitted::Queued(emission) => {
                 self.stage = EmitStage::Waiting(emission);
@@ -157,7 +158,7 @@ impl<'a, T: FlowValue, A: Allocator + Copy> EmitFuture<'a, T, A> {
         ensures armed { OnPending result (W.is_armed waiter.new) }
         ensures kept { W.keeps waiter.old waiter.new }
     {
-        match self.flow.poll_or_sleep(emission, waiter) {
+        match self.flow.poll_by(&AtOnce, emission, waiter) {
             PolledNow::Done(seat) => Poll::Ready(Sent::Done(seat)),
             PolledNow::Waiting(left) | PolledNow::Busy(left) => {
                 self.stage = EmitStage::Waiting(left);
@@ -192,10 +193,10 @@ impl<'a, T: FlowValue, A: Allocator + Copy> EmitFuture<'a, T, A> {
         ensures kept { W.keeps waiter.old waiter.new }
         ensures flow { self.new.flow ≡ self.old.flow }
         ensures polls { EmitPolls self.old.flow self.old.stage result self.new.stage }
-        ensures one { OneEach Says self.old.flow
-            (held self.old.stage) result (token_after result self.new.stage) }
+        ensures one { OneEach SaysSent self.old.flow
+            (held_by_emit self.old.stage) result (token_after_emit result self.new.stage) }
         ensures count { KeepsCount self.old.stage result self.new.stage }
-        ensures refused { IfReady result IsRefusedIfDue }
+        ensures refused { IfReady result SentRefusedIfDue }
     {
         self.call(waiter)
     }

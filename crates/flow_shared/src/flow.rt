@@ -1,21 +1,18 @@
 //! A flow of any kind for several threads.
-ghost use Rattle.std.specs.Prelude.{◌≡◌, IfOk, IfErr, IfSome, MatchResult};
-ghost use Rattle.flow_law.specs.History.{MayCall, IsHistory};
+ghost use Rattle.std.specs.Prelude.{◌≡◌, IfOk, IfErr, IfSome};
+ghost use Rattle.flow_law.specs.History.{IsHistory};
 ghost use Rattle.flow_law.specs.Growth.{makes, child};
-ghost use Rattle.flow_law.specs.Tokens.{Begins, subscription_name, knowing, IsBusy};
+ghost use Rattle.flow_law.specs.Tokens.{Begins, knowing};
 ghost use Rattle.flow_law.specs.declared.fault.FlowFault.TheVariants.{OutOfMemory};
-ghost use Rattle.flow_shared.specs.Calls.{Calls, CallsAtOnce, ClosesAs, Meets};
+ghost use Rattle.flow_shared.specs.Calls.{ClosesAs, Meets};
 
 use crate::attended::Attended;
-use crate::core_call::{CoreCall, SleepingCall, call_core, call_core_or_sleep};
 use crate::token::{FlowSeat, FlowSubscription};
-use flow_core::{FlowCore, ReaderCalls};
+use flow_core::FlowCore;
 use flow_gate::Gate;
 use flow_law::FlowFault;
-use flow_sleepers::Waiter;
 use std::alloc::{Allocator, Global};
 use std::marker::Model;
-use std::sync::Wait;
 use std::sync::atomic::AtomicU64;
 
 /// A flow for callers on several threads.
@@ -37,19 +34,12 @@ impl<S: FlowCore + Drop, A: Allocator + Copy> Drop for Flow<S, A> {
 
 impl<S: FlowCore, A: Allocator + Copy> Model for Flow<S, A> {
     ghost use Rattle.flow_law.specs.Tokens.{origin};
-    ghost use Rattle.flow_gate.specs.Tokens.{Origin};
+    ghost use Rattle.flow_gate.specs.Tokens.{GateOrigin};
 
-    ghost Value = { Origin S.State };
+    ghost Value = { GateOrigin S.State };
 
     ghost view = { λ f. origin f.gate.table_id (S.first f.gate.first.core) };
 }
-
-/// A seat at the gate of a flow.
-type GateSeat<S, A> = flow_gate::Seat<Attended<S, A>, A>;
-
-/// The result of a call that does not wait: the seat and the answer, or the seat and the call if another caller was
-/// inside.
-type Tried<S, A, Answer, C> = Result<(GateSeat<S, A>, Answer), (GateSeat<S, A>, C)>;
 
 impl<S: FlowCore + Drop, A: Allocator + Copy> Flow<S, A> {
     /// Puts a core behind a gate, and makes the first seat. The only error is `OutOfMemory`.
@@ -62,111 +52,9 @@ impl<S: FlowCore + Drop, A: Allocator + Copy> Flow<S, A> {
         match Gate::new(alloc, Attended::new(alloc, core)) {
             Ok((gate, seat)) => {
                 let watchers = AtomicU64::new(0);
-                Ok((Flow { gate, watchers }, FlowSeat { seat: Some(seat) }))
+                Ok((Flow { gate, watchers }, FlowSeat { seat }))
             }
             Err(_failed) => Err(FlowFault::OutOfMemory),
-        }
-    }
-
-    /// Makes a call as `call_by_now` does. The caller sleeps if the reply is a wait, and asks again if another caller
-    /// is inside.
-    pub(crate) fn call_by_or_sleep<C: SleepingCall<S, A>, W: Waiter<A>>(
-        &self,
-        seat: GateSeat<S, A>,
-        call: C,
-        waiter: &mut W,
-    ) -> Tried<S, A, C::Answer, C>
-        requires flow { seat.table_id ≡ self.now.table_id }
-        requires may { MayCall S.kind (C.call call (subscription_name seat.knows))
-            seat.knows.name seat.knows.seen }
-        ensures called { IfOk result (λ done.
-            CallsAtOnce S.kind self.now seat (C.call call (subscription_name seat.knows))
-            (C.reply done.1) done.0 × C.also call done.1) }
-        ensures busy { IfErr result (λ back. IsBusy seat back.0 × (back.1 ≡ call)) }
-        ensures armed { MatchResult result (λ done. C.is_wait done.1 → W.is_armed waiter.new)
-            (λ back. W.is_armed waiter.new) }
-        ensures kept { W.keeps waiter.old waiter.new }
-    {
-        match self.gate.try_enter(seat) {
-            Ok(held) => Ok(call_core_or_sleep(held, call, waiter)),
-            Err(back) => {
-                waiter.ask_again();
-                Err((back, call))
-            }
-        }
-    }
-
-    /// Makes a call as `call_by` does. If the reply is a wait, the caller sleeps.
-    pub(crate) fn call_by_asleep<R: Wait, C: SleepingCall<S, A>, W: Waiter<A>>(
-        &self,
-        rt: &R,
-        seat: GateSeat<S, A>,
-        call: C,
-        waiter: &mut W,
-    ) -> (GateSeat<S, A>, C::Answer)
-        requires flow { seat.table_id ≡ self.now.table_id }
-        requires may { MayCall S.kind (C.call call (subscription_name seat.knows))
-            seat.knows.name seat.knows.seen }
-        ensures called { Calls S.kind self.now seat (C.call call (subscription_name seat.knows))
-            (C.reply result.1) result.0 }
-        ensures also { C.also call result.1 }
-        ensures armed { C.is_wait result.1 → W.is_armed waiter.new }
-    {
-        let held = self.gate.enter(rt, seat);
-        call_core_or_sleep(held, call, waiter)
-    }
-
-    /// Makes a call as `call` does. If the reply is a wait, the caller sleeps.
-    pub(crate) fn call_asleep<R: Wait, C: SleepingCall<S, A>, W: Waiter<A>>(
-        &self,
-        rt: &R,
-        seat: &mut FlowSeat<S, A>,
-        call: C,
-        waiter: &mut W,
-    ) -> C::Answer
-        requires flow { seat.old.table_id ≡ self.now.table_id }
-        requires may { MayCall S.kind (C.call call (subscription_name seat.old.knows))
-            seat.old.knows.name seat.old.knows.seen }
-        ensures called { Calls S.kind self.now
-            seat.old (C.call call (subscription_name seat.old.knows)) (C.reply result) seat.new }
-        ensures also { C.also call result }
-        ensures armed { C.is_wait result → W.is_armed waiter.new }
-    {
-        let own = seat.seat.take().unwrap();
-        let (own, answer) = self.call_by_asleep(rt, own, call, waiter);
-        seat.seat = Some(own);
-        answer
-    }
-
-    /// Makes a call as `call_now` does. The caller sleeps if the reply is a wait, and asks again if another caller is
-    /// inside.
-    pub(crate) fn call_or_sleep<C: SleepingCall<S, A>, W: Waiter<A>>(
-        &self,
-        seat: &mut FlowSeat<S, A>,
-        call: C,
-        waiter: &mut W,
-    ) -> Result<C::Answer, C>
-        requires flow { seat.old.table_id ≡ self.now.table_id }
-        requires may { MayCall S.kind (C.call call (subscription_name seat.old.knows))
-            seat.old.knows.name seat.old.knows.seen }
-        ensures called { IfOk result (λ answer.
-            CallsAtOnce S.kind self.now seat.old (C.call call (subscription_name seat.old.knows))
-            (C.reply answer) seat.new × C.also call answer) }
-        ensures busy { IfErr result (λ back. IsBusy seat.old seat.new × (back ≡ call)) }
-        ensures armed { MatchResult result (λ answer. C.is_wait answer → W.is_armed waiter.new)
-            (λ back. W.is_armed waiter.new) }
-        ensures kept { W.keeps waiter.old waiter.new }
-    {
-        let own = seat.seat.take().unwrap();
-        match self.call_by_or_sleep(own, call, waiter) {
-            Ok((own, answer)) => {
-                seat.seat = Some(own);
-                Ok(answer)
-            }
-            Err((own, call)) => {
-                seat.seat = Some(own);
-                Err(call)
-            }
         }
     }
 
@@ -180,10 +68,37 @@ impl<S: FlowCore + Drop, A: Allocator + Copy> Flow<S, A> {
         ensures maker { seat.new ≡ knowing seat.old (makes seat.old.knows) }
         ensures made { result ≡ knowing seat.old (child seat.old.knows) }
     {
-        let inside = seat.seat.as_mut().unwrap();
         FlowSeat {
-            seat: Some(self.gate.seat(inside)),
+            seat: self.gate.seat(&mut seat.seat),
         }
+    }
+
+    /// Lets two seats meet: both have then seen the same history, which has all calls so far. It makes no call of
+    /// the flow and does not wait.
+    ///
+    /// Call it if a caller relies on what the other one did, for instance after a thread has ended and returned its
+    /// seat.
+    pub fn meet(&self, one: &mut FlowSeat<S, A>, other: &mut FlowSeat<S, A>)
+        requires { (one.old.table_id ≡ self.now.table_id) ×
+            (other.old.table_id ≡ self.now.table_id) }
+        ensures { Meets S.kind self.now one.old other.old one.new other.new }
+    {
+        self.gate.meet(&mut one.seat, &mut other.seat);
+    }
+
+    /// Lets a subscription and a seat meet, as `meet` does.
+    pub fn meet_subscription(
+        &self,
+        subscription: &mut FlowSubscription<S, A>,
+        seat: &mut FlowSeat<S, A>,
+    )
+        requires { (subscription.old.token.table_id ≡ self.now.table_id)
+            × (seat.old.table_id ≡ self.now.table_id) }
+        ensures met { Meets S.kind self.now
+            subscription.old.token seat.old subscription.new.token seat.new }
+        ensures number { subscription.new.number ≡ subscription.old.number }
+    {
+        self.meet(&mut subscription.seat, seat);
     }
 
     /// Proves that what the seat has seen is a history of the flow. It makes no call and does not wait.
@@ -192,8 +107,7 @@ impl<S: FlowCore + Drop, A: Allocator + Copy> Flow<S, A> {
         ensures unchanged { seat.new ≡ seat.old }
         ensures history { IsHistory S.kind self.now.first seat.new.knows.seen }
     {
-        let inside = seat.seat.as_mut().unwrap();
-        self.gate.look(inside);
+        self.gate.look(&mut seat.seat);
     }
 
     /// Ends the flow, and returns its core: a flow for one thread, in the state to which all calls so far led. Returns
@@ -205,98 +119,10 @@ impl<S: FlowCore + Drop, A: Allocator + Copy> Flow<S, A> {
         requires { seat.table_id ≡ self.table_id }
         ensures { IfSome result (ClosesAs S.kind self S.stands_as seat) }
     {
-        let own = seat.seat.unwrap();
         let Self { gate, watchers: _ } = self;
-        match gate.close_with(own) {
+        match gate.close_with(seat.into_inner()) {
             Some(state) => Some(state.into_core()),
             None => None,
-        }
-    }
-}
-
-impl<S: ReaderCalls + Drop, A: Allocator + Copy> Flow<S, A> {
-    #[inline]
-    pub(crate) fn call_by<R: Wait, C: CoreCall<S>>(
-        &self,
-        rt: &R,
-        seat: GateSeat<S, A>,
-        call: C,
-    ) -> (GateSeat<S, A>, C::Answer)
-        requires flow { seat.table_id ≡ self.now.table_id }
-        requires may { MayCall S.kind (C.call call (subscription_name seat.knows))
-            seat.knows.name seat.knows.seen }
-        ensures called { Calls S.kind self.now seat (C.call call (subscription_name seat.knows))
-            (C.reply result.1) result.0 }
-        ensures also { C.also call result.1 }
-    {
-        let held = self.gate.enter(rt, seat);
-        call_core(held, call)
-    }
-
-    pub(crate) fn call_by_now<C: CoreCall<S>>(
-        &self,
-        seat: GateSeat<S, A>,
-        call: C,
-    ) -> Tried<S, A, C::Answer, C>
-        requires flow { seat.table_id ≡ self.now.table_id }
-        requires may { MayCall S.kind (C.call call (subscription_name seat.knows))
-            seat.knows.name seat.knows.seen }
-        ensures called { IfOk result (λ done. CallsAtOnce S.kind self.now seat
-            (C.call call (subscription_name seat.knows)) (C.reply done.1) done.0 ×
-            C.also call done.1) }
-        ensures busy { IfErr result (λ back. IsBusy seat back.0 × (back.1 ≡ call)) }
-    {
-        match self.gate.try_enter(seat) {
-            Ok(held) => Ok(call_core(held, call)),
-            Err(back) => Err((back, call)),
-        }
-    }
-
-    /// Makes a call through a seat.
-    #[inline]
-    pub(crate) fn call<R: Wait, C: CoreCall<S>>(
-        &self,
-        rt: &R,
-        seat: &mut FlowSeat<S, A>,
-        call: C,
-    ) -> C::Answer
-        requires flow { seat.old.table_id ≡ self.now.table_id }
-        requires may { MayCall S.kind (C.call call (subscription_name seat.old.knows))
-            seat.old.knows.name seat.old.knows.seen }
-        ensures called { Calls S.kind self.now seat.old
-            (C.call call (subscription_name seat.old.knows)) (C.reply result) seat.new }
-        ensures also { C.also call result }
-    {
-        let own = seat.seat.take().unwrap();
-        let (own, answer) = self.call_by(rt, own, call);
-        seat.seat = Some(own);
-        answer
-    }
-
-    /// Makes a call through a seat without waiting. If another caller is inside, returns the call.
-    pub(crate) fn call_now<C: CoreCall<S>>(
-        &self,
-        seat: &mut FlowSeat<S, A>,
-        call: C,
-    ) -> Result<C::Answer, C>
-        requires flow { seat.old.table_id ≡ self.now.table_id }
-        requires may { MayCall S.kind (C.call call (subscription_name seat.old.knows))
-            seat.old.knows.name seat.old.knows.seen }
-        ensures called { IfOk result (λ answer. CallsAtOnce S.kind self.now seat.old
-            (C.call call (subscription_name seat.old.knows)) (C.reply answer) seat.new ×
-            C.also call answer) }
-        ensures busy { IfErr result (λ back. IsBusy seat.old seat.new × (back ≡ call)) }
-    {
-        let own = seat.seat.take().unwrap();
-        match self.call_by_now(own, call) {
-            Ok((own, answer)) => {
-                seat.seat = Some(own);
-                Ok(answer)
-            }
-            Err((own, call)) => {
-                seat.seat = Some(own);
-                Err(call)
-            }
         }
     }
 }

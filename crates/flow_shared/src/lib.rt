@@ -11,8 +11,8 @@
 //! or `flow.setter(seat)`.
 //!
 //! # What each call promises
-//! A call that is one event has a clause with the word `Calls` (of a state flow `StateCalls`), or with one that is
-//! defined by it, such as `Subscribes`, `Nexts` or `Emits`: the token has then seen a history of the flow, which is all
+//! A call that is one event has a clause with the word `SharedCalls` (of a state flow `StateCalls`), or with one like
+//! `Subscribes`, `Nexts` or `Emits`, defined alike: the token has then seen a history of the flow, which is all
 //! that it had seen, followed by events of other callers and by this call with this reply. The history is legal (each
 //! reply is one that the documented flow may give at that point) and owned (no caller uses another one's subscription
 //! or emission).
@@ -31,6 +31,7 @@
 
 mod answers;
 mod attended;
+mod calling;
 mod core_call;
 mod drain;
 mod dropping;
@@ -44,6 +45,7 @@ mod shared;
 mod sleepless;
 mod state;
 mod subscriber;
+mod to_wake;
 mod token;
 mod watcher;
 

@@ -3,8 +3,9 @@ ghost use Rattle.std.specs.Prelude.{◌≡◌, ⊤, true, Some, None};
 ghost use Rattle.futures.specs.Task.{Covers, Keeps};
 ghost use Rattle.futures.specs.Poll.{IfReady, OnPending};
 ghost use Rattle.flow_shared.specs.Futures.{OneEach};
-ghost use Rattle.flow_shared.specs.NextFutures.{Receiving, receiving, IsTo, NextPolls, Says, held, token_after, given_by, IsRefusedIfDue, GivesReceived};
+ghost use Rattle.flow_shared.specs.NextFutures.{Receiving, receiving, IsTo, NextPolls, SaysReceived, held_by_next, token_after_next, given_by, ReceivedRefusedIfDue, GivesReceived};
 
+use crate::calling::AtOnce;
 use crate::dropping::TRIES;
 use crate::shared::{SharedFlow, Subscription};
 use crate::sleepless::{Sleepless, again_if_pending};
@@ -98,7 +99,7 @@ impl<'a, T: FlowValue, A: Allocator + Copy> NextFuture<'a, T, A> {
         ensures kept { W.keeps waiter.old waiter.new }
     {
         let mut subscription = subscription;
-        let answer = self.flow.next_or_sleep(&mut subscription, waiter);
+        let answer = self.flow.next_by(&AtOnce, &mut subscription, waiter);
         match given_by(answer) {
             Some(given) => Poll::Ready((subscription, given)),
             None => {
@@ -134,9 +135,9 @@ impl<'a, T: FlowValue, A: Allocator + Copy> NextFuture<'a, T, A> {
         ensures kept { W.keeps waiter.old waiter.new }
         ensures flow { self.new.flow ≡ self.old.flow }
         ensures polls { NextPolls self.old.flow self.old.subscription result self.new.subscription }
-        ensures refused { IfReady result IsRefusedIfDue }
-        ensures one { OneEach Says self.old.flow (held self.old.subscription)
-            result (token_after result self.new.subscription) }
+        ensures refused { IfReady result ReceivedRefusedIfDue }
+        ensures one { OneEach SaysReceived self.old.flow (held_by_next self.old.subscription)
+            result (token_after_next result self.new.subscription) }
     {
         self.call(waiter)
     }
@@ -151,9 +152,9 @@ impl<'a, T: FlowValue, A: Allocator + Copy> Future for NextFuture<'a, T, A> {
         ensures flow { self.new.flow ≡ self.old.flow }
         ensures polls { NextPolls self.old.flow self.old.subscription result self.new.subscription }
         ensures asked { OnPending result (cx.new.is_woken ≡ true) }
-        ensures one { OneEach Says self.old.flow (held self.old.subscription) result
-            (token_after result self.new.subscription) }
-        ensures refused { IfReady result IsRefusedIfDue }
+        ensures one { OneEach SaysReceived self.old.flow (held_by_next self.old.subscription) result
+            (token_after_next result self.new.subscription) }
+        ensures refused { IfReady result ReceivedRefusedIfDue }
         // The clauses of the trait.
         ensures value { IfReady result (GivesReceived self.old) }
         ensures again { OnPending result ⊤ }

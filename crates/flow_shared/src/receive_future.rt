@@ -3,7 +3,7 @@ ghost use Rattle.std.specs.Prelude.{◌≡◌, ⊤, Some};
 ghost use Rattle.futures.specs.Task.{Covers, Keeps};
 ghost use Rattle.futures.specs.Poll.{IfReady, OnPending};
 ghost use Rattle.flow_shared.specs.Futures.{OneEach};
-ghost use Rattle.flow_shared.specs.NextFutures.{Receiving, receiving, NextPolls, Says, held, token_after, IsRefusedIfDue, GivesReceived};
+ghost use Rattle.flow_shared.specs.NextFutures.{Receiving, receiving, NextPolls, SaysReceived, held_by_next, token_after_next, ReceivedRefusedIfDue, GivesReceived};
 
 use crate::next_future::{NextFuture, Received};
 use crate::shared::{SharedFlow, Subscription};
@@ -64,9 +64,9 @@ impl<'a, T: FlowValue, A: Allocator + Copy> Future for ReceiveFuture<'a, T, A> {
     fn poll(&mut self, cx: &mut Context<'_>) -> Poll<Received<T, A>>
         ensures flow { self.new.flow ≡ self.old.flow }
         ensures polls { NextPolls self.old.flow self.old.subscription result self.new.subscription }
-        ensures one { OneEach Says self.old.flow (held self.old.subscription)
-            result (token_after result self.new.subscription) }
-        ensures refused { IfReady result IsRefusedIfDue }
+        ensures one { OneEach SaysReceived self.old.flow (held_by_next self.old.subscription)
+            result (token_after_next result self.new.subscription) }
+        ensures refused { IfReady result ReceivedRefusedIfDue }
         // The clauses of the trait. A pending poll has left its waker, or asked to be polled again (`registered`).
         ensures value { IfReady result (GivesReceived self.old) }
         ensures again { OnPending result ⊤ }

@@ -4,7 +4,7 @@ ghost use Rattle.futures.specs.Task.{Covers, Keeps};
 ghost use Rattle.futures.specs.Poll.{IfReady, OnPending};
 ghost use Rattle.flow_shared.specs.declared.emit_future.EmitStage.TheVariants.{Fresh};
 ghost use Rattle.flow_shared.specs.Futures.{OneEach};
-ghost use Rattle.flow_shared.specs.EmitFutures.{Emitting, emitting, EmitPolls, Says, held, token_after, KeepsCount, IsRefusedIfDue, GivesSent, Cancels};
+ghost use Rattle.flow_shared.specs.EmitFutures.{Emitting, emitting_at, EmitPolls, SaysSent, held_by_emit, token_after_emit, KeepsCount, SentRefusedIfDue, GivesSent, FutureCancels};
 
 use crate::emit_future::{EmitFuture, Sent};
 use crate::shared::{Seat, SharedFlow};
@@ -40,7 +40,7 @@ impl<'a, T: FlowValue, A: Allocator + Copy> SendFuture<'a, T, A> {
     /// Returns a future that emits this value through this seat. Nothing is emitted before it is polled.
     pub fn new(flow: &'a SharedFlow<T, A>, seat: Seat<T, A>, value: T) -> SendFuture<'a, T, A>
         requires { seat.table_id ≡ flow.now.table_id }
-        ensures { result ≡ emitting flow.now (Fresh seat value) }
+        ensures { result ≡ emitting_at flow.now (Fresh seat value) }
     {
         let emit = EmitFuture::new(flow, seat, value);
         SendFuture { emit }
@@ -52,7 +52,7 @@ impl<'a, T: FlowValue, A: Allocator + Copy> SendFuture<'a, T, A> {
     /// A value that was not emitted, or is queued, is dropped. An offered one is withdrawn from the subscribers that
     /// have not received it.
     pub fn cancel<R: Wait>(self, rt: &R) -> Option<(Seat<T, A>, bool)>
-        ensures { Cancels self.entry result }
+        ensures { FutureCancels self.entry result }
     {
         let SendFuture { emit } = self;
         emit.cancel(rt)
@@ -67,10 +67,10 @@ impl<'a, T: FlowValue, A: Allocator + Copy> Future for SendFuture<'a, T, A> {
     fn poll(&mut self, cx: &mut Context<'_>) -> Poll<Sent<T, A>>
         ensures flow { self.new.flow ≡ self.old.flow }
         ensures polls { EmitPolls self.old.flow self.old.stage result self.new.stage }
-        ensures one { OneEach Says self.old.flow (held self.old.stage) result
-            (token_after result self.new.stage) }
+        ensures one { OneEach SaysSent self.old.flow (held_by_emit self.old.stage) result
+            (token_after_emit result self.new.stage) }
         ensures count { KeepsCount self.old.stage result self.new.stage }
-        ensures refused { IfReady result IsRefusedIfDue }
+        ensures refused { IfReady result SentRefusedIfDue }
         // The clauses of the trait. A pending poll has left its waker, or asked to be polled again (`registered`).
         ensures value { IfReady result (GivesSent self.old) }
         ensures again { OnPending result ⊤ }

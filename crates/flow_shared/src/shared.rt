@@ -6,19 +6,19 @@ ghost use Rattle.flow_law.specs.declared.fault.FlowFault.TheVariants.{OutOfMemor
 ghost use Rattle.flow_law.specs.declared.call.SharedCall.TheVariants as call;
 ghost use Rattle.flow_law.specs.declared.call.SharedReply.TheVariants as reply;
 ghost use Rattle.flow_core.specs.SharedCore.{cache_reply};
-ghost use Rattle.flow_shared.specs.SharedReplies.{Calls, ResetsNow};
+ghost use Rattle.flow_shared.specs.SharedReplies.{SharedCalls, ResetsNow};
 
+use crate::calling::AtOnce;
 use crate::flow::Flow;
+use crate::sleepless::Sleepless;
 use crate::token::{FlowSeat, FlowSubscription};
 use flow_core::SharedCore;
 use flow_law::{Config, FlowFault, FlowValue};
 use std::alloc::{Allocator, Global};
 use std::sync::Wait;
 
-mod asleep;
 mod calls;
-mod emission;
-mod now;
+mod emitting;
 mod seen;
 mod sending;
 mod sending_in_time;
@@ -58,18 +58,18 @@ impl<T: FlowValue, A: Allocator + Copy> Flow<SharedCore<T, A>, A> {
         seat: &mut Seat<T, A>,
     ) -> Result<Vec<T, A>, FlowFault>
         requires { seat.old.table_id ≡ self.now.table_id }
-        ensures called { Calls self.now seat.old call.ReplayCache (cache_reply result) seat.new }
+        ensures called { SharedCalls self.now seat.old call.ReplayCache (cache_reply result) seat.new }
         ensures refused { IfErr result (λ fault. fault ≡ OutOfMemory) }
     {
-        self.call(rt, seat, ReplayCache)
+        self.call(rt, seat, ReplayCache, &mut Sleepless)
     }
 
     /// Empties the replay cache. Present subscribers still receive the values that they have not received.
     pub fn reset_replay_cache<R: Wait>(&self, rt: &R, seat: &mut Seat<T, A>)
         requires { seat.old.table_id ≡ self.now.table_id }
-        ensures { Calls self.now seat.old call.ResetReplayCache reply.Reset seat.new }
+        ensures { SharedCalls self.now seat.old call.ResetReplayCache reply.Reset seat.new }
     {
-        self.call(rt, seat, ResetReplayCache)
+        self.call(rt, seat, ResetReplayCache, &mut Sleepless)
     }
 
     /// Empties the replay cache if no other caller is inside; otherwise returns `Busy`.
@@ -77,7 +77,7 @@ impl<T: FlowValue, A: Allocator + Copy> Flow<SharedCore<T, A>, A> {
         requires { seat.old.table_id ≡ self.now.table_id }
         ensures { ResetsNow self.now seat.old result seat.new }
     {
-        match self.call_now(seat, ResetReplayCache) {
+        match self.call_by(&AtOnce, seat, ResetReplayCache, &mut Sleepless) {
             Ok(()) => Ok(()),
             Err(_back) => Err(FlowFault::Busy),
         }

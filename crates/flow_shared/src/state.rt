@@ -4,10 +4,11 @@ ghost use Rattle.flow_law.specs.Tokens.{Begins};
 ghost use Rattle.flow_law.specs.StateFlow.{first_state_flow};
 ghost use Rattle.flow_law.specs.declared.fault.FlowFault.TheVariants.{OutOfMemory, Unsupported};
 ghost use Rattle.flow_law.specs.declared.call.StateCall.TheVariants as call;
-ghost use Rattle.flow_core.specs.StateCore.{cache_reply, reset_reply};
+ghost use Rattle.flow_core.specs.StateCore.{state_cache_reply, reset_reply};
 ghost use Rattle.flow_shared.specs.StateReplies.{StateCalls};
 
 use crate::flow::Flow;
+use crate::sleepless::Sleepless;
 use crate::token::{FlowSeat, FlowSubscription};
 use flow_core::StateCore;
 use flow_law::{FlowFault, FlowValue};
@@ -60,10 +61,10 @@ impl<T: FlowValue, A: Allocator + Copy> Flow<StateCore<T, A>, A> {
     ) -> Result<Vec<T, A>, FlowFault>
         requires { seat.old.table_id ≡ self.now.table_id }
         ensures called { StateCalls self.now seat.old call.ReplayCache
-            (cache_reply result) seat.new }
+            (state_cache_reply result) seat.new }
         ensures refused { IfErr result (λ fault. fault ≡ OutOfMemory) }
     {
-        self.call(rt, seat, ReplayCache)
+        self.call(rt, seat, ReplayCache, &mut Sleepless)
     }
 
     /// Always fails with `Unsupported`: a state flow has a value at any time. To go back to the first value, `set` it.
@@ -77,6 +78,6 @@ impl<T: FlowValue, A: Allocator + Copy> Flow<StateCore<T, A>, A> {
             (reset_reply result) seat.new }
         ensures refused { result ≡ Err Unsupported }
     {
-        self.call(rt, seat, ResetReplayCache)
+        self.call(rt, seat, ResetReplayCache, &mut Sleepless)
     }
 }

@@ -4,16 +4,17 @@ ghost use Rattle.flow_law.specs.History.{replied};
 ghost use Rattle.flow_law.specs.declared.fault.FlowFault.TheVariants.{OutOfMemory, Exhausted};
 ghost use Rattle.flow_law.specs.declared.outcome.Next.TheVariants.{Gone};
 ghost use Rattle.flow_core.specs.SubId.{number_of};
-ghost use Rattle.flow_shared.specs.Attended.{IsWait};
-ghost use Rattle.flow_shared.specs.Calls.{Nexts, Unsubscribes, Counts, Meets, Subscribes, NextsNow, CountsNow};
+ghost use Rattle.flow_shared.specs.Calls.{Nexts, NextsBy, NextsNow, Unsubscribes, Counts, CountsNow, Subscribes};
+ghost use Rattle.flow_shared.specs.CoreCalls.{IsWait, after_next};
 
-use crate::attended::Attended;
-use crate::core_call::{CoreCall, SleepingCall};
+use crate::calling::{AtOnce, Entry, Waiting};
+use crate::core_call::{CoreCall, Made, Then};
 use crate::flow::Flow;
+use crate::sleepless::Sleepless;
 use crate::token::{FlowSeat, FlowSubscription};
 use crate::watcher::Count;
 use flow_core::{FlowCore, ReaderCalls, SubId, SubscriberCalls};
-use flow_law::{FlowFault, Next};
+use flow_law::{FlowFault, Next, Touch};
 use flow_sleepers::Waiter;
 use std::alloc::Allocator;
 use std::sync::Wait;
@@ -28,22 +29,9 @@ impl<S: SubscriberCalls> CoreCall<S> for Subscribe {
 
     ghost reply = { λ answer. replied S.kind (λ id. S.kind.subscribed (number_of id)) answer };
 
-    ghost also = { λ c answer. ⊤ };
-
-    fn run(self, core: &mut S) -> Result<SubId, FlowFault> {
-        core.subscribe()
-    }
-
-    fn ends(&self) -> Option<u64> {
-        None
-    }
-
-    fn cancels(&self) -> Option<u64> {
-        None
-    }
-
-    fn is_set(_answer: &Result<SubId, FlowFault>) -> bool {
-        false
+    #[inline(always)]
+    fn run(self, core: &mut S) -> Made<Result<SubId, FlowFault>> {
+        Made::quiet(core.subscribe())
     }
 }
 
@@ -61,32 +49,14 @@ impl<S: ReaderCalls> CoreCall<S> for TakeNext {
 
     ghost also = { λ c answer. S.Item.IsAlwaysCopied → IsOk answer };
 
-    fn run(self, core: &mut S) -> Result<Next<S::Item>, FlowFault> {
-        core.next(self.id)
-    }
+    ghost then = { λ c answer. after_next (number_of c.id) answer };
 
-    fn ends(&self) -> Option<u64> {
-        None
-    }
-
-    fn cancels(&self) -> Option<u64> {
-        None
-    }
-
-    fn is_set(_answer: &Result<Next<S::Item>, FlowFault>) -> bool {
-        false
-    }
-}
-
-impl<S: ReaderCalls, A: Allocator + Copy> SleepingCall<S, A> for TakeNext {
-    ghost is_wait = { λ answer. IsWait answer };
-
-    fn run_or_sleep<W: Waiter<A>>(
-        self,
-        state: &mut Attended<S, A>,
-        waiter: &mut W,
-    ) -> Result<Next<S::Item>, FlowFault> {
-        state.next_or_sleep(waiter, self.id)
+    #[inline(always)]
+    fn run(self, core: &mut S) -> Made<Result<Next<S::Item>, FlowFault>> {
+        let number = self.id.number();
+        let answer = core.next(self.id);
+        let then = Then::after_next(number, &answer);
+        Made::before(answer, then)
     }
 }
 
@@ -102,56 +72,10 @@ impl<S: ReaderCalls> CoreCall<S> for Unsubscribe {
 
     ghost reply = { λ answer. S.kind.tested answer };
 
-    ghost also = { λ c answer. ⊤ };
-
-    fn run(self, core: &mut S) -> bool {
-        core.unsubscribe(self.id)
-    }
-
-    fn ends(&self) -> Option<u64> {
-        Some(self.id.number())
-    }
-
-    fn cancels(&self) -> Option<u64> {
-        None
-    }
-
-    fn is_set(_answer: &bool) -> bool {
-        false
-    }
-}
-
-impl<S: FlowCore + Drop, A: Allocator + Copy> Flow<S, A> {
-    /// Lets two seats meet: both have then seen the same history, which has all calls so far. It makes no call of
-    /// the flow and does not wait.
-    ///
-    /// Call it if a caller relies on what the other one did, for instance after a thread has ended and returned its
-    /// seat.
-    pub fn meet(&self, one: &mut FlowSeat<S, A>, other: &mut FlowSeat<S, A>)
-        requires { (one.old.table_id ≡ self.now.table_id) ×
-            (other.old.table_id ≡ self.now.table_id) }
-        ensures { Meets S.kind self.now one.old other.old one.new other.new }
-    {
-        let first = one.seat.take().unwrap();
-        let second = other.seat.take().unwrap();
-        let (first, second) = self.gate.meet(first, second);
-        one.seat = Some(first);
-        other.seat = Some(second);
-    }
-
-    /// Lets a subscription and a seat meet, as `meet` does.
-    pub fn meet_subscription(
-        &self,
-        subscription: &mut FlowSubscription<S, A>,
-        seat: &mut FlowSeat<S, A>,
-    )
-        requires { (subscription.old.token.table_id ≡ self.now.table_id)
-            × (seat.old.table_id ≡ self.now.table_id) }
-        ensures met { Meets S.kind self.now
-            subscription.old.token seat.old subscription.new.token seat.new }
-        ensures number { subscription.new.number ≡ subscription.old.number }
-    {
-        self.meet(&mut subscription.seat, seat);
+    #[inline(always)]
+    fn run(self, core: &mut S) -> Made<bool> {
+        let touches = Touch::Subscriber(self.id.number());
+        Made::touching(core.unsubscribe(self.id), touches)
     }
 }
 
@@ -173,7 +97,7 @@ impl<S: SubscriberCalls + Drop, A: Allocator + Copy> Flow<S, A> {
         ensures subscribed { Subscribes S.kind self.now S.kind.subscribe seat.old result seat.new }
         ensures refused { IfErr result (λ fault. (fault ≡ OutOfMemory) ⊎ (fault ≡ Exhausted)) }
     {
-        let id = self.call(rt, seat, Subscribe)?;
+        let id = self.call(rt, seat, Subscribe, &mut Sleepless)?;
         let made = self.seat(seat);
         Ok(FlowSubscription { seat: made, id })
     }
@@ -197,8 +121,7 @@ impl<S: ReaderCalls + Drop, A: Allocator + Copy> Flow<S, A> {
         ensures refused { IfErr result (λ fault. fault ≡ OutOfMemory) }
         ensures given { S.Item.IsAlwaysCopied → IsOk result }
     {
-        let id = subscription.id;
-        self.call(rt, &mut subscription.seat, TakeNext { id })
+        self.next_asleep(rt, subscription, &mut Sleepless)
     }
 
     /// Returns what `next` returns if no other caller is inside; otherwise the error is `Busy`.
@@ -210,12 +133,11 @@ impl<S: ReaderCalls + Drop, A: Allocator + Copy> Flow<S, A> {
         ensures called { NextsNow S.kind self.now subscription.old result subscription.new }
         ensures given { S.Item.IsAlwaysCopied → IfErr result (λ fault. fault ≡ FlowFault.Busy) }
     {
-        let id = subscription.id;
-        let tried = self.call_now(&mut subscription.seat, TakeNext { id });
-        tried.unwrap_or(Err(FlowFault::Busy))
+        self.next_by(&AtOnce, subscription, &mut Sleepless)
     }
 
     /// Returns what `next` returns. If there is nothing to receive, the caller sleeps.
+    #[inline(always)]
     pub(crate) fn next_asleep<R: Wait, W: Waiter<A>>(
         &self,
         rt: &R,
@@ -230,24 +152,26 @@ impl<S: ReaderCalls + Drop, A: Allocator + Copy> Flow<S, A> {
         ensures given { S.Item.IsAlwaysCopied → IsOk result }
         ensures armed { IsWait result → W.is_armed waiter.new }
     {
-        let id = subscription.id;
-        self.call_asleep(rt, &mut subscription.seat, TakeNext { id }, waiter)
+        self.next_by(&Waiting(rt), subscription, waiter)
     }
 
-    /// Returns what `next_now` returns. The caller sleeps if there is nothing to receive, and asks again if another
-    /// caller is inside.
-    pub(crate) fn next_or_sleep<W: Waiter<A>>(
+    /// Returns what `next` returns, or `Busy` if another caller is inside and this one does not wait for that. If there
+    /// is nothing to receive, the caller sleeps.
+    #[inline(always)]
+    pub(crate) fn next_by<E: Entry, W: Waiter<A>>(
         &self,
+        entry: &E,
         subscription: &mut FlowSubscription<S, A>,
         waiter: &mut W,
     ) -> Result<Next<S::Item>, FlowFault>
         requires { subscription.old.token.table_id ≡ self.now.table_id }
-        ensures called { NextsNow S.kind self.now subscription.old result subscription.new }
+        ensures called { NextsBy S.kind self.now E.is_at_once subscription.old result subscription.new }
+        ensures given { S.Item.IsAlwaysCopied → IfErr result (λ fault. E.is_at_once × (fault ≡ FlowFault.Busy)) }
         ensures armed { IsWait result → W.is_armed waiter.new }
         ensures kept { W.keeps waiter.old waiter.new }
     {
         let id = subscription.id;
-        let tried = self.call_or_sleep(&mut subscription.seat, TakeNext { id }, waiter);
+        let tried = self.call_by(entry, &mut subscription.seat, TakeNext { id }, waiter);
         tried.unwrap_or(Err(FlowFault::Busy))
     }
 
@@ -261,7 +185,7 @@ impl<S: ReaderCalls + Drop, A: Allocator + Copy> Flow<S, A> {
         ensures { Unsubscribes S.kind self.now subscription result }
     {
         let FlowSubscription { mut seat, id } = subscription;
-        let _was_there = self.call(rt, &mut seat, Unsubscribe { id });
+        let _was_there = self.call(rt, &mut seat, Unsubscribe { id }, &mut Sleepless);
         seat
     }
 
@@ -270,7 +194,7 @@ impl<S: ReaderCalls + Drop, A: Allocator + Copy> Flow<S, A> {
         requires { seat.old.table_id ≡ self.now.table_id }
         ensures { Counts S.kind self.now seat.old result seat.new }
     {
-        self.call(rt, seat, Count::new())
+        self.call(rt, seat, Count::new(), &mut Sleepless)
     }
 
     /// Counts the subscribers if no other caller is inside; otherwise returns `Busy`.
@@ -278,9 +202,7 @@ impl<S: ReaderCalls + Drop, A: Allocator + Copy> Flow<S, A> {
         requires { seat.old.table_id ≡ self.now.table_id }
         ensures { CountsNow S.kind self.now seat.old result seat.new }
     {
-        match self.call_now(seat, Count::new()) {
-            Ok(count) => Ok(count),
-            Err(_count) => Err(FlowFault::Busy),
-        }
+        let count = self.call_by(&AtOnce, seat, Count::new(), &mut Sleepless);
+        count.map_err(|_call| FlowFault::Busy)
     }
 }

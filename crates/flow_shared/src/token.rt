@@ -1,11 +1,10 @@
 //! The tokens of flows: seats and subscriptions.
-ghost use Rattle.std.specs.Prelude.{IsSome};
+ghost use Rattle.std.specs.Prelude.{◌≡◌};
 ghost use Rattle.flow_law.specs.declared.history.Said.{Said};
 ghost use Rattle.flow_law.specs.History.{IsSubscription};
-ghost use Rattle.flow_law.specs.Tokens.{numbered};
-ghost use Rattle.flow_gate.specs.Tokens.{Token};
-ghost use Rattle.flow_shared.specs.Calls.{NumberedToken};
-ghost use Rattle.flow_shared.specs.Tokens.{seat_in};
+ghost use Rattle.flow_law.specs.Tokens.{numbered_token};
+ghost use Rattle.flow_gate.specs.Tokens.{GateToken, IsIdle, idle_seat};
+ghost use Rattle.flow_shared.specs.Calls.{GateNumbered};
 ghost use Rattle.flow_core.specs.SubId.{number_of};
 
 use crate::attended::Attended;
@@ -16,18 +15,32 @@ use std::marker::Model;
 /// A seat at a flow, by which a caller calls it. Contracts see the history that it has seen.
 ///
 /// After a seat is dropped, no call is made under its name. The flow does not change.
-#[derive(Drop)]
 pub struct FlowSeat<S: FlowCore, A: Allocator + Copy = Global> {
-    /// `None` only in the middle of a call.
-    pub(crate) seat: Option<flow_gate::Seat<Attended<S, A>, A>>,
+    pub(crate) seat: flow_gate::Seat<Attended<S, A>>,
+}
+
+impl<S: FlowCore, A: Allocator + Copy> Drop for FlowSeat<S, A> {
+    fn drop(self) {
+        self.into_inner().end();
+    }
+}
+
+impl<S: FlowCore, A: Allocator + Copy> FlowSeat<S, A> {
+    /// Returns the seat at the gate.
+    pub(crate) fn into_inner(self) -> flow_gate::Seat<Attended<S, A>>
+        ensures { result ≡ idle_seat self }
+    {
+        let Self { seat } = self;
+        seat
+    }
 }
 
 impl<S: FlowCore, A: Allocator + Copy> Model for FlowSeat<S, A> {
-    ghost Value = { Token (Said S.Call S.Reply) };
+    ghost Value = { GateToken (Said S.Call S.Reply) };
 
-    ghost view = { λ s. seat_in s.seat };
+    ghost view = { λ s. s.seat.token };
 
-    ghost invariant = { λ s. IsSome s.seat };
+    ghost invariant = { λ s. IsIdle s.seat };
 }
 
 /// A subscription to a flow: a seat of its own, and its number.
@@ -41,9 +54,9 @@ pub struct FlowSubscription<S: FlowCore, A: Allocator + Copy = Global> {
 }
 
 impl<S: FlowCore, A: Allocator + Copy> Model for FlowSubscription<S, A> {
-    ghost Value = { NumberedToken (Said S.Call S.Reply) };
+    ghost Value = { GateNumbered (Said S.Call S.Reply) };
 
-    ghost view = { λ s. numbered s.seat (number_of s.id) };
+    ghost view = { λ s. numbered_token s.seat (number_of s.id) };
 
     ghost invariant = { λ s. IsSubscription S.kind s.seat.knows (number_of s.id) };
 }

@@ -1,46 +1,36 @@
 //! Callers that sleep until the number of subscribers changes.
-ghost use Rattle.std.specs.Prelude.{◌≡◌, ⊤};
+ghost use Rattle.std.specs.Prelude.{◌≡◌, None};
 ghost use Rattle.flow_shared.specs.Calls.{Counts, CountsNow};
+ghost use Rattle.flow_shared.specs.CoreCalls.{after_counting};
 ghost use Rattle.flow_shared.specs.SharedReplies.{PollsNow};
 
 use crate::answers::{Emission, PolledNow};
-use crate::attended::Attended;
-use crate::core_call::{CoreCall, SleepingCall};
+use crate::calling::AtOnce;
+use crate::core_call::{CoreCall, Made, Then, Watching};
 use crate::flow::Flow;
 use crate::handles::FlowCaller;
 use crate::sleepless::Sleepless;
 use crate::token::FlowSeat;
 use flow_core::{FlowCore, ReaderCalls, SharedCore};
 use flow_law::{FlowFault, FlowValue};
-use flow_sleepers::{ThreadWaiter, Waiter};
+use flow_sleepers::ThreadWaiter;
 use std::alloc::{Allocator, Global};
 use std::sync::Wait;
 use std::sync::atomic::Ordering::Relaxed;
 use std::time::Duration;
 
-/// What a count does to the watchers of the number of subscribers.
-#[derive(Drop)]
-pub(crate) enum Watching {
-    Same,
-    /// The caller sleeps under this number until there are more or fewer subscribers.
-    Begins(u64),
-    /// The watcher of this number is removed.
-    Ends(u64),
-    /// All watchers are woken.
-    AllEnd,
-}
-
+/// A count of the subscribers, and what it does to the watchers of their number.
 #[derive(Drop)]
 pub(crate) struct Count {
-    pub(crate) watching: Watching,
+    watching: Option<Watching>,
 }
 
 impl Count {
     /// Returns a count that does not change the watchers.
-    pub(crate) fn new() -> Count {
-        Count {
-            watching: Watching::Same,
-        }
+    pub(crate) fn new() -> Count
+        ensures { result.watching ≡ None }
+    {
+        Count { watching: None }
     }
 }
 
@@ -51,39 +41,15 @@ impl<S: ReaderCalls> CoreCall<S> for Count {
 
     ghost reply = { λ count. S.kind.counted count };
 
-    ghost also = { λ c count. ⊤ };
+    ghost then = { λ c count. after_counting c.watching };
 
-    fn run(self, core: &mut S) -> u64 {
-        core.signs().subscribers
-    }
-
-    fn ends(&self) -> Option<u64> {
-        None
-    }
-
-    fn cancels(&self) -> Option<u64> {
-        None
-    }
-
-    fn is_set(_answer: &u64) -> bool {
-        false
-    }
-}
-
-impl<S: ReaderCalls, A: Allocator + Copy> SleepingCall<S, A> for Count {
-    ghost is_wait = { λ count. ⊤ };
-
-    fn run_or_sleep<W: Waiter<A>>(self, state: &mut Attended<S, A>, waiter: &mut W) -> u64 {
-        let Count { watching } = self;
-        if let Watching::Begins(number) = watching {
-            return state.count_and_watch(waiter, number);
-        }
-        waiter.ask_again();
-        match watching {
-            Watching::Ends(number) => state.count_and_unwatch(number),
-            Watching::AllEnd => state.count_and_wake(),
-            Watching::Same | Watching::Begins(_) => state.count(),
-        }
+    #[inline(always)]
+    fn run(self, core: &mut S) -> Made<u64> {
+        let then = match self.watching {
+            Some(watching) => Then::Watch(watching),
+            None => Then::Leave,
+        };
+        Made::before(core.signs().subscribers, then)
     }
 }
 
@@ -155,33 +121,28 @@ impl<S: ReaderCalls + Drop, A: Allocator + Copy> Flow<S, A> {
         ensures { CountsNow S.kind self.now seat.old result seat.new }
     {
         let watching = match watcher.watch {
-            Watch::Away => return self.count_now(seat),
-            Watch::Begins => Watching::Begins(watcher.number),
-            Watch::Ends => Watching::Ends(watcher.number),
+            Watch::Away => None,
+            Watch::Begins => Some(Watching::Begins(watcher.number)),
+            Watch::Ends => Some(Watching::Ends(watcher.number)),
         };
-        match self.call_or_sleep(seat, Count { watching }, &mut watcher.thread) {
-            Ok(count) => {
-                if let Watch::Ends = watcher.watch {
-                    watcher.watch = Watch::Away;
-                }
-                Ok(count)
-            }
-            Err(_count) => Err(FlowFault::Busy),
+        let count = self.call_by(&AtOnce, seat, Count { watching }, &mut watcher.thread);
+        if let (Ok(_), Watch::Ends) = (&count, &watcher.watch) {
+            watcher.watch = Watch::Away;
         }
+        count.map_err(|_call| FlowFault::Busy)
     }
 }
 
 impl<'a, S: ReaderCalls + Drop, A: Allocator + Copy> FlowCaller<'a, S, A> {
     /// Counts the subscribers as `subscription_count` does, and wakes all watchers.
-    pub fn wake_watchers<R: Wait>(&mut self, rt: &R) -> u64
+    pub fn count_and_wake_watchers<R: Wait>(&mut self, rt: &R) -> u64
         ensures flow { self.new.flow ≡ self.old.flow }
         ensures counted { Counts S.kind self.old.flow self.old.token result self.new.token }
     {
         let count = Count {
-            watching: Watching::AllEnd,
+            watching: Some(Watching::AllEnd),
         };
-        self.flow
-            .call_asleep(rt, &mut self.seat, count, &mut Sleepless)
+        self.flow.call(rt, &mut self.seat, count, &mut Sleepless)
     }
 }
 
@@ -196,7 +157,7 @@ impl<T: FlowValue, A: Allocator + Copy> Flow<SharedCore<T, A>, A> {
         ensures { PollsNow self.now emission result }
     {
         match watcher.watch {
-            Watch::Begins => self.poll_or_sleep(emission, &mut watcher.thread),
+            Watch::Begins => self.poll_by(&AtOnce, emission, &mut watcher.thread),
             Watch::Away | Watch::Ends => self.poll_now(emission),
         }
     }

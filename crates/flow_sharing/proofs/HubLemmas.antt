@@ -18,13 +18,13 @@ use Rattle.flow_law.specs.Steps.{Takes}
 use Rattle.flow_law.specs.declared.sharing.Started.{Started}
 use Rattle.flow_law.specs.declared.sharing.SharingObservation.{SharingObservation}
 use Rattle.std.specs.Result.{is_ok}
-use Rattle.flow_law.specs.Tokens.{Token, IsBusy, CallsAtOnceIn}
+use Rattle.flow_law.specs.Tokens.{Token, IsBusy, HasSeenMore, CallsAtOnceIn}
 use Rattle.flow_shared.specs.SharedReplies.{SharedToken}
 use Rattle.flow_sharing.specs.SeatedHub.{SeatedHub, has_emission, OnlySends, CountDoes}
 use Rattle.flow_sharing.specs.SharedFlowHub.{SharedSeats, PutBy, PollBy, CancelBy, ResetBy, SharedFlowHubDoes, SharedSays}
 use Rattle.flow_sharing.specs.StateFlowHub.{StateSeats, nothing_waits, StateFlowHubDoes, StateSays}
 use Rattle.flow_sharing.specs.WordHub.{WordHubDoes}
-use Rattle.flow_sharing.specs.OverThreads.{exchanges_lost, lost_at, lost_in, HasSeenMore, Follows}
+use Rattle.flow_sharing.specs.OverThreads.{exchanges_lost, lost_at, lost_in, FollowsInTurn}
 use Rattle.flow_sharing.proofs.SeatLemmas.{seen-here, seen-busy, seen-called}
 use Rattle.flow_sharing.proofs.SendingLemmas.{Silent, SendsOne, Sends}
 use Rattle.flow_sharing.proofs.TurnBySeatsLemmas.{BySeats, lost_for, lost_by, turn-by-seats}
@@ -50,7 +50,7 @@ module _ {Id T S C R : Type 0} (kind : Kind T S C R) (first : S) where
 
 module _ {Id S E I : Type 0} where
   abbrev Steps : SeatedHub Id S E I → ℕ → SeatedHub Id S E I → Type 0
-  Steps h n k = (exchanges_lost k ≡ exchanges_lost h + n) × Follows h k
+  Steps h n k = (exchanges_lost k ≡ exchanges_lost h + n) × FollowsInTurn h k
 
   sending-steps : (h k : SeatedHub Id S E I) (n : ℕ) → OnlySends h k → Moves h.sending n k.sending → Steps h n k
   sending-steps h k n only (lost, more) = (

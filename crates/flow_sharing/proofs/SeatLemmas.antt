@@ -4,9 +4,9 @@ use Rattle.flow_law.specs.declared.history.Said.{Said}
 use Rattle.flow_law.specs.Growth.{event}
 use Rattle.flow_law.specs.History.{Kind}
 use Rattle.flow_law.specs.OneHistory.{said}
-use Rattle.flow_law.specs.Tokens.{Token, IsBusy, CallsAtOnceIn}
+use Rattle.flow_law.specs.Tokens.{Token, IsBusy, HasSeenMore, CallsAtOnceIn}
 use Rattle.flow_sharing.specs.SeatedHub.{SeatedHub}
-use Rattle.flow_sharing.specs.OverThreads.{HasSeenMore, Follows}
+use Rattle.flow_sharing.specs.OverThreads.{FollowsInTurn}
 
 module _ {Id E : Type 0} where
   pub seen-here : (t : Token Id E) → HasSeenMore t t
@@ -32,9 +32,9 @@ module _ {Id T S C R : Type 0} (kind : Kind T S C R) (first : S) where
       )
 
 module _ {Id S E I : Type 0} where
-  pub follows-here : (h : SeatedHub Id S E I) → Follows h h
+  pub follows-here : (h : SeatedHub Id S E I) → FollowsInTurn h h
   follows-here h = (refl, refl, seen-here h.watching, seen-here h.sending)
 
-  pub follows-on : (g h k : SeatedHub Id S E I) → Follows g h → Follows h k → Follows g k
+  pub follows-on : (g h k : SeatedHub Id S E I) → FollowsInTurn g h → FollowsInTurn h k → FollowsInTurn g k
   follows-on g h k one next =
       (next.0 ∙ one.0, next.1 ∙ one.1, seen-on g.watching h.watching k.watching one.2 next.2, seen-on g.sending h.sending k.sending one.3 next.3)

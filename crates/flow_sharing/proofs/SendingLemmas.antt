@@ -8,7 +8,7 @@ use Rattle.flow_law.specs.SharingCalls.{HubCall, HubAnswer, counts, puts, polls,
 use Rattle.flow_law.specs.SharingTurn.{SharingState}
 use Rattle.flow_law.specs.TurnMeaning.{IsNoReset, CallsLead, WasReset, ResetMeans}
 use Rattle.flow_sharing.specs.SeatedHub.{SeatedHub}
-use Rattle.flow_sharing.specs.OverThreads.{Follows, InTurn, AddsFor, makes_reset, SendsInTurn}
+use Rattle.flow_sharing.specs.OverThreads.{FollowsInTurn, InTurn, AddsFor, makes_reset, SendsInTurn}
 
 -- ---- one call
 
@@ -53,7 +53,7 @@ module _ {Id T S E I : Type 0} (Says : I → HubCall T → E → Type 0) (step :
   adds-silent calls h m k same adds = subst (λ l. AddsFor (Says began.initial) began.sending.knows.name calls l k.sending.knows.seen) same adds
 
   -- and before one in which it adds an event
-  adds-one : (c : HubCall T) (calls : List (HubCall T)) (h m k : SeatedHub Id S E I) → Follows began h → SendsOne Says c h m → Adds calls m k → Adds (c ∷ calls) h k
+  adds-one : (c : HubCall T) (calls : List (HubCall T)) (h m k : SeatedHub Id S E I) → FollowsInTurn began h → SendsOne Says c h m → Adds calls m k → Adds (c ∷ calls) h k
   adds-one c calls h m k follows (what, says, grows) adds = (
     what,
     subst (λ i. Says i c what) follows.1 says,

@@ -21,7 +21,7 @@ use Rattle.flow_law.proofs.TurnLemmas.{by-if, Leads, leads-takes, leads-so, turn
 use Rattle.flow_law.proofs.TurnMeaningLemmas.{turn-means}
 use Rattle.flow_law.proofs.TurnResetLemmas.{turn-resets}
 use Rattle.flow_sharing.specs.SeatedHub.{SeatedHub}
-use Rattle.flow_sharing.specs.OverThreads.{exchanges_lost, lost_in, Follows, InTurn, TurnBySeats}
+use Rattle.flow_sharing.specs.OverThreads.{exchanges_lost, lost_in, FollowsInTurn, InTurn, TurnBySeats}
 use Rattle.flow_sharing.proofs.SeatLemmas.{follows-here, follows-on}
 use Rattle.flow_sharing.proofs.SendingLemmas.{Sends, sends-means}
 
@@ -40,7 +40,7 @@ pub record BySeats {Id T S C R I : Type 0} (kind : Kind T S C R) (Says : I → H
   pub counted : (h k : SeatedHub Id S (Said C R) I) (a : Result ℕ FlowFault) → step counts h a k → CountsNowIn kind h.flow.first h.watching a k.watching
   -- the watching seat makes no other call
   pub watches : (c : HubCall T) (h k : SeatedHub Id S (Said C R) I) (a : HubAnswer c) → c ≢ counts → step c h a k → k.watching ≡ h.watching
-  pub follows : (c : HubCall T) (h k : SeatedHub Id S (Said C R) I) (a : HubAnswer c) → step c h a k → Follows h k
+  pub follows : (c : HubCall T) (h k : SeatedHub Id S (Said C R) I) (a : HubAnswer c) → step c h a k → FollowsInTurn h k
   pub sends : (c : HubCall T) (h k : SeatedHub Id S (Said C R) I) (a : HubAnswer c) → step c h a k → Sends Says c a h k
 
 refused-loses : (command : Command) (fault : FlowFault) → lost_for fault ≡ lost_in (reported command (refusal fault))
@@ -167,8 +167,8 @@ module _ {Id T S C R I : Type 0} (kind : Kind T S C R) (Says : I → HubCall T �
         (by.loses counts old.hub k (Err fault) told ∙ ap (λ n. exchanges_lost old.hub + n) (refused-loses Keep fault), inl refl)
 
     -- the same turn, with each of its calls as a call of this turn
-    in-turn : (c : HubCall T) (h k : SeatedHub Id S (Said C R) I) (a : HubAnswer c) (f : SeatedHub Id S (Said C R) I) → (f ≡ h) × Follows old.hub h → step c h a k
-        → (g : SeatedHub Id S (Said C R) I) × ((g ≡ k) × Follows old.hub k) × InTurn step old.hub c f a g
+    in-turn : (c : HubCall T) (h k : SeatedHub Id S (Said C R) I) (a : HubAnswer c) (f : SeatedHub Id S (Said C R) I) → (f ≡ h) × FollowsInTurn old.hub h → step c h a k
+        → (g : SeatedHub Id S (Said C R) I) × ((g ≡ k) × FollowsInTurn old.hub k) × InTurn step old.hub c f a g
     in-turn c h k a f (is, so) told = (
       k,
       (refl, follows-on old.hub h k so (by.follows c h k a told)),
@@ -181,7 +181,7 @@ module _ {Id T S C R I : Type 0} (kind : Kind T S C R) (Says : I → HubCall T �
         let both = leads-takes step Told (turn_steps started now seen s) old turned new (
         by-if (λ steps. Leads step Told steps old) s.ended _ _ (λ over. (sym (add-zero (exchanges_lost old.hub)), inl refl)) (λ going. count-tells)
         ) h in
-        let done = turn-along step (InTurn step old.hub) (λ h f. (f ≡ h) × Follows old.hub h) in-turn (turn_steps started now seen s) old new old.hub turned (refl, follows-here old.hub) h in
+        let done = turn-along step (InTurn step old.hub) (λ h f. (f ≡ h) × FollowsInTurn old.hub h) in-turn (turn_steps started now seen s) old new old.hub turned (refl, follows-here old.hub) h in
         let steps : Takes (CallDoes (InTurn step old.hub)) (turn_steps started now seen s) old turned new =
         subst (λ g. Takes (CallDoes (InTurn step old.hub)) (turn_steps started now seen s) old turned (with_hub new g)) done.1.0 done.2 in
         let reset = turn-resets (InTurn step old.hub) s started now seen old new turned steps in

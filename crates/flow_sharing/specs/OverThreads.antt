@@ -20,7 +20,7 @@ use Rattle.flow_law.specs.SharingFlows.{IsNotBusy}
 use Rattle.flow_law.specs.SharingTurn.{SharingState, Turned, turn_steps}
 use Rattle.flow_law.specs.StateFlow.{state_flow}
 use Rattle.flow_law.specs.Steps.{Takes}
-use Rattle.flow_law.specs.Tokens.{Token, CallsAtOnceIn}
+use Rattle.flow_law.specs.Tokens.{Token, HasSeenMore, CallsAtOnceIn}
 use Rattle.flow_law.specs.TurnMeaning.{HasAccount, BetweenTurns, resets_at, HadCommand, IsCommand, TurnMeans, TurnResets}
 use Rattle.flow_sharing.specs.SeatedHub.{SeatedHub, has_emission}
 use Rattle.flow_sharing.specs.SharedFlowHub.{SharedSeats, SharedFlowHubDoes, SharedSays}
@@ -46,22 +46,16 @@ lost_in (Err fault) = 0
 
 -- ---- within a turn
 
--- the same token, later: it has seen all that it had seen before, and maybe more
-abbrev pub HasSeenMore : {Id E : Type 0} → Token Id E → Token Id E → Type 0
-HasSeenMore {Id} {E} before after =
-    (after.table_id ≡ before.table_id) × (after.knows.name ≡ before.knows.name)
-    × ((more : List (HistoryEvent E)) × (after.knows.seen ≡ before.knows.seen ++ more))
-
 module _ {Id S E I : Type 0} where
   -- the same hub, later in a turn: its flow and the value that a reset sets are the same, and its seats have seen as much or more
-  abbrev pub Follows : SeatedHub Id S E I → SeatedHub Id S E I → Type 0
-  Follows before after =
+  abbrev pub FollowsInTurn : SeatedHub Id S E I → SeatedHub Id S E I → Type 0
+  FollowsInTurn before after =
       (after.flow ≡ before.flow) × (after.initial ≡ before.initial) × HasSeenMore before.watching after.watching × HasSeenMore before.sending after.sending
 
   -- a call of the hub, in a turn that began with the hub `began`
   abbrev pub InTurn : {T : Type 0} → ((c : HubCall T) → SeatedHub Id S E I → HubAnswer c → SeatedHub Id S E I → Type 0) → SeatedHub Id S E I
       → (c : HubCall T) → SeatedHub Id S E I → HubAnswer c → SeatedHub Id S E I → Type 0
-  InTurn does began call old answer new = does call old answer new × Follows began old
+  InTurn does began call old answer new = does call old answer new × FollowsInTurn began old
 
 -- ---- what the sending seat adds
 
@@ -113,7 +107,7 @@ pub record TurnBySeats {Id T S C R I : Type 0} (kind : Kind T S C R) (Says : I �
   pub sent : (command : Command) × HadCommand command turned.answer × IsCommand started seen turned.seen command
       × SendsInTurn (Says old.hub.initial) (makes_reset (resets_at command s.reset_due) turned.state.reset_due) old.hub.sending new.hub.sending
   -- The hub is of the same flow, by the same two seats.
-  pub follows : Follows old.hub new.hub
+  pub follows : FollowsInTurn old.hub new.hub
 
 -- A turn over a shared flow for several threads.
 abbrev pub LawTurnOverSharedFlow : Type 0 → Type 0

@@ -6,11 +6,11 @@ use Rattle.flow_sharing.specs.declared.sender.Sender.TheVariants.{Idle, Waiting}
 
 module _ {T A : Type 0} where
   -- the token of the sender, whether or not its emission waits
-  abbrev pub token_of : Sender T A → SharedToken T
-  token_of (Idle seat) = seat
-  token_of (Waiting emission) = emission.token
+  abbrev pub sender_token : Sender T A → SharedToken T
+  sender_token (Idle seat) = seat
+  sender_token (Waiting emission) = emission.token
 
   -- the number of the emission that waits
-  abbrev pub emission_of : Sender T A → Option ℕ
-  emission_of (Idle seat) = None
-  emission_of (Waiting emission) = Some emission.number
+  abbrev pub sender_emission : Sender T A → Option ℕ
+  sender_emission (Idle seat) = None
+  sender_emission (Waiting emission) = Some emission.number

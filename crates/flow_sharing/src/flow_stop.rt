@@ -38,7 +38,7 @@ impl FlowStop {
         ensures counted { Counts S.kind caller.old.flow caller.old.token result caller.new.token }
     {
         self.is_asked.store(true, Ordering::SeqCst);
-        caller.wake_watchers(rt)
+        caller.count_and_wake_watchers(rt)
     }
 }
 

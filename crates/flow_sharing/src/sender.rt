@@ -3,7 +3,7 @@ ghost use Rattle.std.specs.Prelude.{◌≡◌, false, None, is_some, IfErr};
 ghost use Rattle.flow_law.specs.SharingCalls as calls;
 ghost use Rattle.flow_law.specs.SharingCalls.{waits_after};
 ghost use Rattle.flow_turns.specs.Hub.{put_answer};
-ghost use Rattle.flow_sharing.specs.Sender.{token_of, emission_of};
+ghost use Rattle.flow_sharing.specs.Sender.{sender_token, sender_emission};
 ghost use Rattle.flow_sharing.specs.SharedFlowHub.{PutBy, PollBy, CancelBy, ResetBy};
 
 use flow_law::{FlowFault, FlowValue, Refused};
@@ -20,15 +20,15 @@ pub(crate) enum Sender<T: FlowValue, A: Allocator + Copy> {
 impl<T: FlowValue, A: Allocator + Copy> Sender<T, A> {
     /// Emits a value, and returns whether the emission waits.
     pub(crate) fn put(self, call: (&SharedFlow<T, A>, T)) -> (Self, Result<bool, Refused<T>>)
-        requires flow { (token_of self).table_id ≡ call.0.now.table_id }
-        requires idle { emission_of self ≡ None }
+        requires flow { (sender_token self).table_id ≡ call.0.now.table_id }
+        requires idle { sender_emission self ≡ None }
         ensures puts { PutBy call.entry.0.now.first call.entry.1
-            (token_of self) (put_answer result.1)
-            (token_of result.0) (emission_of result.0) }
-        ensures waits { is_some (emission_of result.0)
+            (sender_token self) (put_answer result.1)
+            (sender_token result.0) (sender_emission result.0) }
+        ensures waits { is_some (sender_emission result.0)
             ≡ waits_after (calls.puts call.entry.1) (put_answer result.1) false }
         ensures handed_back { IfErr result.1 (λ refused. refused.value ≡ call.entry.1) }
-        ensures flow { (token_of result.0).table_id ≡ (token_of self).table_id }
+        ensures flow { (sender_token result.0).table_id ≡ (sender_token self).table_id }
     {
         let (flow, value) = call;
         let Sender::Idle(seat) = self else {
@@ -49,13 +49,13 @@ impl<T: FlowValue, A: Allocator + Copy> Sender<T, A> {
         self,
         call: (&SharedFlow<T, A>, &mut Watcher<A>),
     ) -> (Self, Result<bool, FlowFault>)
-        requires { (token_of self).table_id ≡ call.0.now.table_id }
-        ensures polls { PollBy call.entry.0.now.first (emission_of self) (token_of self) result.1
-            (token_of result.0) (emission_of result.0) }
-        ensures waits { is_some (emission_of result.0)
-            ≡ waits_after {T = T} calls.polls result.1 (is_some (emission_of self)) }
+        requires { (sender_token self).table_id ≡ call.0.now.table_id }
+        ensures polls { PollBy call.entry.0.now.first (sender_emission self) (sender_token self) result.1
+            (sender_token result.0) (sender_emission result.0) }
+        ensures waits { is_some (sender_emission result.0)
+            ≡ waits_after {T = T} calls.polls result.1 (is_some (sender_emission self)) }
         ensures busy { IfErr result.1 (λ fault. fault ≡ FlowFault.Busy) }
-        ensures flow { (token_of result.0).table_id ≡ (token_of self).table_id }
+        ensures flow { (sender_token result.0).table_id ≡ (sender_token self).table_id }
     {
         let (flow, watcher) = call;
         match self {
@@ -70,13 +70,13 @@ impl<T: FlowValue, A: Allocator + Copy> Sender<T, A> {
 
     /// Cancels the emission, if there is one, and returns whether it waited.
     pub(crate) fn cancel(self, flow: &SharedFlow<T, A>) -> (Self, Result<bool, FlowFault>)
-        requires { (token_of self).table_id ≡ flow.now.table_id }
-        ensures cancels { CancelBy flow.now.first (emission_of self) (token_of self) result.1
-            (token_of result.0) (emission_of result.0) }
-        ensures waits { is_some (emission_of result.0)
-            ≡ waits_after {T = T} calls.cancels result.1 (is_some (emission_of self)) }
+        requires { (sender_token self).table_id ≡ flow.now.table_id }
+        ensures cancels { CancelBy flow.now.first (sender_emission self) (sender_token self) result.1
+            (sender_token result.0) (sender_emission result.0) }
+        ensures waits { is_some (sender_emission result.0)
+            ≡ waits_after {T = T} calls.cancels result.1 (is_some (sender_emission self)) }
         ensures busy { IfErr result.1 (λ fault. fault ≡ FlowFault.Busy) }
-        ensures flow { (token_of result.0).table_id ≡ (token_of self).table_id }
+        ensures flow { (sender_token result.0).table_id ≡ (sender_token self).table_id }
     {
         match self {
             Sender::Idle(seat) => (Sender::Idle(seat), Ok(false)),
@@ -89,12 +89,12 @@ impl<T: FlowValue, A: Allocator + Copy> Sender<T, A> {
 
     /// Empties the replay cache of the flow.
     pub(crate) fn reset(self, flow: &SharedFlow<T, A>) -> (Self, Result<(), FlowFault>)
-        requires flow { (token_of self).table_id ≡ flow.now.table_id }
-        requires idle { emission_of self ≡ None }
-        ensures resets { ResetBy flow.now.first (token_of self) result.1
-            (token_of result.0) (emission_of result.0) }
-        ensures waits { is_some (emission_of result.0) ≡ false }
-        ensures flow { (token_of result.0).table_id ≡ (token_of self).table_id }
+        requires flow { (sender_token self).table_id ≡ flow.now.table_id }
+        requires idle { sender_emission self ≡ None }
+        ensures resets { ResetBy flow.now.first (sender_token self) result.1
+            (sender_token result.0) (sender_emission result.0) }
+        ensures waits { is_some (sender_emission result.0) ≡ false }
+        ensures flow { (sender_token result.0).table_id ≡ (sender_token self).table_id }
     {
         let Sender::Idle(mut seat) = self else {
             unreachable!()

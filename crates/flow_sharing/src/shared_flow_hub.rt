@@ -35,17 +35,17 @@ impl<'a, T: FlowValue, A: Allocator + Copy> Model for SharedFlowHub<'a, T, A> {
     ghost Value = { SharedSeats T };
 
     ghost use Rattle.flow_sharing.specs.SeatedHub.{IsOf};
-    ghost use Rattle.flow_sharing.specs.Sender.{token_of, emission_of};
+    ghost use Rattle.flow_sharing.specs.Sender.{sender_token, sender_emission};
 
     ghost view = { λ h. record {
       flow = h.flow.now;
       watching = h.watching;
-      sending = token_of h.sending;
-      emission = emission_of h.sending;
+      sending = sender_token h.sending;
+      emission = sender_emission h.sending;
       initial = tt;
     } };
 
-    ghost invariant = { λ h. IsOf h.watching h.flow.now × IsOf (token_of h.sending) h.flow.now };
+    ghost invariant = { λ h. IsOf h.watching h.flow.now × IsOf (sender_token h.sending) h.flow.now };
 }
 
 impl<'a, T: FlowValue, A: Allocator + Copy> SharedFlowHub<'a, T, A> {

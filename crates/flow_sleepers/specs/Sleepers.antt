@@ -7,8 +7,8 @@ abbrev pub numbers_of : {A : Type 0} → List (Sleeper A) → List ℕ
 numbers_of list = map (λ s. s.number) list
 
 -- the list has not changed (it had the number already, or no waker was kept), or the number was inserted
-abbrev pub Adds : ℕ → List ℕ → List ℕ → Type 0
-Adds number old new = (new ≡ old) ⊎ ((place : ℕ) × (new ≡ insert old place number))
+abbrev pub AddsSleeper : ℕ → List ℕ → List ℕ → Type 0
+AddsSleeper number old new = (new ≡ old) ⊎ ((place : ℕ) × (new ≡ insert old place number))
 
 -- the sleeper at this place has this number
 abbrev pub HasNumber : List ℕ → ℕ → ℕ → Type 0

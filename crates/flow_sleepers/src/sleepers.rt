@@ -2,7 +2,7 @@
 ghost use Rattle.std.specs.Prelude.{◌≡◌, ◌<◌, ◌≤◌, nat_le, ◌↔◌, ◌==◌, not, filter, length, [], IsTrue, IfSome, ◌⊎◌, Contains};
 ghost use Rattle.std.specs.Bool.{OnTrue};
 ghost use Rattle.std.specs.Vec.{vec_len};
-ghost use Rattle.flow_sleepers.specs.Sleepers.{Adds, HasNumber, numbers_of};
+ghost use Rattle.flow_sleepers.specs.Sleepers.{AddsSleeper, HasNumber, numbers_of};
 
 use crate::waiter::{Waiter, Wakers};
 use futures::task::Poll;
@@ -93,7 +93,7 @@ fn place_of<A: Allocator>(list: &[Sleeper<A>], number: u64) -> usize
 fn place_in<A: Allocator>(list: &mut Vec<Sleeper<A>, A>, number: u64) -> Option<usize>
     ensures within { IfSome result (λ place. place < vec_len list.new) }
     ensures found { IfSome result (λ place. HasNumber (numbers_of list.new.items) place number) }
-    ensures adds { Adds number (numbers_of list.old.items) (numbers_of list.new.items) }
+    ensures adds { AddsSleeper number (numbers_of list.old.items) (numbers_of list.new.items) }
 {
     let place = place_of(list, number);
     if is_at(list, place, number) {
@@ -168,7 +168,7 @@ impl<A: Allocator + Copy> Sleepers<A> {
         ensures armed { W.is_armed waiter.new }
         ensures kept { W.keeps waiter.old waiter.new }
         ensures listed { (W.asks_again waiter.new) ⊎ (Contains self.new number) }
-        ensures adds { Adds number self.old self.new }
+        ensures adds { AddsSleeper number self.old self.new }
     {
         if waiter.asks_first() {
             waiter.ask_again();

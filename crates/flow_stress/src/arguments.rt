@@ -64,7 +64,7 @@ const MOST_ROOM: u32 = 65_536;
 
 /// The kind of the flow whose calls are recorded.
 #[derive(Clone, Copy)]
-pub enum Kind {
+pub enum RecordedKind {
     /// A state flow without a lock.
     Word,
     /// A state flow behind a gate.
@@ -82,7 +82,7 @@ pub enum Kind {
 pub enum Task {
     Stress(Size),
     Crowd(CrowdSize),
-    Record(Kind, Size),
+    Record(RecordedKind, Size),
 }
 
 /// Reads a number from `least` to `most`. Returns None if the word is not one.
@@ -121,13 +121,13 @@ fn crowd_size_of(words: &[String]) -> Option<CrowdSize> {
     })
 }
 
-fn kind_of(word: &str) -> Option<Kind> {
+fn kind_of(word: &str) -> Option<RecordedKind> {
     match word {
-        "word" => Some(Kind::Word),
-        "state" => Some(Kind::State),
-        "shared" => Some(Kind::Shared),
-        "dropping" => Some(Kind::Dropping),
-        "rendezvous" => Some(Kind::Rendezvous),
+        "word" => Some(RecordedKind::Word),
+        "state" => Some(RecordedKind::State),
+        "shared" => Some(RecordedKind::Shared),
+        "dropping" => Some(RecordedKind::Dropping),
+        "rendezvous" => Some(RecordedKind::Rendezvous),
         _ => None,
     }
 }

@@ -1,5 +1,5 @@
 //! The flows, and the jobs of threads at them.
-use crate::arguments::{CrowdSize, Job, Kind, Size};
+use crate::arguments::{CrowdSize, Job, RecordedKind, Size};
 use crate::crew::{Caller, Turn, found_by_all, run_all, workers};
 use crate::found::Found;
 use crate::subscriber::Subscriber;
@@ -119,10 +119,10 @@ where
     Some(at_shared(rt, alloc, config, Job::Crowd(crowd), size)?.found)
 }
 
-fn config_of(kind: Kind) -> Config {
+fn config_of(kind: RecordedKind) -> Config {
     match kind {
-        Kind::Shared => Config::new().replay(1).extra(2),
-        Kind::Dropping => Config::new()
+        RecordedKind::Shared => Config::new().replay(1).extra(2),
+        RecordedKind::Dropping => Config::new()
             .replay(1)
             .extra(1)
             .overflow(Overflow::DropOldest),
@@ -132,13 +132,13 @@ fn config_of(kind: Kind) -> Config {
 
 /// Records calls of all threads to a new flow of this kind. Returns their turns, or None if memory or a thread is
 /// refused.
-pub fn record<R>(rt: &R, alloc: Global, kind: Kind, size: Size) -> Option<Vec<Turn>>
+pub fn record<R>(rt: &R, alloc: Global, kind: RecordedKind, size: Size) -> Option<Vec<Turn>>
 where
     R: Threads + Wait + Clock + RandomSource + AllocGlobal + Sync,
 {
     let recorded = match kind {
-        Kind::Word => at_word(rt, alloc, Job::Record, size),
-        Kind::State => at_state(rt, alloc, Job::Record, size),
+        RecordedKind::Word => at_word(rt, alloc, Job::Record, size),
+        RecordedKind::State => at_state(rt, alloc, Job::Record, size),
         _ => at_shared(rt, alloc, config_of(kind), Job::Record, size),
     };
     Some(recorded?.turns)

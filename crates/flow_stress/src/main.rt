@@ -53,7 +53,7 @@ mod state;
 mod subscriber;
 mod word;
 
-use arguments::{CrowdSize, Kind, Size, Task, task_of};
+use arguments::{CrowdSize, RecordedKind, Size, Task, task_of};
 use flows::{crowd, record, stress};
 use found::Found;
 use recorder::{write_calls, write_flow};
@@ -133,7 +133,7 @@ fn tell_usage(rt: &HostRuntime) -> io::Result<u8> {
 fn tell_record<R: Threads + Wait + Clock + RandomSource + AllocGlobal + Sync>(
     rt: &HostRuntime,
     threads: &R,
-    kind: Kind,
+    kind: RecordedKind,
     size: Size,
 ) -> io::Result<u8> {
     let out = &mut rt.stdout();

@@ -1,5 +1,5 @@
 //! Records the calls of threads to a flow.
-use crate::arguments::Kind;
+use crate::arguments::RecordedKind;
 use crate::crew::{Recorded, Turn};
 use crate::found::{Found, NOTHING};
 use crate::order::value_of;
@@ -60,22 +60,22 @@ pub fn record_all<C: Recorded, R: Wait + Clock>(
 }
 
 /// Returns the text for a flow of this kind in a record.
-fn words_of(kind: Kind) -> &'static str {
+fn words_of(kind: RecordedKind) -> &'static str {
     match kind {
-        Kind::Word | Kind::State => "\"kind\": \"state\", \"initial\": 0",
-        Kind::Shared =>
+        RecordedKind::Word | RecordedKind::State => "\"kind\": \"state\", \"initial\": 0",
+        RecordedKind::Shared =>
             "\"kind\": \"shared\", \"replay\": 1, \"extra\": 2, \"overflow\": \"suspend\"",
-        Kind::Dropping => {
+        RecordedKind::Dropping => {
             "\"kind\": \"shared\", \"replay\": 1, \"extra\": 1, \"overflow\": \"drop_oldest\""
         }
-        Kind::Rendezvous => {
+        RecordedKind::Rendezvous => {
             "\"kind\": \"shared\", \"replay\": 0, \"extra\": 0, \"overflow\": \"suspend\""
         }
     }
 }
 
 /// Writes the first line of a record, which describes the flow that is called.
-pub fn write_flow<W: Write>(out: &mut W, kind: Kind) -> io::Result<()> {
+pub fn write_flow<W: Write>(out: &mut W, kind: RecordedKind) -> io::Result<()> {
     writeln!(out, "{{\"flow\": {{{}}}}}", words_of(kind))
 }
 

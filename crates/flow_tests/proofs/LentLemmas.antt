@@ -27,8 +27,8 @@ use Rattle.flow_law.specs.Laws.{Delivers}
 use Rattle.flow_law.specs.declared.config.Config.{Config}
 use Rattle.flow_law.specs.Mailbox.{taken, own, box, received}
 use Rattle.flow_law.specs.OneHistory.{AddsOne, said}
-use Rattle.flow_law.specs.SharedFlow.{Answer, answer, values, cache, position_of, own_of}
-use Rattle.flow_law.specs.SharedHistory.{History, Replies, after, after_all, state_after, reply_by, shared_flow}
+use Rattle.flow_law.specs.SharedFlow.{Replied, answer, values, cache, position_of, own_of}
+use Rattle.flow_law.specs.SharedHistory.{History, Replies, after, shared_after_all, state_after, reply_by, shared_flow}
 use Rattle.flow_law.specs.SharedStep.{settle, advance, read, next_from, next}
 use Rattle.flow_law.specs.StateFlow.{StateHistory, IsStateHistory, state_flow}
 use Rattle.flow_law.specs.Tokens.{CallsAtOnceIn}
@@ -38,7 +38,7 @@ use Rattle.flow_law.proofs.Steps.{past_here}
 use Rattle.flow_gate.specs.Tokens as gated
 use Rattle.flow_shared.specs.Calls.{Nexts}
 use Rattle.flow_shared.specs.Futures.{SharedNumbered}
-use Rattle.flow_word.specs.Tokens.{Token, Origin}
+use Rattle.flow_word.specs.Tokens.{WordToken, WordOrigin}
 use Rattle.flow_tests.specs.LentFlows.{HasAll, ReadsInOrder, beside_after, IsNewest}
 
 module _ {T : Type 0} (u : ℕ) where
@@ -82,7 +82,7 @@ module _ {T : Type 0} (u : ℕ) where
       e = event before.name (said (call.TakeNext u) (reply.Received Empty))
 
       s : SharedFlowState T
-      s = after_all first h
+      s = shared_after_all first h
 
       replied : Replies s (call.TakeNext u) (reply.Received Empty)
       replied = (legal_right shared_flow first h (e ∷ []) (subst (IsHistory shared_flow first) a.grows.1 a.history).legal).0
@@ -91,7 +91,7 @@ module _ {T : Type 0} (u : ℕ) where
       none = empty_means s replied
 
       same : state_after first.config later.seen ≡ s
-      same = ap (λ (z : SharedFlowState T). after_all z later.seen) (sym a.history.begins.0) ∙ ap (after_all first) a.grows.1 ∙ after_all-snoc shared_flow first h e ∙ none.4
+      same = ap (λ (z : SharedFlowState T). shared_after_all z later.seen) (sym a.history.begins.0) ∙ ap (shared_after_all first) a.grows.1 ∙ after_all-snoc shared_flow first h e ∙ none.4
 
       at : position_of u (state_after first.config later.seen).subscribers ≡ Some none.0
       at = ap (λ (z : SharedFlowState T). position_of u z.subscribers) same ∙ none.1
@@ -106,7 +106,7 @@ module _ {T : Type 0} (u : ℕ) where
       all = sym d.replies ∙ sym (append-nil (taken u first.config later.seen)) ∙ ap (λ l. taken u first.config later.seen ++ l) (λ i. sym none_own i ++ sym none_left i)
 
 -- `has_all` in the words of the contracts of `next` and `seen_by_subscription`
-pub has_all_now : {T : Type 0} (flow : gated.Origin (SharedFlowState T)) (old : SharedNumbered T) (answer : Result (Next T) FlowFault) (next now : SharedNumbered T) → Nexts shared_flow flow old answer next → next.number ≡ old.number → now ≡ next
+pub has_all_now : {T : Type 0} (flow : gated.GateOrigin (SharedFlowState T)) (old : SharedNumbered T) (answer : Result (Next T) FlowFault) (next now : SharedNumbered T) → Nexts shared_flow flow old answer next → next.number ≡ old.number → now ≡ next
     → ((u : ℕ) → Delivers u flow.first.config now.token.knows.seen) → answer ≡ Ok Empty → HasAll now.number flow.first.config now.token.knows.seen
 has_all_now {T} flow old answer next now called number same delivers empty =
     let answered = subst (λ (r : Result (Next T) FlowFault). Nexts shared_flow flow old r next) empty called in let seen = ap (λ (z : SharedNumbered T). z.token.knows.seen) same in
@@ -149,8 +149,8 @@ is_newest {T} first before after v a conflates = λ u unreached reached.
     ap (λ (z : StateHistory T). cache (beside_after u m z).shared) a.grows.1 ∙ ap (λ (z : Beside T). cache z.shared) (after_last u m h e) ∙ last_agrees u m h e agrees
 
 -- `is_newest` in the words of the contracts of `value` and `seen`
-pub is_newest_now : {T : Type 0} (flow : Origin T) (old next now : Token T) (v : T) → CallsAtOnceIn state_flow flow.first old GetValue (Got v) next → now ≡ next → Conflates flow.first.value now.knows.seen
+pub is_newest_now : {T : Type 0} (flow : WordOrigin T) (old next now : WordToken T) (v : T) → CallsAtOnceIn state_flow flow.first old GetValue (Got v) next → now ≡ next → Conflates flow.first.value now.knows.seen
     → IsNewest flow.first.value now.knows.seen v
-is_newest_now {T} flow old next now v called same conflates = let seen = ap (λ (t : Token T). t.knows.seen) same in
+is_newest_now {T} flow old next now v called same conflates = let seen = ap (λ (t : WordToken T). t.knows.seen) same in
     subst (λ (h : StateHistory T). IsNewest flow.first.value h v) (sym seen)
     (is_newest flow.first old.knows next.knows v called.0.1 (subst (Conflates flow.first.value) seen conflates))

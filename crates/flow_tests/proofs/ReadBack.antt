@@ -11,16 +11,16 @@ use Rattle.flow_law.specs.declared.outcome.Next.TheVariants.{Value, Empty, Gone}
 use Rattle.flow_law.specs.Growth.{event, IsSilent}
 use Rattle.flow_law.specs.OneHistory.{said}
 use Rattle.flow_law.specs.declared.states.StateFlowState.{StateFlowState}
-use Rattle.flow_law.specs.StateFlow.{StateHistory, after, state_after_all, state_flow, IsStateHistory}
+use Rattle.flow_law.specs.StateFlow.{StateHistory, state_flow_after, state_after_all, state_flow, IsStateHistory}
 use Rattle.flow_law.proofs.HistoryLemmas.{after_all-snoc}
 use Rattle.flow_law.proofs.Owners.{after_all-append, legal_right}
-use Rattle.flow_gate.specs.Tokens.{Token, Origin}
+use Rattle.flow_gate.specs.Tokens.{GateToken, GateOrigin}
 use Rattle.flow_core.specs.StateCore.{value_reply}
 use Rattle.flow_shared.specs.StateReplies.{StateToken, StateCalls}
 use Rattle.flow_tests.specs.ReadingBack.{value_by, value_after, ReadsBack}
 
 module _ {T : Type 0} where
-  value_kept : (s : StateFlowState T) (c : StateCall T) (r : StateReply T) → (after s c r).value ≡ value_by s.value c r
+  value_kept : (s : StateFlowState T) (c : StateCall T) (r : StateReply T) → (state_flow_after s c r).value ≡ value_by s.value c r
   value_kept s call.GetValue r = refl
   value_kept s (call.Set x) r = refl
   value_kept s (call.TryEmit x) r = refl
@@ -35,19 +35,19 @@ module _ {T : Type 0} where
   value_kept s (call.CompareAndSet a b) (reply.Refused n) = refl
   value_kept s (call.Subscribe name) r = subscribed s name r
     where
-      subscribed : (s : StateFlowState T) (name : List _) (r : StateReply T) → (after s (call.Subscribe name) r).value ≡ s.value
+      subscribed : (s : StateFlowState T) (name : List _) (r : StateReply T) → (state_flow_after s (call.Subscribe name) r).value ≡ s.value
       subscribed s name (reply.Subscribed n) = refl
       subscribed s name r = refl
   value_kept s (call.TakeNext u) r = received s u r
     where
-      received : (s : StateFlowState T) (u : _) (r : StateReply T) → (after s (call.TakeNext u) r).value ≡ s.value
+      received : (s : StateFlowState T) (u : _) (r : StateReply T) → (state_flow_after s (call.TakeNext u) r).value ≡ s.value
       received s u (reply.Received (Value x)) = refl
       received s u (reply.Received Empty) = refl
       received s u (reply.Received Gone) = refl
       received s u r = refl
   value_kept s (call.Unsubscribe u) r = left s u r
     where
-      left : (s : StateFlowState T) (u : _) (r : StateReply T) → (after s (call.Unsubscribe u) r).value ≡ s.value
+      left : (s : StateFlowState T) (u : _) (r : StateReply T) → (state_flow_after s (call.Unsubscribe u) r).value ≡ s.value
       left s u (reply.Answered b) = refl
       left s u r = refl
   value_kept s call.SubscriptionCount r = refl
@@ -56,9 +56,9 @@ module _ {T : Type 0} where
 
   values_kept : (s : StateFlowState T) (h : StateHistory T) → (state_after_all s h).value ≡ value_after s.value h
   values_kept s [] = refl
-  values_kept s (e ∷ es) = values_kept (after s e.what.call e.what.reply) es ∙ ap (λ v. value_after v es) (value_kept s e.what.call e.what.reply)
+  values_kept s (e ∷ es) = values_kept (state_flow_after s e.what.call e.what.reply) es ∙ ap (λ v. value_after v es) (value_kept s e.what.call e.what.reply)
 
-  pub reads_back : (flow : Origin (StateFlowState T)) (old middle new : StateToken T) (value : T) (answer : Result T FlowFault) → StateCalls flow old (call.Set value) reply.Done middle → StateCalls flow middle call.GetValue (value_reply answer) new
+  pub reads_back : (flow : GateOrigin (StateFlowState T)) (old middle new : StateToken T) (value : T) (answer : Result T FlowFault) → StateCalls flow old (call.Set value) reply.Done middle → StateCalls flow middle call.GetValue (value_reply answer) new
       → IfOk answer (λ found. ReadsBack old.knows value found new.knows)
   reads_back flow old middle new value (Err fault) set read = tt
   reads_back flow old middle new value (Ok found) set read =

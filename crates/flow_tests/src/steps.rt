@@ -19,7 +19,7 @@ pub const WAITS: Result<bool, FlowFault> = Ok(true);
 pub const TAKEN: Result<bool, FlowFault> = Ok(true);
 
 /// The kind of a flow.
-pub enum Kind {
+pub enum PlayedKind {
     Shared(Config),
     /// A state flow that begins with 0 and issues at most this many numbers.
     State(u64),
@@ -27,7 +27,7 @@ pub enum Kind {
 
 /// A worked example: the kind of the flow, and steps on it.
 pub struct Example {
-    pub kind: Kind,
+    pub kind: PlayedKind,
     pub steps: &'static [Step],
 }
 

@@ -24,9 +24,9 @@ use Rattle.flow_law.proofs.SharingFlowLemmas.{shared-turn, state-turn}
 use Rattle.flow_law.proofs.ReplyLemmas.{replies_cases}
 use Rattle.flow_turns.specs.declared.core_hub.CoreHub.{CoreHub}
 use Rattle.flow_turns.specs.declared.state_hub.StateHub.{StateHub}
-use Rattle.flow_turns.specs.CoreHub.{still, PollDoes, CancelDoes, CoreHubDoes, is_waiting}
+use Rattle.flow_turns.specs.CoreHub.{still, PollDoes, CancelDoes, CoreHubDoes, is_hub_waiting}
 use Rattle.flow_turns.specs.StateHub.{StateHubDoes, never_waits, state_flow_of}
-use Rattle.flow_turns.specs.OverCores.{Emits, LawTurnOverCore, LawTurnOverStateCore}
+use Rattle.flow_turns.specs.OverCores.{StandsForEmitting, LawTurnOverCore, LawTurnOverStateCore}
 
 -- ---- a shared flow
 
@@ -45,9 +45,9 @@ not-some (Some n) e = let x : true ≡ false = e in cc
 
 module _ {T A : Type 0} where
   abbrev Gives : (c : HubCall T) → EmittingFlow T → HubAnswer c → CoreHub T A → Type 0
-  Gives c f a k = (g : EmittingFlow T) × Emits k g × SharedDoes c f a g
+  Gives c f a k = (g : EmittingFlow T) × StandsForEmitting k g × SharedDoes c f a g
 
-  poll-gives : (o : Option ℕ) (h k : CoreHub T A) (f : EmittingFlow T) (waits : Bool) → h.emission ≡ o → Emits h f → PollDoes o h waits k → Gives polls f (Ok waits) k
+  poll-gives : (o : Option ℕ) (h k : CoreHub T A) (f : EmittingFlow T) (waits : Bool) → h.emission ≡ o → StandsForEmitting h f → PollDoes o h waits k → Gives polls f (Ok waits) k
   poll-gives None h k f waits is stands told =
       let none : f.waiting ≡ None = sym stands.1 ∙ is in
       let P : CoreHub T A → Type 0 = λ x. StandsFor x.core f.flow × (x.emission ≡ f.waiting) in (
@@ -72,7 +72,7 @@ module _ {T A : Type 0} where
             ),
       )
 
-  cancel-gives : (o : Option ℕ) (h k : CoreHub T A) (f : EmittingFlow T) (waited : Bool) → h.emission ≡ o → Emits h f → CancelDoes o h waited k → Gives cancels f (Ok waited) k
+  cancel-gives : (o : Option ℕ) (h k : CoreHub T A) (f : EmittingFlow T) (waited : Bool) → h.emission ≡ o → StandsForEmitting h f → CancelDoes o h waited k → Gives cancels f (Ok waited) k
   cancel-gives None h k f waited is stands told =
       let none : f.waiting ≡ None = sym stands.1 ∙ is in
       let P : CoreHub T A → Type 0 = λ x. StandsFor x.core f.flow × (x.emission ≡ None) in (
@@ -97,11 +97,11 @@ module _ {T A : Type 0} where
       )
 
   -- a refused emission changes nothing
-  refusal-gives : (x : T) (h k : CoreHub T A) (f : EmittingFlow T) (fault : FlowFault) → Emits h f → HubStep CoreHubDoes is_waiting (puts x) h (Err fault) k → Gives (puts x) f (Err fault) k
+  refusal-gives : (x : T) (h k : CoreHub T A) (f : EmittingFlow T) (fault : FlowFault) → StandsForEmitting h f → HubStep CoreHubDoes is_hub_waiting (puts x) h (Err fault) k → Gives (puts x) f (Err fault) k
   refusal-gives x h k f fault stands told =
       let did = told.0.0.0 f.flow stands.0 in
       let free : h.emission ≡ None = not-some h.emission (sym told.1 ∙ ap is_some told.0.1) in
-      let left : Emits k f = (did.1, told.0.1 ∙ sym free ∙ stands.1) in
+      let left : StandsForEmitting k f = (did.1, told.0.1 ∙ sym free ∙ stands.1) in
       elim (replies_cases f.flow (call.Emit x) (reply.Refused fault) did.0) [
         | inl is ↦ (f, left, inl (ap (λ r. emitted f r (flow.emit x f.flow).after) (emitted-err fault (flow.emit x f.flow).reply is)))
         | inr lacks ↦
@@ -109,7 +109,7 @@ module _ {T A : Type 0} where
             (f, left, inr (lacks.1, ap Err same, refl))
       ]
 
-  core-gives : (c : HubCall T) (h k : CoreHub T A) (a : HubAnswer c) (f : EmittingFlow T) → Emits h f → HubStep CoreHubDoes is_waiting c h a k → Gives c f a k
+  core-gives : (c : HubCall T) (h k : CoreHub T A) (a : HubAnswer c) (f : EmittingFlow T) → StandsForEmitting h f → HubStep CoreHubDoes is_hub_waiting c h a k → Gives c f a k
   core-gives counts h k (Ok count) f stands told =
       let did = told.0.0.0 f.flow stands.0 in
       let same : ◌≡◌ {A = SharedReply T} (reply.Counted count) (reply.Counted (length f.flow.subscribers)) = did.0 in
@@ -140,7 +140,7 @@ module _ {T A : Type 0} where
 
 pub turn-over_core : (T A : Type 0) → LawTurnOverCore T A
 turn-over_core T A started now seen s f old new turned stands h =
-    let done = turn-along (HubStep CoreHubDoes is_waiting) SharedDoes Emits core-gives _ old new f turned stands h in
+    let done = turn-along (HubStep CoreHubDoes is_hub_waiting) SharedDoes StandsForEmitting core-gives _ old new f turned stands h in
     (done.0, done.1, shared-turn started now seen s _ _ turned done.2)
 
 -- ---- a state flow

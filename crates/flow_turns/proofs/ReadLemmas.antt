@@ -17,9 +17,9 @@ use Rattle.flow_law.specs.SharingTurn.{SharingState, Turned, TurnSteps, after_pu
 use Rattle.flow_law.proofs.StepsLemmas.{takes-along}
 use Rattle.flow_law.proofs.TurnLemmas.{by-if}
 use Rattle.flow_turns.specs.declared.sharing.Sharing.{Sharing}
-use Rattle.flow_turns.specs.SharingViews.{state_of, chain_of}
+use Rattle.flow_turns.specs.SharingViews.{sharing_state, sharing_chain}
 use Rattle.flow_turns.specs.TurnClauses.{TakesTurn, TakesOver, TakesSomeTurn}
-use Rattle.flow_turns.specs.TurnParts.{Parts, parts_of, ActsBy, TakesActs}
+use Rattle.flow_turns.specs.TurnParts.{Parts, sharing_parts, ActsBy, TakesActs}
 use Rattle.flow_turns.proofs.StepLemmas.{same-parts}
 
 -- ---- by a reading
@@ -225,13 +225,13 @@ module _ {C H T R : Type 0} (reads : C → R → Type 0) (whole rest : C → R �
 
   module _ (now : ℕ) (result : Result Report ShareFault) (old new : Sharing C H T) (turn : TakesActs (ActsBy reads whole rest does waits) now old result new) where
     -- the turn, as a reading of the chain sees it
-    pub read-turn : (m : R) → reads (chain_of old) m → TakesTurn (λ c. whole c m) (λ c. rest c m) does waits now old result new
+    pub read-turn : (m : R) → reads (sharing_chain old) m → TakesTurn (λ c. whole c m) (λ c. rest c m) does waits now old result new
     read-turn m is started seen stands =
         let told = turn started seen stands in
-        (told.0, told.1, read-takes reads whole rest does waits m _ (parts_of old) (parts_of new) _ is told.2)
+        (told.0, told.1, read-takes reads whole rest does waits m _ (sharing_parts old) (sharing_parts new) _ is told.2)
 
     -- the turn, whatever the chain answers
     pub unread-turn : TakesSomeTurn does waits now old result new
     unread-turn started seen stands =
         let told = turn started seen stands in
-        (told.0, told.1, fits-turn does waits started now seen (state_of old) _ _ _ (hub-takes _ (parts_of old) (parts_of new) _ told.2))
+        (told.0, told.1, fits-turn does waits started now seen (sharing_state old) _ _ _ (hub-takes _ (sharing_parts old) (sharing_parts new) _ told.2))

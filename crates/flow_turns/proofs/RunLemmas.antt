@@ -6,7 +6,7 @@ use Rattle.flow_law.specs.ChainRun.{ChainRun}
 use Rattle.flow_law.specs.SharingCalls.{HubCall, HubAnswer}
 use Rattle.flow_turns.specs.declared.sharing.Sharing.{Sharing}
 use Rattle.flow_turns.specs.Runs.{TakesTurns, no_turn, one_more, IsRefusedAt, TurnsByClock}
-use Rattle.flow_turns.specs.SharingViews.{chain_of, CanRun, KeepsReadings}
+use Rattle.flow_turns.specs.SharingViews.{sharing_chain, CanRun, KeepsReadings}
 use Rattle.flow_turns.specs.TurnClauses.{TakesTurn, TakesSomeTurn}
 
 -- `whole` and `rest` are the runs of the chain, for each of its readings; `does` and `waits` are those of the hub
@@ -15,9 +15,9 @@ module _ {C H T R : Type 0} (can_ask : C → Type 0) (reads : C → R → Type 0
   -- the sharing has taken turns since the run began, and can take another one
   pub record HasRun (start now : Sharing C H T) : Type 0 where
     pub callable : CanRun can_ask now
-    pub kept : KeepsReadings reads (chain_of start) (chain_of now)
+    pub kept : KeepsReadings reads (sharing_chain start) (sharing_chain now)
     pub some : TakesTurns (TakesSomeTurn does waits) start now
-    pub turns : (m : R) → reads (chain_of start) m → TakesTurns (TakesTurn (λ c. whole c m) (λ c. rest c m) does waits) start now
+    pub turns : (m : R) → reads (sharing_chain start) m → TakesTurns (TakesTurn (λ c. whole c m) (λ c. rest c m) does waits) start now
 
 module _ {C H T R : Type 0} {can_ask : C → Type 0} {reads : C → R → Type 0} {whole rest : C → R → ChainRun T}
     {does : (c : HubCall T) → H → HubAnswer c → H → Type 0} {waits : H → Bool} where
@@ -27,7 +27,7 @@ module _ {C H T R : Type 0} {can_ask : C → Type 0} {reads : C → R → Type 0
 
   -- after one turn more, and a rest that changes nothing
   pub run-goes_on : {start now next rested : Sharing C H T} (report : Report) → HasRun can_ask reads whole rest does waits start now → rested ≡ next →
-      CanRun can_ask next → KeepsReadings reads (chain_of now) (chain_of next) → TurnsByClock reads whole rest does waits now (Ok report) next → HasRun can_ask reads whole rest does waits start rested
+      CanRun can_ask next → KeepsReadings reads (sharing_chain now) (sharing_chain next) → TurnsByClock reads whole rest does waits now (Ok report) next → HasRun can_ask reads whole rest does waits start rested
   run-goes_on {start} {now} {next} {rested} report run same callable keeps turn =
       subst (HasRun can_ask reads whole rest does waits start) (sym same) (
       record {
@@ -39,7 +39,7 @@ module _ {C H T R : Type 0} {can_ask : C → Type 0} {reads : C → R → Type 0
 
   -- after a turn that was refused
   pub run-refused : {start now new : Sharing C H T} (fault : ShareFault) → HasRun can_ask reads whole rest does waits start now → TurnsByClock reads whole rest does waits now (Err fault) new →
-      (m : R) → reads (chain_of start) m → IsRefusedAt (TakesTurn (λ c. whole c m) (λ c. rest c m) does waits) fault start new
+      (m : R) → reads (sharing_chain start) m → IsRefusedAt (TakesTurn (λ c. whole c m) (λ c. rest c m) does waits) fault start new
   run-refused {start} {now} fault run turn m r =
       record { between = now; turns = run.turns m r; now = turn.now; later = turn.later; refused = turn.read m (run.kept m r) }
 

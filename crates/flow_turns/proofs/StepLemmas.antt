@@ -21,9 +21,9 @@ use Rattle.flow_turns.specs.declared.policy.Policy.{Policy}
 use Rattle.flow_turns.specs.declared.policy.Backwards.{Backwards as Refusal}
 use Rattle.flow_turns.specs.declared.sharing.Sharing.{Sharing}
 use Rattle.flow_turns.specs.Policy.{HasSeen, Observes}
-use Rattle.flow_turns.specs.SharingViews.{state_of}
+use Rattle.flow_turns.specs.SharingViews.{sharing_state}
 use Rattle.flow_turns.specs.TurnClauses.{OnChainFault, ended_after}
-use Rattle.flow_turns.specs.TurnParts.{Parts, parts_of, CallsHub, CommandComesTo, TakesActs}
+use Rattle.flow_turns.specs.TurnParts.{Parts, sharing_parts, CallsHub, CommandComesTo, TakesActs}
 
 pub if-true : {X : Type 0} (P : X → Type 0) (b : Bool) (x y : X) → b ≡ true → P x → P (if b then x else y)
 if-true P true x y is p = p
@@ -143,17 +143,17 @@ module _ {C H T : Type 0} (acts : (c : TurnCall T) → Parts C H → TurnAnswer 
   ended-turn old over = λ started seen stands. (
     seen,
     stands,
-    if-true (λ steps. Takes acts steps (parts_of old) (record { answer = Err Ended; seen = seen; state = state_of old }) (parts_of old)) old.ended _ _ over (refl, refl),
+    if-true (λ steps. Takes acts steps (sharing_parts old) (record { answer = Err Ended; seen = seen; state = sharing_state old }) (sharing_parts old)) old.ended _ _ over (refl, refl),
   )
 
-  module _ (old counted : Sharing C H T) (going : old.ended ≡ false) (kept : counted.policy ≡ old.policy) (same : state_of counted ≡ state_of old) where
+  module _ (old counted : Sharing C H T) (going : old.ended ≡ false) (kept : counted.policy ≡ old.policy) (same : sharing_state counted ≡ sharing_state old) where
     -- a turn whose count was refused
     pub uncounted-turn : (fault : FlowFault) (result : Result Report ShareFault) → CallsHub acts counts old (Err fault) counted → result ≡ reported Keep (refusal fault)
         → TakesActs acts now old result counted
     uncounted-turn fault result told is = λ started seen stands. (
       seen,
       subst (λ p. HasSeen started p seen) (sym kept) stands,
-      counts-hub acts _ _ _ started now seen (state_of old) (parts_of counted) (Err fault) going told (same-end seen _ _ _ _ is same, refl),
+      counts-hub acts _ _ _ started now seen (sharing_state old) (sharing_parts counted) (Err fault) going told (same-end seen _ _ _ _ is same, refl),
     )
 
     -- a turn whose moment is before the last one
@@ -163,11 +163,11 @@ module _ {C H T : Type 0} (acts : (c : TurnCall T) → Parts C H → TurnAnswer 
     backwards-turn count backwards policy told observes unchanged = λ started seen stands.
         let held : HasSeen started counted.policy seen = subst (λ p. HasSeen started p seen) (sym kept) stands in
         let refused = observes started seen held in
-        let stays : state_of (record counted { policy = policy }) ≡ state_of old = ap (λ (p : Policy). state_of (record counted { policy = p })) unchanged ∙ same in (
+        let stays : sharing_state (record counted { policy = policy }) ≡ sharing_state old = ap (λ (p : Policy). sharing_state (record counted { policy = p })) unchanged ∙ same in (
           seen,
           subst (λ p. HasSeen started p seen) (sym unchanged) held,
-          counts-hub acts _ _ _ started now seen (state_of old) (parts_of counted) (Ok count) going told
-              (goes-back acts (parts_of counted) (parts_of counted) _ started now seen (state_of old) count refused.0
+          counts-hub acts _ _ _ started now seen (sharing_state old) (sharing_parts counted) (Ok count) going told
+              (goes-back acts (sharing_parts counted) (sharing_parts counted) _ started now seen (sharing_state old) count refused.0
               (same-end seen _ _ _ _ (ap (λ last. Err (Backwards last)) refused.1) stays) refl),
         )
 
@@ -180,14 +180,14 @@ module _ {C H T : Type 0} (acts : (c : TurnCall T) → Parts C H → TurnAnswer 
         let held : HasSeen started counted.policy seen = subst (λ p. HasSeen started p seen) (sym kept) stands in
         let accepted = observes started seen held in
         let all : List SharingObservation = record { moment = now; count = count } ∷ seen in
-        let last : Turned T = record { answer = reported command outcome; seen = all; state = state_of new } in
-        let P : SharingState T → Type 0 = λ s. Takes acts (begin all command s) (parts_of counted) last (parts_of new) in
-        let Q : Command → Type 0 = λ c. Takes acts (begin all c (state_of old)) (parts_of counted) last (parts_of new) in
-        let R : Turned T → Type 0 = λ r. Takes acts (begin all (newest_command started all) (state_of old)) (parts_of counted) r (parts_of new) in
-        let begun : P (state_of counted) = steps all counted.policy.running runs in (
+        let last : Turned T = record { answer = reported command outcome; seen = all; state = sharing_state new } in
+        let P : SharingState T → Type 0 = λ s. Takes acts (begin all command s) (sharing_parts counted) last (sharing_parts new) in
+        let Q : Command → Type 0 = λ c. Takes acts (begin all c (sharing_state old)) (sharing_parts counted) last (sharing_parts new) in
+        let R : Turned T → Type 0 = λ r. Takes acts (begin all (newest_command started all) (sharing_state old)) (sharing_parts counted) r (sharing_parts new) in
+        let begun : P (sharing_state counted) = steps all counted.policy.running runs in (
           all,
           subst (λ p. HasSeen started p all) (sym after) accepted.2,
-          counts-hub acts _ _ _ started now seen (state_of old) (parts_of counted) (Ok count) going told
-              (observes-count acts (parts_of counted) (parts_of new) _ started now seen (state_of old) count accepted.0
+          counts-hub acts _ _ _ started now seen (sharing_state old) (sharing_parts counted) (Ok count) going told
+              (observes-count acts (sharing_parts counted) (sharing_parts new) _ started now seen (sharing_state old) count accepted.0
               (subst R (sym (same-end all _ _ _ _ is refl)) (subst Q accepted.1 (subst P same begun)))),
         )

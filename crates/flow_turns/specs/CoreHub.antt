@@ -21,8 +21,8 @@ module _ {T A : Type 0} where
   emission_of hub = hub.emission
 
   -- the hub has an emission that waited at the last put or poll
-  abbrev pub is_waiting : CoreHub T A → Bool
-  is_waiting hub = is_some hub.emission
+  abbrev pub is_hub_waiting : CoreHub T A → Bool
+  is_hub_waiting hub = is_some hub.emission
 
   -- a poll of the hub polls the emission that waits, if there is one
   abbrev pub PollDoes : Option ℕ → CoreHub T A → Bool → CoreHub T A → Type 0

@@ -6,7 +6,7 @@ use Rattle.flow_law.specs.declared.report.ShareFault.{ShareFault}
 use Rattle.flow_law.specs.ChainRun.{ChainRun}
 use Rattle.flow_law.specs.SharingCalls.{HubCall, HubAnswer}
 use Rattle.flow_turns.specs.declared.sharing.Sharing.{Sharing}
-use Rattle.flow_turns.specs.SharingViews.{chain_of, last_of}
+use Rattle.flow_turns.specs.SharingViews.{sharing_chain, last_observed_at}
 use Rattle.flow_turns.specs.TurnClauses.{TakesTurn, TakesSomeTurn}
 
 -- `Turn` says what a turn does, by its moment
@@ -14,14 +14,14 @@ module _ {C H T : Type 0} (Turn : ℕ → Sharing C H T → Result Report ShareF
   -- turns, each at a moment that is not before the last observation, none of which was refused
   pub data TakesTurns : Sharing C H T → Sharing C H T → Type 0 where
     no_turn : {s : Sharing C H T} → TakesTurns s s
-    one_more : {s t u : Sharing C H T} (now : ℕ) (report : Report) → TakesTurns s t → last_of t ≤ now → Turn now t (Ok report) u → TakesTurns s u
+    one_more : {s t u : Sharing C H T} (now : ℕ) (report : Report) → TakesTurns s t → last_observed_at t ≤ now → Turn now t (Ok report) u → TakesTurns s u
 
   -- turns, and then one more, which was refused
   pub record IsRefusedAt (fault : ShareFault) (old new : Sharing C H T) : Type 0 where
     pub between : Sharing C H T
     pub turns : TakesTurns old between
     pub now : ℕ
-    pub later : last_of between ≤ now
+    pub later : last_observed_at between ≤ now
     pub refused : Turn now between (Err fault) new
 
   -- a run that was asked to stop, or whose last turn was refused
@@ -34,7 +34,7 @@ module _ {C H T : Type 0} (Turn : ℕ → Sharing C H T → Result Report ShareF
     pub between : Sharing C H T
     pub turns : TakesTurns old between
     pub now : ℕ
-    pub later : last_of between ≤ now
+    pub later : last_observed_at between ≤ now
     pub report : Report
     pub last : Turn now between (Ok report) new
     pub completed : report.event ≡ Completed
@@ -59,6 +59,6 @@ module _ {C H T : Type 0} (whole rest : C → ChainRun T) (does : (c : HubCall T
 pub record TurnsByClock {C H T R : Type 0} (reads : C → R → Type 0) (whole rest : C → R → ChainRun T) (does : (c : HubCall T) → H → HubAnswer c → H → Type 0) (waits : H → Bool)
     (old : Sharing C H T) (result : Result Report ShareFault) (new : Sharing C H T) : Type 0 where
   pub now : ℕ
-  pub later : last_of old ≤ now
+  pub later : last_observed_at old ≤ now
   pub some : TakesSomeTurn does waits now old result new
-  pub read : (m : R) → reads (chain_of old) m → TakesTurn (λ c. whole c m) (λ c. rest c m) does waits now old result new
+  pub read : (m : R) → reads (sharing_chain old) m → TakesTurn (λ c. whole c m) (λ c. rest c m) does waits now old result new

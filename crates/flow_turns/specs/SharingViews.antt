@@ -1,4 +1,4 @@
--- What contracts see of a sharing: what it keeps, as flow_law's `SharingState`, and its chain and hub. Begin with `state_of`.
+-- What contracts see of a sharing: what it keeps, as flow_law's `SharingState`, and its chain and hub. Begin with `sharing_state`.
 use Rattle.std.specs.Prelude.{◌≡◌, ℕ, Bool, List}
 use Rattle.flow_law.specs.declared.sharing.Started.{Started}
 use Rattle.flow_law.specs.declared.sharing.SharingObservation.{SharingObservation}
@@ -11,8 +11,8 @@ use Rattle.flow_turns.specs.Policy.{HasSeen, last_at}
 
 module _ {C H T : Type 0} where
   -- what the sharing keeps between two turns, beside its chain and its hub
-  abbrev pub state_of : Sharing C H T → SharingState T
-  state_of sharing = record {
+  abbrev pub sharing_state : Sharing C H T → SharingState T
+  sharing_state sharing = record {
     kept = sharing.kept;
     runs = sharing.policy.running;
     cancel_due = sharing.cancel_due;
@@ -38,16 +38,16 @@ module _ {C H T : Type 0} where
   HasObserved started sharing seen = HasSeen started sharing.policy seen
 
   -- the moment of the last observation, 0 before the first one
-  abbrev pub last_of : Sharing C H T → ℕ
-  last_of sharing = last_at sharing.policy
+  abbrev pub last_observed_at : Sharing C H T → ℕ
+  last_observed_at sharing = last_at sharing.policy
 
   -- the chain has failed
   abbrev pub has_ended : Sharing C H T → Bool
   has_ended sharing = sharing.ended
 
   -- the cold flow that the sharing collects
-  abbrev pub chain_of : Sharing C H T → C
-  chain_of sharing = sharing.chain
+  abbrev pub sharing_chain : Sharing C H T → C
+  sharing_chain sharing = sharing.chain
 
   -- the flow into which the sharing emits
   abbrev pub hub_of : Sharing C H T → H
@@ -66,8 +66,8 @@ module _ {C H T R : Type 0} (whole rest : C → R → ChainRun T) where
 
   -- what holds between two turns holds of this sharing
   abbrev pub IsBetweenTurns : Sharing C H T → Type 0
-  IsBetweenTurns sharing = (m : R) → BetweenTurns (state_of sharing) (chain_and_hub (λ c. whole c m) (λ c. rest c m) sharing)
+  IsBetweenTurns sharing = (m : R) → BetweenTurns (sharing_state sharing) (chain_and_hub (λ c. whole c m) (λ c. rest c m) sharing)
 
   -- no emission waits in the hub while the sharing does not run
   abbrev pub IsQuietHub : (H → Bool) → Sharing C H T → Type 0
-  IsQuietHub waits sharing = (m : R) → IsQuiet waits (state_of sharing) (chain_and_hub (λ c. whole c m) (λ c. rest c m) sharing)
+  IsQuietHub waits sharing = (m : R) → IsQuiet waits (sharing_state sharing) (chain_and_hub (λ c. whole c m) (λ c. rest c m) sharing)

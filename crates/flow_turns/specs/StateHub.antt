@@ -17,8 +17,8 @@ module _ {T A : Type 0} where
   state_core_of hub = hub.core
 
   -- the value that a reset sets
-  abbrev pub initial_of : StateHub T A → T
-  initial_of hub = hub.initial
+  abbrev pub reset_value : StateHub T A → T
+  reset_value hub = hub.initial
 
   -- the documented state flow, with the value that a reset sets
   abbrev pub state_flow_of : StateHub T A → StateAndInitial T

@@ -18,7 +18,7 @@ use Rattle.flow_law.specs.SharingCalls.{HubCall, HubAnswer, CallDoes, HubStep}
 use Rattle.flow_law.specs.SharingTurn.{Turned, TurnSteps, reported, turn_steps}
 use Rattle.flow_law.specs.TurnMeaning.{HasAccount, BetweenTurns, IsQuiet, IsCommand, TurnMeans, TurnResets}
 use Rattle.flow_turns.specs.declared.sharing.Sharing.{Sharing}
-use Rattle.flow_turns.specs.SharingViews.{state_of, chain_and_hub, chain_of, hub_of, HasObserved}
+use Rattle.flow_turns.specs.SharingViews.{sharing_state, chain_and_hub, sharing_chain, hub_of, HasObserved}
 
 -- `whole` and `rest` are the runs of the chain; `does` and `waits` are those of the hub
 module _ {C H T : Type 0} (whole rest : C → ChainRun T) (does : (c : HubCall T) → H → HubAnswer c → H → Type 0) (waits : H → Bool) where
@@ -27,15 +27,15 @@ module _ {C H T : Type 0} (whole rest : C → ChainRun T) (does : (c : HubCall T
   TakesTurn now old result new =
       (started : Started) (seen : List SharingObservation) → HasObserved started old seen →
       (all : List SharingObservation) × HasObserved started new all
-      × Takes (CallDoes (HubStep does waits)) (turn_steps started now seen (state_of old)) (chain_and_hub whole rest old)
-      (record { answer = result; seen = all; state = state_of new }) (chain_and_hub whole rest new)
+      × Takes (CallDoes (HubStep does waits)) (turn_steps started now seen (sharing_state old)) (chain_and_hub whole rest old)
+      (record { answer = result; seen = all; state = sharing_state new }) (chain_and_hub whole rest new)
 
   -- the answer is true of the items that the hub has accepted since the last start
   abbrev pub MeansAnswer : Sharing C H T → Result Report ShareFault → Sharing C H T → Type 0
   MeansAnswer old result new =
       (started : Started) (seen : List SharingObservation) (accepted : List T) → HasObserved started old seen →
-      BetweenTurns (state_of old) (chain_and_hub whole rest old) → HasAccount accepted (state_of old) (chain_and_hub whole rest old) →
-      TurnMeans (HubStep does waits) accepted (state_of old) (chain_and_hub whole rest old) result (state_of new) (chain_and_hub whole rest new)
+      BetweenTurns (sharing_state old) (chain_and_hub whole rest old) → HasAccount accepted (sharing_state old) (chain_and_hub whole rest old) →
+      TurnMeans (HubStep does waits) accepted (sharing_state old) (chain_and_hub whole rest old) result (sharing_state new) (chain_and_hub whole rest new)
 
 -- `does` and `waits` are those of the hub
 module _ {H T : Type 0} (does : (c : HubCall T) → H → HubAnswer c → H → Type 0) (waits : H → Bool) where
@@ -52,7 +52,7 @@ module _ {C H T : Type 0} (does : (c : HubCall T) → H → HubAnswer c → H �
   TakesSomeTurn now old result new =
       (started : Started) (seen : List SharingObservation) → HasObserved started old seen →
       (all : List SharingObservation) × HasObserved started new all
-      × TakesOver does waits (turn_steps started now seen (state_of old)) (hub_of old) (record { answer = result; seen = all; state = state_of new }) (hub_of new)
+      × TakesOver does waits (turn_steps started now seen (sharing_state old)) (hub_of old) (record { answer = result; seen = all; state = sharing_state new }) (hub_of new)
 
 module _ {C H T : Type 0} where
   -- the turn's command is the one of the observations
@@ -66,21 +66,21 @@ module _ {C H T : Type 0} (does : (c : HubCall T) → H → HubAnswer c → H �
   -- has been made. In any other turn none has been made.
   abbrev pub HandlesReset : Sharing C H T → Result Report ShareFault → Sharing C H T → Type 0
   HandlesReset old result new =
-      TurnResets (HubStep does waits) (WasCommanded old new) (state_of old) (hub_of old) result (state_of new) (hub_of new)
+      TurnResets (HubStep does waits) (WasCommanded old new) (sharing_state old) (hub_of old) result (sharing_state new) (hub_of new)
 
 module _ {C H T : Type 0} (whole rest : C → ChainRun T) where
   -- what is true between turns is true again after the turn
   abbrev pub StaysBetween : Sharing C H T → Sharing C H T → Type 0
   StaysBetween old new =
       (started : Started) (seen : List SharingObservation) → HasObserved started old seen →
-      BetweenTurns (state_of old) (chain_and_hub whole rest old) → BetweenTurns (state_of new) (chain_and_hub whole rest new)
+      BetweenTurns (sharing_state old) (chain_and_hub whole rest old) → BetweenTurns (sharing_state new) (chain_and_hub whole rest new)
 
   -- if no emission of any caller waited while the sharing did not run, none does after the turn; so none waits after a
   -- turn that answers `Idle`
   abbrev pub StaysQuiet : (H → Bool) → Sharing C H T → Result Report ShareFault → Sharing C H T → Type 0
   StaysQuiet waits old result new =
-      (started : Started) (seen : List SharingObservation) → HasObserved started old seen → IsQuiet waits (state_of old) (chain_and_hub whole rest old) →
-      IsQuiet waits (state_of new) (chain_and_hub whole rest new)
+      (started : Started) (seen : List SharingObservation) → HasObserved started old seen → IsQuiet waits (sharing_state old) (chain_and_hub whole rest old) →
+      IsQuiet waits (sharing_state new) (chain_and_hub whole rest new)
       × ((command : Command) → result ≡ reported command (Ok Idle) → waits (hub_of new) ≡ false)
 
 -- P of the fault, if the answer is a fault of the chain
@@ -90,7 +90,7 @@ OnChainFault result P = Unit {0}
 
 -- if the answer is a fault of the chain, it was the chain's last answer
 abbrev pub FaultWasAnswered : {C H T R : Type 0} → (C → End → Type 0) → Result R ShareFault → Sharing C H T → Type 0
-FaultWasAnswered has_answered result new = OnChainFault result (λ fault. has_answered (chain_of new) (Failed fault))
+FaultWasAnswered has_answered result new = OnChainFault result (λ fault. has_answered (sharing_chain new) (Failed fault))
 
 -- the sharing has ended once a turn answered a fault of the chain
 abbrev pub ended_after : {R : Type 0} → Result R ShareFault → Bool → Bool

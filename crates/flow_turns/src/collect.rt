@@ -3,9 +3,9 @@ ghost use Rattle.std.specs.Prelude.{◌≡◌, ◌≢◌, None, MatchResult, fal
 ghost use Rattle.flow_law.specs.SharingCalls.{polls};
 ghost use Rattle.flow_law.specs.SharingTurn as steps;
 ghost use Rattle.flow_operators.specs.Asking.{AskGives, OnEnd};
-ghost use Rattle.flow_turns.specs.SharingViews.{state_of, chain_of, CanRun, KeepsReadings, has_ended};
+ghost use Rattle.flow_turns.specs.SharingViews.{sharing_state, sharing_chain, CanRun, KeepsReadings, has_ended};
 ghost use Rattle.flow_turns.specs.TurnClauses.{FaultWasAnswered, ended_after};
-ghost use Rattle.flow_turns.specs.TurnParts.{ActsBy, CallsHub, ComesTo};
+ghost use Rattle.flow_turns.specs.TurnParts.{ActsBy, CallsHub, TurnComesTo};
 
 use crate::answers::refusal_of;
 use crate::hub::Hub;
@@ -32,10 +32,10 @@ impl<C: Cold, H: Hub<Item = C::Item>> Sharing<C, H> {
         requires callable { CanRun C.CanAsk self.old }
         requires free { H.waits self.old.hub ≡ false }
         requires empty { self.old.kept ≡ None }
-        ensures steps { ComesTo (ActsBy C.Reads C.whole C.rest H.does H.waits)
+        ensures steps { TurnComesTo (ActsBy C.Reads C.whole C.rest H.does H.waits)
             (λ command seen. steps.put command seen item) self.old result self.new }
         ensures callable { CanRun C.CanAsk self.new }
-        ensures reads { KeepsReadings C.Reads (chain_of self.old) (chain_of self.new) }
+        ensures reads { KeepsReadings C.Reads (sharing_chain self.old) (sharing_chain self.new) }
         ensures policy { self.new.policy ≡ self.old.policy }
         ensures ended { has_ended self.new ≡ ended_after result (has_ended self.old) }
         ensures not_ended { result ≢ Err ShareFault.Ended }
@@ -61,10 +61,10 @@ impl<C: Cold, H: Hub<Item = C::Item>> Sharing<C, H> {
     fn send(&mut self) -> Result<Event, ShareFault>
         requires callable { CanRun C.CanAsk self.old }
         requires free { H.waits self.old.hub ≡ false }
-        ensures steps { ComesTo (ActsBy C.Reads C.whole C.rest H.does H.waits)
+        ensures steps { TurnComesTo (ActsBy C.Reads C.whole C.rest H.does H.waits)
             (λ command seen s. steps.send command seen s.kept s) self.old result self.new }
         ensures callable { CanRun C.CanAsk self.new }
-        ensures reads { KeepsReadings C.Reads (chain_of self.old) (chain_of self.new) }
+        ensures reads { KeepsReadings C.Reads (sharing_chain self.old) (sharing_chain self.new) }
         ensures policy { self.new.policy ≡ self.old.policy }
         ensures ended { has_ended self.new ≡ ended_after result (has_ended self.old) }
         ensures not_ended { result ≢ Err ShareFault.Ended }
@@ -91,9 +91,9 @@ impl<C: Cold, H: Hub<Item = C::Item>> Sharing<C, H> {
     fn is_waiting(&mut self) -> Result<bool, FlowFault>
         requires { CanRun C.CanAsk self.old }
         ensures callable { CanRun C.CanAsk self.new }
-        ensures reads { KeepsReadings C.Reads (chain_of self.old) (chain_of self.new) }
+        ensures reads { KeepsReadings C.Reads (sharing_chain self.old) (sharing_chain self.new) }
         ensures policy { self.new.policy ≡ self.old.policy }
-        ensures state { state_of self.new ≡ state_of self.old }
+        ensures state { sharing_state self.new ≡ sharing_state self.old }
         ensures polls { CallsHub (ActsBy C.Reads C.whole C.rest H.does H.waits)
             polls self.old result self.new }
         ensures waits { MatchResult result
@@ -106,10 +106,10 @@ impl<C: Cold, H: Hub<Item = C::Item>> Sharing<C, H> {
     /// While the sharing runs, polls an emission that waits; if none waits, sends the next item.
     pub(crate) fn collect(&mut self) -> Result<Event, ShareFault>
         requires { CanRun C.CanAsk self.old }
-        ensures steps { ComesTo (ActsBy C.Reads C.whole C.rest H.does H.waits)
+        ensures steps { TurnComesTo (ActsBy C.Reads C.whole C.rest H.does H.waits)
             steps.collect_while_running self.old result self.new }
         ensures callable { CanRun C.CanAsk self.new }
-        ensures reads { KeepsReadings C.Reads (chain_of self.old) (chain_of self.new) }
+        ensures reads { KeepsReadings C.Reads (sharing_chain self.old) (sharing_chain self.new) }
         ensures policy { self.new.policy ≡ self.old.policy }
         ensures ended { has_ended self.new ≡ ended_after result (has_ended self.old) }
         ensures not_ended { result ≢ Err ShareFault.Ended }

@@ -39,9 +39,9 @@ impl<T: FlowValue, A: Allocator + Copy> CoreHub<T, A> {
 impl<T: FlowValue, A: Allocator + Copy> Hub for CoreHub<T, A> {
     type Item = T;
 
-    ghost use Rattle.flow_turns.specs.CoreHub.{is_waiting, CoreHubDoes};
+    ghost use Rattle.flow_turns.specs.CoreHub.{is_hub_waiting, CoreHubDoes};
 
-    ghost waits = { is_waiting };
+    ghost waits = { is_hub_waiting };
 
     ghost does = { CoreHubDoes };
 

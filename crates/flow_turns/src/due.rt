@@ -1,7 +1,7 @@
 //! The steps of a turn before it collects: obeying the command, and then the cancel and the reset that are due.
 ghost use Rattle.std.specs.Prelude.{◌≡◌, ◌||◌, true, false, IfOk};
 ghost use Rattle.flow_law.specs.SharingTurn as steps;
-ghost use Rattle.flow_turns.specs.SharingViews.{chain_of, has_ended, CanRun, KeepsReadings};
+ghost use Rattle.flow_turns.specs.SharingViews.{sharing_chain, has_ended, CanRun, KeepsReadings};
 ghost use Rattle.flow_turns.specs.TurnParts.{ActsBy, CommandLeads, GoesOn};
 
 use crate::hub::Hub;
@@ -15,7 +15,7 @@ impl<C: Cold, H: Hub<Item = C::Item>> Sharing<C, H> {
     pub(crate) fn obey(&mut self, command: Command)
         requires { CanRun C.CanAsk self.old }
         ensures callable { CanRun C.CanAsk self.new }
-        ensures reads { KeepsReadings C.Reads (chain_of self.old) (chain_of self.new) }
+        ensures reads { KeepsReadings C.Reads (sharing_chain self.old) (sharing_chain self.new) }
         ensures policy { self.new.policy ≡ self.old.policy }
         ensures ended { has_ended self.new ≡ has_ended self.old }
         ensures steps { CommandLeads (ActsBy C.Reads C.whole C.rest H.does H.waits)
@@ -50,7 +50,7 @@ impl<C: Cold, H: Hub<Item = C::Item>> Sharing<C, H> {
     pub(crate) fn cancel_if_due(&mut self) -> Result<(), FlowFault>
         requires { CanRun C.CanAsk self.old }
         ensures callable { CanRun C.CanAsk self.new }
-        ensures reads { KeepsReadings C.Reads (chain_of self.old) (chain_of self.new) }
+        ensures reads { KeepsReadings C.Reads (sharing_chain self.old) (sharing_chain self.new) }
         ensures policy { self.new.policy ≡ self.old.policy }
         ensures ended { has_ended self.new ≡ has_ended self.old }
         ensures free { IfOk result (λ _. self.new.reset_due ≡ true → H.waits self.new.hub ≡ false) }
@@ -70,7 +70,7 @@ impl<C: Cold, H: Hub<Item = C::Item>> Sharing<C, H> {
         requires callable { CanRun C.CanAsk self.old }
         requires free { self.old.reset_due ≡ true → H.waits self.old.hub ≡ false }
         ensures callable { CanRun C.CanAsk self.new }
-        ensures reads { KeepsReadings C.Reads (chain_of self.old) (chain_of self.new) }
+        ensures reads { KeepsReadings C.Reads (sharing_chain self.old) (sharing_chain self.new) }
         ensures policy { self.new.policy ≡ self.old.policy }
         ensures ended { has_ended self.new ≡ has_ended self.old }
         ensures steps { GoesOn (ActsBy C.Reads C.whole C.rest H.does H.waits)

@@ -5,7 +5,7 @@ ghost use Rattle.std.specs.Duration.{as_nanos};
 ghost use Rattle.flow_law.specs.declared.chain.End.{End};
 ghost use Rattle.flow_law.specs.Sharing.{never};
 ghost use Rattle.flow_turns.specs.Policy.{ActsNext, SleepsTo};
-ghost use Rattle.flow_turns.specs.SharingViews.{chain_of, last_of, CanRun, KeepsReadings};
+ghost use Rattle.flow_turns.specs.SharingViews.{sharing_chain, last_observed_at, CanRun, KeepsReadings};
 ghost use Rattle.flow_turns.specs.Runs.{RunsTo, RunsBy, RunsToEnd, RunsToEndBy, TurnsByClock};
 ghost use Rattle.flow_turns.specs.TurnClauses.{TakesSomeTurn};
 
@@ -84,7 +84,7 @@ impl<C: Cold, H: WatchedHub<Item = C::Item>> Sharing<C, H> {
     /// waits for no moment.
     fn most_to_sleep<R: Clock>(&self, rt: &R) -> Option<Duration>
         ensures { (next : _) × ActsNext self.now.policy next
-            × SleepsTo (last_of self.now) next result }
+            × SleepsTo (last_observed_at self.now) next result }
     {
         let next = self.policy.next_moment()?;
         let now = moment_of(rt, self.policy.last());
@@ -140,7 +140,7 @@ impl<C: Cold, H: WatchedHub<Item = C::Item>> Sharing<C, H> {
     fn turn_by_clock<R: Clock>(&mut self, rt: &R) -> Result<Report, ShareFault>
         requires { CanRun C.CanAsk self.old }
         ensures callable { CanRun C.CanAsk self.new }
-        ensures reads { KeepsReadings C.Reads (chain_of self.old) (chain_of self.new) }
+        ensures reads { KeepsReadings C.Reads (sharing_chain self.old) (sharing_chain self.new) }
         ensures turn { TurnsByClock C.Reads C.whole C.rest H.does H.waits
             self.old result self.new }
     {
@@ -177,8 +177,8 @@ impl<C: Cold, H: WatchedHub<Item = C::Item>> Sharing<C, H> {
     ) -> Result<(), ShareFault>
         requires { CanRun C.CanAsk self.old }
         ensures callable { CanRun C.CanAsk self.new }
-        ensures reads { KeepsReadings C.Reads (chain_of self.old) (chain_of self.new) }
-        ensures turns { (m : C.Reading) → C.Reads (chain_of self.old) m
+        ensures reads { KeepsReadings C.Reads (sharing_chain self.old) (sharing_chain self.new) }
+        ensures turns { (m : C.Reading) → C.Reads (sharing_chain self.old) m
             → RunsTo (λ c. C.whole c m) (λ c. C.rest c m) H.does H.waits self.old result self.new }
         // The same of a chain without a reading, whatever it answers.
         ensures any_turns { RunsBy (TakesSomeTurn H.does H.waits) self.old result self.new }
@@ -210,8 +210,8 @@ impl<C: Cold, H: WatchedHub<Item = C::Item>> Sharing<C, H> {
     pub fn run_to_end<R: Wait + Clock>(&mut self, rt: &R) -> Result<(), ShareFault>
         requires { CanRun C.CanAsk self.old }
         ensures callable { CanRun C.CanAsk self.new }
-        ensures reads { KeepsReadings C.Reads (chain_of self.old) (chain_of self.new) }
-        ensures turns { (m : C.Reading) → C.Reads (chain_of self.old) m
+        ensures reads { KeepsReadings C.Reads (sharing_chain self.old) (sharing_chain self.new) }
+        ensures turns { (m : C.Reading) → C.Reads (sharing_chain self.old) m
             → RunsToEnd (λ c. C.whole c m)
             (λ c. C.rest c m) H.does H.waits self.old result self.new }
         ensures any_turns { RunsToEndBy (TakesSomeTurn H.does H.waits) self.old result self.new }

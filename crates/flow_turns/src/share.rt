@@ -5,10 +5,10 @@ ghost use Rattle.flow_law.specs.SharedFlow.{NoFlow, config_fault, first_state};
 ghost use Rattle.flow_law.specs.Standing.{StandsFor};
 ghost use Rattle.flow_law.specs.StateFlow.{first_state_flow};
 ghost use Rattle.flow_law.specs.SharingTurn.{at_rest};
-ghost use Rattle.flow_turns.specs.CoreHub.{core_of, is_waiting};
+ghost use Rattle.flow_turns.specs.CoreHub.{core_of, is_hub_waiting};
 ghost use Rattle.flow_turns.specs.ShareIn.{share_config};
-ghost use Rattle.flow_turns.specs.StateHub.{state_core_of, initial_of, never_waits};
-ghost use Rattle.flow_turns.specs.SharingViews.{state_of, chain_of, hub_of, CanRun, KeepsReadings, SharesChain, IsBetweenTurns, IsQuietHub, HasObserved};
+ghost use Rattle.flow_turns.specs.StateHub.{state_core_of, reset_value, never_waits};
+ghost use Rattle.flow_turns.specs.SharingViews.{sharing_state, sharing_chain, hub_of, CanRun, KeepsReadings, SharesChain, IsBetweenTurns, IsQuietHub, HasObserved};
 
 use crate::core_hub::CoreHub;
 use crate::sharing::Sharing;
@@ -42,11 +42,11 @@ pub fn share_in<C: Cold, A: Allocator + Copy>(
         × (fault ≡ ShareFault.Flow refusal)) }
     ensures nothing { IfOk result (λ sharing. HasObserved started sharing []) }
     ensures callable { IfOk result (λ sharing. CanRun C.CanAsk sharing) }
-    ensures reads { IfOk result (λ sharing. KeepsReadings C.Reads chain (chain_of sharing)) }
-    ensures state { IfOk result (λ sharing. state_of sharing ≡ at_rest) }
+    ensures reads { IfOk result (λ sharing. KeepsReadings C.Reads chain (sharing_chain sharing)) }
+    ensures state { IfOk result (λ sharing. sharing_state sharing ≡ at_rest) }
     ensures chain { IfOk result (λ sharing. SharesChain C.whole C.rest chain sharing) }
     ensures between { IfOk result (λ sharing. IsBetweenTurns C.whole C.rest sharing) }
-    ensures quiet { IfOk result (λ sharing. IsQuietHub C.whole C.rest is_waiting sharing) }
+    ensures quiet { IfOk result (λ sharing. IsQuietHub C.whole C.rest is_hub_waiting sharing) }
 {
     let config = Config {
         replay,
@@ -77,11 +77,11 @@ pub fn state_in<C: Cold, A: Allocator + Copy>(
     ensures given { C.Item.IsAlwaysCopied → IsOk result }
     ensures flow { IfOk result (λ sharing.
         state_core_of (hub_of sharing) ≡ first_state_flow limit initial) }
-    ensures initial { IfOk result (λ sharing. initial_of (hub_of sharing) ≡ initial) }
+    ensures initial { IfOk result (λ sharing. reset_value (hub_of sharing) ≡ initial) }
     ensures nothing { IfOk result (λ sharing. HasObserved started sharing []) }
     ensures callable { IfOk result (λ sharing. CanRun C.CanAsk sharing) }
-    ensures reads { IfOk result (λ sharing. KeepsReadings C.Reads chain (chain_of sharing)) }
-    ensures state { IfOk result (λ sharing. state_of sharing ≡ at_rest) }
+    ensures reads { IfOk result (λ sharing. KeepsReadings C.Reads chain (sharing_chain sharing)) }
+    ensures state { IfOk result (λ sharing. sharing_state sharing ≡ at_rest) }
     ensures chain { IfOk result (λ sharing. SharesChain C.whole C.rest chain sharing) }
     ensures between { IfOk result (λ sharing. IsBetweenTurns C.whole C.rest sharing) }
     ensures quiet { IfOk result (λ sharing. IsQuietHub C.whole C.rest never_waits sharing) }

@@ -1,6 +1,6 @@
 //! A state flow for one thread as the hub of a sharing.
 ghost use Rattle.std.specs.Prelude.{◌≡◌, false};
-ghost use Rattle.flow_turns.specs.StateHub.{state_core_of, initial_of, never_waits, StateHubDoes};
+ghost use Rattle.flow_turns.specs.StateHub.{state_core_of, reset_value, never_waits, StateHubDoes};
 
 use crate::hub::Hub;
 use flow_core::StateCore;
@@ -20,7 +20,7 @@ impl<T: FlowValue, A: Allocator + Copy> StateHub<T, A> {
     /// Makes a hub that has set nothing. `initial` is what a reset sets: the value with which the core began.
     pub fn new(core: StateCore<T, A>, initial: T) -> Self
         ensures core { state_core_of result ≡ core }
-        ensures initial { initial_of result ≡ initial }
+        ensures initial { reset_value result ≡ initial }
         ensures waits { ⟦<StateHub<T, A> as Hub>⟧.waits result ≡ false }
     {
         StateHub { core, initial }

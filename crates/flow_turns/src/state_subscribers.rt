@@ -3,7 +3,7 @@ ghost use Rattle.std.specs.Prelude.{◌≡◌, ℕ, List, IsOk};
 ghost use Rattle.flow_law.specs.Standing.{StateConforms};
 ghost use Rattle.flow_law.specs.declared.call.StateCall.TheVariants as call;
 ghost use Rattle.flow_law.specs.declared.call.StateReply.TheVariants as reply;
-ghost use Rattle.flow_core.specs.StateCore.{subscribe_reply, next_reply};
+ghost use Rattle.flow_core.specs.StateCore.{state_subscribe_reply, state_next_reply};
 ghost use Rattle.flow_core.specs.SubId.{number_of};
 ghost use Rattle.flow_turns.specs.StateHub.{state_core_of};
 ghost use Rattle.flow_turns.specs.SharingViews.{hub_of};
@@ -24,7 +24,7 @@ impl<C: Cold, A: Allocator + Copy> Sharing<C, StateHub<C::Item, A>> {
     pub fn subscribe(&mut self) -> Result<SubId, FlowFault>
         ensures documented { (name : List ℕ)
             → StateConforms (state_core_of (hub_of self.old))
-            (call.Subscribe name) (subscribe_reply result)
+            (call.Subscribe name) (state_subscribe_reply result)
             (state_core_of (hub_of self.new)) }
         ensures rest { self.new ≡ with_state_core self.old (state_core_of (hub_of self.new)) }
     {
@@ -38,7 +38,7 @@ impl<C: Cold, A: Allocator + Copy> Sharing<C, StateHub<C::Item, A>> {
     pub fn next(&mut self, id: SubId) -> Result<Next<C::Item>, FlowFault>
         ensures documented { StateConforms
             (state_core_of (hub_of self.old)) (call.TakeNext (number_of id))
-            (next_reply result) (state_core_of (hub_of self.new)) }
+            (state_next_reply result) (state_core_of (hub_of self.new)) }
         ensures given { C.Item.IsAlwaysCopied → IsOk result }
         ensures rest { self.new ≡ with_state_core self.old (state_core_of (hub_of self.new)) }
     {

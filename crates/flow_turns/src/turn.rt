@@ -5,7 +5,7 @@
 ghost use Rattle.std.specs.Prelude.{◌≡◌, ◌≢◌, [], false, IsTrue, ◌↔◌, Err};
 ghost use Rattle.flow_law.specs.SharingCalls.{counts};
 ghost use Rattle.flow_law.specs.SharingTurn.{at_rest};
-ghost use Rattle.flow_turns.specs.SharingViews.{state_of, chain_of, hub_of, CanRun, KeepsReadings, SharesChain, IsBetweenTurns, IsQuietHub, HasObserved, has_ended};
+ghost use Rattle.flow_turns.specs.SharingViews.{sharing_state, sharing_chain, hub_of, CanRun, KeepsReadings, SharesChain, IsBetweenTurns, IsQuietHub, HasObserved, has_ended};
 ghost use Rattle.flow_turns.specs.TurnClauses.{TakesTurn, TakesSomeTurn, MeansAnswer, HandlesReset, StaysBetween, StaysQuiet, FaultWasAnswered, ended_after};
 ghost use Rattle.flow_turns.specs.TurnParts.{ActsBy, CallsHub, CommandComesTo};
 
@@ -22,10 +22,10 @@ impl<C: Cold, H: Hub<Item = C::Item>> Sharing<C, H> {
         requires callable { C.CanAsk chain }
         requires free { H.waits hub ≡ false }
         ensures callable { CanRun C.CanAsk result }
-        ensures reads { KeepsReadings C.Reads chain (chain_of result) }
+        ensures reads { KeepsReadings C.Reads chain (sharing_chain result) }
         ensures hub { hub_of result ≡ hub }
         ensures nothing { HasObserved started result [] }
-        ensures state { state_of result ≡ at_rest }
+        ensures state { sharing_state result ≡ at_rest }
         ensures chain { SharesChain C.whole C.rest chain result }
         ensures between { IsBetweenTurns C.whole C.rest result }
         ensures quiet { IsQuietHub C.whole C.rest H.waits result }
@@ -46,9 +46,9 @@ impl<C: Cold, H: Hub<Item = C::Item>> Sharing<C, H> {
     fn counted(&mut self) -> Result<u64, FlowFault>
         requires { CanRun C.CanAsk self.old }
         ensures callable { CanRun C.CanAsk self.new }
-        ensures reads { KeepsReadings C.Reads (chain_of self.old) (chain_of self.new) }
+        ensures reads { KeepsReadings C.Reads (sharing_chain self.old) (sharing_chain self.new) }
         ensures policy { self.new.policy ≡ self.old.policy }
-        ensures state { state_of self.new ≡ state_of self.old }
+        ensures state { sharing_state self.new ≡ sharing_state self.old }
         ensures counts { CallsHub (ActsBy C.Reads C.whole C.rest H.does H.waits)
             counts self.old result self.new }
     {
@@ -61,7 +61,7 @@ impl<C: Cold, H: Hub<Item = C::Item>> Sharing<C, H> {
         ensures steps { CommandComesTo (ActsBy C.Reads C.whole C.rest H.does H.waits)
             command self.old result self.new }
         ensures callable { CanRun C.CanAsk self.new }
-        ensures reads { KeepsReadings C.Reads (chain_of self.old) (chain_of self.new) }
+        ensures reads { KeepsReadings C.Reads (sharing_chain self.old) (sharing_chain self.new) }
         ensures policy { self.new.policy ≡ self.old.policy }
         ensures ended { has_ended self.new ≡ ended_after result (has_ended self.old) }
         ensures not_ended { result ≢ Err ShareFault.Ended }
@@ -89,10 +89,10 @@ impl<C: Cold, H: Hub<Item = C::Item>> Sharing<C, H> {
     pub fn turn(&mut self, now: u64) -> Result<Report, ShareFault>
         requires { CanRun C.CanAsk self.old }
         ensures callable { CanRun C.CanAsk self.new }
-        ensures reads { KeepsReadings C.Reads (chain_of self.old) (chain_of self.new) }
+        ensures reads { KeepsReadings C.Reads (sharing_chain self.old) (sharing_chain self.new) }
 
         // The steps of the turn, and what was observed after it.
-        ensures turn { (m : C.Reading) → C.Reads (chain_of self.old) m
+        ensures turn { (m : C.Reading) → C.Reads (sharing_chain self.old) m
             → TakesTurn (λ c. C.whole c m)
             (λ c. C.rest c m) H.does H.waits now self.old result self.new }
 
@@ -108,15 +108,15 @@ impl<C: Cold, H: Hub<Item = C::Item>> Sharing<C, H> {
         ensures answered { FaultWasAnswered C.HasAnswered result self.new }
 
         // What the report means for the items that the flow has accepted since the last start.
-        ensures means { (m : C.Reading) → C.Reads (chain_of self.old) m
+        ensures means { (m : C.Reading) → C.Reads (sharing_chain self.old) m
             → MeansAnswer (λ c. C.whole c m)
             (λ c. C.rest c m) H.does H.waits self.old result self.new }
-        ensures resets { (m : C.Reading) → C.Reads (chain_of self.old) m
+        ensures resets { (m : C.Reading) → C.Reads (sharing_chain self.old) m
             → HandlesReset H.does H.waits self.old result self.new }
         ensures any_resets { HandlesReset H.does H.waits self.old result self.new }
-        ensures between { (m : C.Reading) → C.Reads (chain_of self.old) m
+        ensures between { (m : C.Reading) → C.Reads (sharing_chain self.old) m
             → StaysBetween (λ c. C.whole c m) (λ c. C.rest c m) self.old self.new }
-        ensures quiet { (m : C.Reading) → C.Reads (chain_of self.old) m
+        ensures quiet { (m : C.Reading) → C.Reads (sharing_chain self.old) m
             → StaysQuiet (λ c. C.whole c m) (λ c. C.rest c m) H.waits self.old result self.new }
     {
         if self.ended {

@@ -19,7 +19,7 @@ use Rattle.flow_law.specs.Growth.{Fits, IsApartFrom, event}
 use Rattle.flow_law.specs.History.{MayCall}
 use Rattle.flow_law.specs.OneHistory.{said}
 use Rattle.flow_law.specs.Seats.{SeatAt}
-use Rattle.flow_law.specs.StateFlow.{StateHistory, after, Replies, state_flow, state_after_all, IsStateHistory}
+use Rattle.flow_law.specs.StateFlow.{StateHistory, state_flow_after, StateFlowReplies, state_flow, state_after_all, IsStateHistory}
 use Rattle.flow_law.proofs.HistoryLemmas.{after_all-snoc, IsHistory-snoc}
 use Rattle.flow_law.proofs.Names.{grew_refl, fits_more, fits_own}
 use Rattle.flow_law.proofs.SeatLemmas.{changed, at_only}
@@ -27,9 +27,9 @@ use Rattle.flow_law.proofs.StateCounts.{IsCounted, is_counted}
 use Rattle.flow_word.specs.declared.view.Known.{Known}
 use Rattle.flow_word.specs.declared.view.LastGot.{LastGot}
 use Rattle.flow_word.specs.declared.view.Start.{Start}
-use Rattle.flow_word.specs.View.{begun, known, only}
+use Rattle.flow_word.specs.View.{begun, known, only_in_view}
 use Rattle.flow_word.specs.Rule.{counts, IsFine, WordHolds}
-use Rattle.flow_word.specs.Steps.{Makes, reads, sets, exchanges, counts_live}
+use Rattle.flow_word.specs.Steps.{StepMakes, reads, sets, exchanges, counts_live}
 
 module _ (T : Type 0) (packs : ℕ → Type 0) (value_of : ℕ → T) (start : Start) where
   abbrev V : Type 0
@@ -52,20 +52,20 @@ module _ (T : Type 0) (packs : ℕ → Type 0) (value_of : ℕ → T) (start : S
   abbrev pub after_call : Known T → StateHistory T → StateCall T → StateReply T → Option LastGot → Known T
   after_call x h c r got = known (record { name = x.knows.name; made = x.knows.made; lost = x.knows.lost; seen = h ++ event_by x c r ∷ [] }) x.start got
 
-  pub found_at : (s : St) (id : ℕ) (v : V) → v ≡ only v ∷ [] → get_elem? s.views id ≡ some v → SeatAt (λ (v : V). v) s.views id 0 (only v)
-  found_at s id v is at = (v, at, subst (λ (l : V). get_elem? l 0 ≡ some (only v)) (sym is) refl)
+  pub found_at : (s : St) (id : ℕ) (v : V) → v ≡ only_in_view v ∷ [] → get_elem? s.views id ≡ some v → SeatAt (λ (v : V). v) s.views id 0 (only_in_view v)
+  found_at s id v is at = (v, at, subst (λ (l : V). get_elem? l 0 ≡ some (only_in_view v)) (sym is) refl)
 
-  pub started : (s : St) (r : Rule s) (id : ℕ) (v : V) → v ≡ only v ∷ [] → get_elem? s.views id ≡ some v → (only v).start ≡ start
-  started s r id v is at = (r.seats.fine id 0 (only v) (found_at s id v is at)).1
+  pub started : (s : St) (r : Rule s) (id : ℕ) (v : V) → v ≡ only_in_view v ∷ [] → get_elem? s.views id ≡ some v → (only_in_view v).start ≡ start
+  started s r id v is at = (r.seats.fine id 0 (only_in_view v) (found_at s id v is at)).1
 
-  pub fits_at : (s : St) (r : Rule s) (id : ℕ) (v : V) → v ≡ only v ∷ [] → get_elem? s.views id ≡ some v → Fits r.history (only v).knows
-  fits_at s r id v is at = (r.seats.fine id 0 (only v) (found_at s id v is at)).0
+  pub fits_at : (s : St) (r : Rule s) (id : ℕ) (v : V) → v ≡ only_in_view v ∷ [] → get_elem? s.views id ≡ some v → Fits r.history (only_in_view v).knows
+  fits_at s r id v is at = (r.seats.fine id 0 (only_in_view v) (found_at s id v is at)).0
 
   -- a step that is the one event of a call keeps the rule
-  pub makes_event : (s : St) (r : Rule s) (id : ℕ) (v : V) (c : StateCall T) (y : StateReply T) (got : Option LastGot) (words' : List ℕ) (word' : ℕ) → v ≡ only v ∷ [] → get_elem? s.views id ≡ some v
-      → Replies (now r.history) c y → MayCall state_flow c (only v).knows.name r.history
-      → words' ≡ word' ∷ counts (after (now r.history) c y) ∷ [] → packs word' → value_of word' ≡ (after (now r.history) c y).value
-      → Rule record { words = words'; homes = s.homes; views = set s.views id (after_call (only v) r.history c y got ∷ []) }
+  pub makes_event : (s : St) (r : Rule s) (id : ℕ) (v : V) (c : StateCall T) (y : StateReply T) (got : Option LastGot) (words' : List ℕ) (word' : ℕ) → v ≡ only_in_view v ∷ [] → get_elem? s.views id ≡ some v
+      → StateFlowReplies (now r.history) c y → MayCall state_flow c (only_in_view v).knows.name r.history
+      → words' ≡ word' ∷ counts (state_flow_after (now r.history) c y) ∷ [] → packs word' → value_of word' ≡ (state_flow_after (now r.history) c y).value
+      → Rule record { words = words'; homes = s.homes; views = set s.views id (after_call (only_in_view v) r.history c y got ∷ []) }
   makes_event s r id v c y got words' word' is at replies may ws packed value = record {
     history = h';
     is_history = IsHistory-snoc state_flow (begun value_of start) h e r.is_history replies may;
@@ -80,7 +80,7 @@ module _ (T : Type 0) (packs : ℕ → Type 0) (value_of : ℕ → T) (start : S
   }
     where
       x : Known T
-      x = only v
+      x = only_in_view v
 
       h : StateHistory T
       h = r.history
@@ -91,7 +91,7 @@ module _ (T : Type 0) (packs : ℕ → Type 0) (value_of : ℕ → T) (start : S
       h' : StateHistory T
       h' = h ++ e ∷ []
 
-      next : after (now h) c y ≡ now h'
+      next : state_flow_after (now h) c y ≡ now h'
       next = sym (after_all-snoc state_flow (begun value_of start) h e)
 
       place : SeatAt (λ (v : V). v) s.views id 0 x
@@ -108,16 +108,16 @@ module _ (T : Type 0) (packs : ℕ → Type 0) (value_of : ℕ → T) (start : S
           (fits_more h z.knows x.knows.name (said c y ∷ []) xz.0 zx.1 f.0, f.1)
 
   -- and the step proves that call to its caller
-  pub names_event : (s : St) (r : Rule s) (id : ℕ) (v : V) (cs : List (ℕ × Unit {0})) (c : StateCall T) (y : StateReply T) (got : Option LastGot) → v ≡ only v ∷ [] → get_elem? s.views id ≡ some v
-      → Replies (now r.history) c y → MayCall state_flow c (only v).knows.name r.history → Makes value_of (v, cs) c y (after_call (only v) r.history c y got ∷ [], cs)
+  pub names_event : (s : St) (r : Rule s) (id : ℕ) (v : V) (cs : List (ℕ × Unit {0})) (c : StateCall T) (y : StateReply T) (got : Option LastGot) → v ≡ only_in_view v ∷ [] → get_elem? s.views id ≡ some v
+      → StateFlowReplies (now r.history) c y → MayCall state_flow c (only_in_view v).knows.name r.history → StepMakes value_of (v, cs) c y (after_call (only_in_view v) r.history c y got ∷ [], cs)
   names_event s r id v cs c y got is at replies may = (
     record {
       name = refl;
       made = refl;
-      lost = le_refl (only v).knows.lost;
+      lost = le_refl (only_in_view v).knows.lost;
       history = subst (λ (z : Start). IsStateHistory (begun value_of z) h') (sym (started s r id v is at)) (IsHistory-snoc state_flow (begun value_of start) r.history e r.is_history replies may);
       grows = (fits.0.0, ap (λ (l : StateHistory T). l ++ e ∷ []) fits.0.1, fits.0.2);
-      names = fits_own r.history (only v).knows (said c y ∷ []) fits;
+      names = fits_own r.history (only_in_view v).knows (said c y ∷ []) fits;
     },
     refl,
     refl,
@@ -125,12 +125,12 @@ module _ (T : Type 0) (packs : ℕ → Type 0) (value_of : ℕ → T) (start : S
   )
     where
       e : HistoryEvent (Said (StateCall T) (StateReply T))
-      e = event_by (only v) c y
+      e = event_by (only_in_view v) c y
 
       h' : StateHistory T
       h' = r.history ++ e ∷ []
 
-      fits : Fits r.history (only v).knows
+      fits : Fits r.history (only_in_view v).knows
       fits = fits_at s r id v is at
 
   pub found_is : (s : St) (r : Rule s) → get_or s.words 0 0 ≡ r.word
@@ -142,41 +142,41 @@ module _ (T : Type 0) (packs : ℕ → Type 0) (value_of : ℕ → T) (start : S
 
   -- ---- the word of the value
 
-  pub reading : (slots id : ℕ) (me : Me Unit V) → me.0 ≡ only me.0 ∷ [] → Allows Rule slots id me 0 (λ n. n) (reads packs value_of (step slots 0 0 0 none) me)
+  pub reading : (slots id : ℕ) (me : Me Unit V) → me.0 ≡ only_in_view me.0 ∷ [] → Allows Rule slots id me 0 (λ n. n) (reads packs value_of (step slots 0 0 0 none) me)
   reading slots id me is s r n at small =
       let found : ℕ = get_or s.words 0 0 in let y : StateReply T = reply.Got (value_of found) in let same = found_is s r in
-      let replies : Replies (now r.history) call.GetValue y = ap (λ (z : T). reply.Got z) (ap value_of same ∙ r.value) in (
-        after_call (only me.0) r.history call.GetValue y (only me.0).subscriber ∷ [],
+      let replies : StateFlowReplies (now r.history) call.GetValue y = ap (λ (z : T). reply.Got z) (ap value_of same ∙ r.value) in (
+        after_call (only_in_view me.0) r.history call.GetValue y (only_in_view me.0).subscriber ∷ [],
         keeps,
         tt,
-        makes_event s r id me.0 call.GetValue y (only me.0).subscriber (set s.words 0 found) r.word is at replies tt (set-get_or s.words 0 0 ∙ r.words) r.packed r.value,
-        (subst packs (sym same) r.packed, names_event s r id me.0 me.1 call.GetValue y (only me.0).subscriber is at replies tt),
+        makes_event s r id me.0 call.GetValue y (only_in_view me.0).subscriber (set s.words 0 found) r.word is at replies tt (set-get_or s.words 0 0 ∙ r.words) r.packed r.value,
+        (subst packs (sym same) r.packed, names_event s r id me.0 me.1 call.GetValue y (only_in_view me.0).subscriber is at replies tt),
       )
 
-  pub setting : (slots id : ℕ) (me : Me Unit V) (w : ℕ) → me.0 ≡ only me.0 ∷ [] → packs w → Allows Rule slots id me 0 (λ _. w) (sets value_of (step slots 0 w 0 none) me)
+  pub setting : (slots id : ℕ) (me : Me Unit V) (w : ℕ) → me.0 ≡ only_in_view me.0 ∷ [] → packs w → Allows Rule slots id me 0 (λ _. w) (sets value_of (step slots 0 w 0 none) me)
   setting slots id me w is packed s r n at small = let a : T = value_of w in (
-    after_call (only me.0) r.history (call.Set a) reply.Done (only me.0).subscriber ∷ [],
+    after_call (only_in_view me.0) r.history (call.Set a) reply.Done (only_in_view me.0).subscriber ∷ [],
     keeps,
     tt,
-    makes_event s r id me.0 (call.Set a) reply.Done (only me.0).subscriber (set s.words 0 w) w is at refl tt (ap (λ (z : List ℕ). set z 0 w) r.words) packed refl,
-    names_event s r id me.0 me.1 (call.Set a) reply.Done (only me.0).subscriber is at refl tt,
+    makes_event s r id me.0 (call.Set a) reply.Done (only_in_view me.0).subscriber (set s.words 0 w) w is at refl tt (ap (λ (z : List ℕ). set z 0 w) r.words) packed refl,
+    names_event s r id me.0 me.1 (call.Set a) reply.Done (only_in_view me.0).subscriber is at refl tt,
   )
 
-  pub exchanging : ((v w : ℕ) → packs v → packs w → value_of v ≡ value_of w → v ≡ w) → (slots id : ℕ) (me : Me Unit V) (old new : ℕ) → me.0 ≡ only me.0 ∷ [] → packs old → packs new
+  pub exchanging : ((v w : ℕ) → packs v → packs w → value_of v ≡ value_of w → v ≡ w) → (slots id : ℕ) (me : Me Unit V) (old new : ℕ) → me.0 ≡ only_in_view me.0 ∷ [] → packs old → packs new
       → Allows Rule slots id me 0 (λ n. either (eqb n old) new n) (exchanges value_of (step slots 0 old new none) me)
   exchanging once slots id me old new is packed_old packed_new s r n at small =
-      let found : ℕ = get_or s.words 0 0 in let c : StateCall T = call.CompareAndSet (value_of old) (value_of new) in let same = found_is s r in let f = now r.history in let got = (only me.0).subscriber in
-      let G : Bool → Type 0 = λ b. (w : V) × (a : Act Unit) × Valid s.homes me.1 a × Rule (stepped s 0 (either b new found) id me.1 w a) × Makes value_of me c (reply.Answered b) (w, carried_after me.1 a) in
+      let found : ℕ = get_or s.words 0 0 in let c : StateCall T = call.CompareAndSet (value_of old) (value_of new) in let same = found_is s r in let f = now r.history in let got = (only_in_view me.0).subscriber in
+      let G : Bool → Type 0 = λ b. (w : V) × (a : Act Unit) × Valid s.homes me.1 a × Rule (stepped s 0 (either b new found) id me.1 w a) × StepMakes value_of me c (reply.Answered b) (w, carried_after me.1 a) in
       let flat : G (eqb found old) = dite (ℕ_discrete found old)
-      (λ hit. let replies : Replies f c (reply.Answered true) = inl (sym r.value ∙ ap value_of (sym same ∙ hit), refl) in subst G (sym (eq-eqb found old hit)) (
-        after_call (only me.0) r.history c (reply.Answered true) got ∷ [],
+      (λ hit. let replies : StateFlowReplies f c (reply.Answered true) = inl (sym r.value ∙ ap value_of (sym same ∙ hit), refl) in subst G (sym (eq-eqb found old hit)) (
+        after_call (only_in_view me.0) r.history c (reply.Answered true) got ∷ [],
         keeps,
         tt,
         makes_event s r id me.0 c (reply.Answered true) got (set s.words 0 new) new is at replies tt (ap (λ (z : List ℕ). set z 0 new) r.words) packed_new refl,
         names_event s r id me.0 me.1 c (reply.Answered true) got is at replies tt,
       ))
-      (λ miss. let replies : Replies f c (reply.Answered false) = inr ((λ e. miss (same ∙ once r.word old r.packed packed_old (r.value ∙ e))), refl) in subst G (sym (ne_eqb found old miss)) (
-        after_call (only me.0) r.history c (reply.Answered false) got ∷ [],
+      (λ miss. let replies : StateFlowReplies f c (reply.Answered false) = inr ((λ e. miss (same ∙ once r.word old r.packed packed_old (r.value ∙ e))), refl) in subst G (sym (ne_eqb found old miss)) (
+        after_call (only_in_view me.0) r.history c (reply.Answered false) got ∷ [],
         keeps,
         tt,
         makes_event s r id me.0 c (reply.Answered false) got (set s.words 0 found) r.word is at replies tt (set-get_or s.words 0 0 ∙ r.words) r.packed r.value,
@@ -192,12 +192,12 @@ module _ (T : Type 0) (packs : ℕ → Type 0) (value_of : ℕ → T) (start : S
   live_is : (f : StateFlowState T) → IsCounted start.limit f → start.limit < 4294967296 → counts f % 4294967296 ≡ length f.subscribers
   live_is f h fits = let a = h.live in let b = h.issued in omega arith
 
-  pub counting : (slots id : ℕ) (me : Me Unit V) → me.0 ≡ only me.0 ∷ [] → Allows Rule slots id me 1 (λ n. n) (counts_live value_of (step slots 1 0 0 none) me)
+  pub counting : (slots id : ℕ) (me : Me Unit V) → me.0 ≡ only_in_view me.0 ∷ [] → Allows Rule slots id me 1 (λ n. n) (counts_live value_of (step slots 1 0 0 none) me)
   counting slots id me is s r n at small =
-      let found : ℕ = get_or s.words 1 0 in let f = now r.history in let y : StateReply T = reply.Counted (found % 4294967296) in let got = (only me.0).subscriber in
+      let found : ℕ = get_or s.words 1 0 in let f = now r.history in let y : StateReply T = reply.Counted (found % 4294967296) in let got = (only_in_view me.0).subscriber in
       let same : found ≡ counts f = ap (λ (z : List ℕ). get_or z 1 0) r.words in
-      let replies : Replies f call.SubscriptionCount y = ap (λ (z : ℕ). reply.Counted z) (ap (λ (z : ℕ). z % 4294967296) same ∙ live_is f (counted s r) r.limit_fits) in (
-        after_call (only me.0) r.history call.SubscriptionCount y got ∷ [],
+      let replies : StateFlowReplies f call.SubscriptionCount y = ap (λ (z : ℕ). reply.Counted z) (ap (λ (z : ℕ). z % 4294967296) same ∙ live_is f (counted s r) r.limit_fits) in (
+        after_call (only_in_view me.0) r.history call.SubscriptionCount y got ∷ [],
         keeps,
         tt,
         makes_event s r id me.0 call.SubscriptionCount y got (set s.words 1 found) r.word is at replies tt (set-get_or s.words 1 0 ∙ r.words) r.packed r.value,

@@ -14,7 +14,7 @@ use Rattle.flow_law.proofs.Names.{grew_refl, makes_fits, child_fits}
 use Rattle.flow_law.proofs.SeatLemmas.{changed, made, spent_more, joined, parted, at_only}
 use Rattle.flow_word.specs.declared.view.Known.{Known}
 use Rattle.flow_word.specs.declared.view.Start.{Start}
-use Rattle.flow_word.specs.View.{begun, only, with_knows, first_view, first_of, others_of}
+use Rattle.flow_word.specs.View.{begun, only_in_view, with_knows, first_word_view, first_in_view, others_in_view}
 use Rattle.flow_word.specs.Rule.{IsFine, WordHolds}
 use Rattle.flow_word.specs.Steps.{observes, looks}
 use Rattle.flow_word.proofs.Keeps.{started, fits_at, still}
@@ -45,7 +45,7 @@ module _ (T : Type 0) (packs : ℕ → Type 0) (value_of : ℕ → T) (start : S
     seats = seats;
   }
 
-  pub opens : packs start.word → start.limit < 4294967296 → Rule (opening (start.word ∷ 0 ∷ []) [] (first_view start))
+  pub opens : packs start.word → start.limit < 4294967296 → Rule (opening (start.word ∷ 0 ∷ []) [] (first_word_view start))
   opens packed fits = record {
     history = [];
     is_history = record { begins = refl; legal = tt; owned = tt };
@@ -60,12 +60,12 @@ module _ (T : Type 0) (packs : ℕ → Type 0) (value_of : ℕ → T) (start : S
     };
   }
     where
-      at : (i a : ℕ) (x : Known T) → SeatAt (λ (v : V). v) (first_view start ∷ []) i a x → (i ≡ 0) × (a ≡ 0) × (only {T = T} (first_view start) ≡ x)
-      at i a x p = let v = at_only (first_view start) p.0 i p.1 in let one = at_only (only {T = T} (first_view start)) x a (subst (λ (l : V). get_elem? l a ≡ some x) (sym v.1) p.2) in (v.0, one.0, one.1)
+      at : (i a : ℕ) (x : Known T) → SeatAt (λ (v : V). v) (first_word_view start ∷ []) i a x → (i ≡ 0) × (a ≡ 0) × (only_in_view {T = T} (first_word_view start) ≡ x)
+      at i a x p = let v = at_only (first_word_view start) p.0 i p.1 in let one = at_only (only_in_view {T = T} (first_word_view start)) x a (subst (λ (l : V). get_elem? l a ≡ some x) (sym v.1) p.2) in (v.0, one.0, one.1)
 
   -- a token is made through the one of a view
-  pub making : (id : ℕ) (v : V) → v ≡ only v ∷ [] → Splits Rule id v (map (with_knows makes) v) (map (with_knows child) v)
-  making id v is s r at = let x : Known T = only v in let fits = fits_at T packs value_of start s r id v is at in let from = started T packs value_of start s r id v is at in
+  pub making : (id : ℕ) (v : V) → v ≡ only_in_view v ∷ [] → Splits Rule id v (map (with_knows makes) v) (map (with_knows child) v)
+  making id v is s r at = let x : Known T = only_in_view v in let fits = fits_at T packs value_of start s r id v is at in let from = started T packs value_of start s r id v is at in
       reseated s r _ (made (λ (v : V). v) (λ (x : Known T). x.knows) (IsFine start r.history) s.views id v (map (with_knows makes) v) (map (with_knows child) v) x (with_knows makes x) (with_knows child x) is
       (ap (λ (l : V). map (with_knows makes) l) is) (ap (λ (l : V). map (with_knows child) l) is) refl refl (makes_fits x.knows r.history fits, from) (child_fits x.knows r.history fits, from) at r.seats)
 
@@ -75,9 +75,9 @@ module _ (T : Type 0) (packs : ℕ → Type 0) (value_of : ℕ → T) (start : S
       (reseated s r _ (spent_more (λ (v : V). v) (λ (x : Known T). x.knows) (IsFine start r.history) s.views [] refl r.seats))
 
   -- two tokens in one view
-  pub joins : (id : ℕ) (v : V) (other : ℕ) (w : V) → v ≡ only v ∷ [] → w ≡ only w ∷ [] → Joins Rule id v other w (v ++ w) []
+  pub joins : (id : ℕ) (v : V) (other : ℕ) (w : V) → v ≡ only_in_view v ∷ [] → w ≡ only_in_view w ∷ [] → Joins Rule id v other w (v ++ w) []
   joins id v other w is_v is_w s r at ne there =
-      reseated s r _ (joined (λ (v : V). v) (λ (x : Known T). x.knows) (IsFine start r.history) s.views id other v w (v ++ w) [] (only v) (only w) is_v is_w (λ i. is_v i ++ is_w i) refl at ne there r.seats)
+      reseated s r _ (joined (λ (v : V). v) (λ (x : Known T). x.knows) (IsFine start r.history) s.views id other v w (v ++ w) [] (only_in_view v) (only_in_view w) is_v is_w (λ i. is_v i ++ is_w i) refl at ne there r.seats)
 
   -- both see the whole history so far
   pub observing : (slots id : ℕ) (me : Me Unit V) (x y : Known T) → me.0 ≡ x ∷ y ∷ [] → Allows Rule slots id me 0 (λ n. n) (observes value_of (step slots 0 0 0 none) me)
@@ -90,7 +90,7 @@ module _ (T : Type 0) (packs : ℕ → Type 0) (value_of : ℕ → T) (start : S
         (λ a z p. let f = r.seats.fine id a z (me.0, at, p) in ((grew_refl z.knows.name h, f.0.1), f.1)) (λ i a z _ p. r.seats.fine i a z p) r.seats.apart)),
     (
       h,
-      subst (λ (z : Start). IsStateHistory (begun value_of z) h) (sym (ap (λ (l : V). (only l).start) is ∙ first.1)) r.is_history,
+      subst (λ (z : Start). IsStateHistory (begun value_of z) h) (sym (ap (λ (l : V). (only_in_view l).start) is ∙ first.1)) r.is_history,
       subst (AllByRecursion (λ (z : Known T). Fits h z.knows)) (sym is) (first.0, (second.0, tt)),
       refl,
     ),
@@ -106,7 +106,7 @@ module _ (T : Type 0) (packs : ℕ → Type 0) (value_of : ℕ → T) (start : S
       second = r.seats.fine id 1 y (me.0, at, subst (λ (l : V). get_elem? l 1 ≡ some y) (sym is) refl)
 
   -- a step that changes nothing
-  pub looking : (slots id : ℕ) (me : Me Unit V) → me.0 ≡ only me.0 ∷ [] → Allows Rule slots id me 0 (λ n. n) (looks value_of (step slots 0 0 0 none) me)
+  pub looking : (slots id : ℕ) (me : Me Unit V) → me.0 ≡ only_in_view me.0 ∷ [] → Allows Rule slots id me 0 (λ n. n) (looks value_of (step slots 0 0 0 none) me)
   looking slots id me is s r n at small = (
     me.0,
     keeps,
@@ -116,6 +116,6 @@ module _ (T : Type 0) (packs : ℕ → Type 0) (value_of : ℕ → T) (start : S
   )
 
   -- two tokens are split again
-  pub parts : (id : ℕ) (v : V) (x y : Known T) → v ≡ x ∷ y ∷ [] → Splits Rule id v (first_of v) (others_of v)
+  pub parts : (id : ℕ) (v : V) (x y : Known T) → v ≡ x ∷ y ∷ [] → Splits Rule id v (first_in_view v) (others_in_view v)
   parts id v x y is s r at =
-      reseated s r _ (parted (λ (v : V). v) (λ (x : Known T). x.knows) (IsFine start r.history) s.views id v (first_of v) (others_of v) x y is (ap (λ (l : V). first_of l) is) (ap (λ (l : V). others_of l) is) at r.seats)
+      reseated s r _ (parted (λ (v : V). v) (λ (x : Known T). x.knows) (IsFine start r.history) s.views id v (first_in_view v) (others_in_view v) x y is (ap (λ (l : V). first_in_view l) is) (ap (λ (l : V). others_in_view l) is) at r.seats)

@@ -21,7 +21,7 @@ use Rattle.flow_law.specs.declared.states.StateFlowState.{StateFlowState}
 use Rattle.flow_law.specs.declared.states.StateSubscriber.{StateSubscriber}
 use Rattle.flow_law.specs.Growth.{Fits, sees, child}
 use Rattle.flow_law.specs.History.{subscriber, IsGiven}
-use Rattle.flow_law.specs.StateFlow.{StateHistory, last_of, is_exhausted, after, Receives, Replies, state_flow, state_after_all, IsStateHistory}
+use Rattle.flow_law.specs.StateFlow.{StateHistory, last_got_by, is_state_exhausted, state_flow_after, Receives, StateFlowReplies, state_flow, state_after_all, IsStateHistory}
 use Rattle.flow_law.specs.Tokens.{subscription_name}
 use Rattle.flow_law.proofs.HistoryLemmas.{after_all-snoc, IsHistory-snoc}
 use Rattle.flow_law.proofs.Owners.{given_stays, last_given}
@@ -33,9 +33,9 @@ use Rattle.flow_law.proofs.Subscriptions.{given_grows}
 use Rattle.flow_word.specs.declared.view.Known.{Known}
 use Rattle.flow_word.specs.declared.view.LastGot.{LastGot}
 use Rattle.flow_word.specs.declared.view.Start.{Start}
-use Rattle.flow_word.specs.View.{StateKnowledge, begun, last_got, only}
+use Rattle.flow_word.specs.View.{StateKnowledge, begun, got_last, only_in_view}
 use Rattle.flow_word.specs.Rule.{counts, WordHolds}
-use Rattle.flow_word.specs.Steps.{received, value_in, IsPack, HasGot, Makes, reads_by, receives, leaves, finds_room, enters}
+use Rattle.flow_word.specs.Steps.{word_received, value_in, IsPack, HasGot, StepMakes, reads_by, receives, leaves, finds_room, enters}
 use Rattle.flow_word.proofs.Keeps.{event_by, after_call, started, fits_at, makes_event, names_event, found_is, still, counted}
 
 -- what a subscription knows holds of a history that fits its token
@@ -43,7 +43,7 @@ pub has_grown : {T : Type 0} (packs : ℕ → Type 0) (value_of : ℕ → T) (fi
     → HasGot packs value_of first k number last → HasGot packs value_of first (sees h k) number last
 has_grown {T} packs value_of first k number last h is fits old = record {
   given = given_grows state_flow state_lawful first k.name (subscriber number) k.seen h is fits.0 old.given;
-  got = ap (λ (z : StateHistory T). last_of number (state_after_all first z).subscribers) fits.0.1
+  got = ap (λ (z : StateHistory T). last_got_by number (state_after_all first z).subscribers) fits.0.1
       ∙ last_in_silence first number (value_in value_of last) k.name k.seen fits.0.0 (subst (IsStateHistory first) fits.0.1 is) fits.0.2 old.given old.got;
   packed = old.packed;
 }
@@ -62,42 +62,42 @@ module _ (T : Type 0) (packs : ℕ → Type 0) (value_of : ℕ → T) (start : S
   current h = state_after_all (begun value_of start) h
 
   -- what a subscription knows holds of the history of the rule
-  has_now : (s : St) (r : Rule s) (id : ℕ) (v : V) (x : LastGot) → v ≡ only v ∷ [] → get_elem? s.views id ≡ some v → HasGot packs value_of (begun value_of (only v).start) (only v).knows x.number x.last
-      → HasGot packs value_of (begun value_of start) (sees r.history (only v).knows) x.number x.last
-  has_now s r id v x is at old = has_grown packs value_of (begun value_of start) (only v).knows x.number x.last r.history r.is_history (fits_at T packs value_of start s r id v is at)
-      (subst (λ (z : Start). HasGot packs value_of (begun value_of z) (only v).knows x.number x.last) (started T packs value_of start s r id v is at) old)
+  has_now : (s : St) (r : Rule s) (id : ℕ) (v : V) (x : LastGot) → v ≡ only_in_view v ∷ [] → get_elem? s.views id ≡ some v → HasGot packs value_of (begun value_of (only_in_view v).start) (only_in_view v).knows x.number x.last
+      → HasGot packs value_of (begun value_of start) (sees r.history (only_in_view v).knows) x.number x.last
+  has_now s r id v x is at old = has_grown packs value_of (begun value_of start) (only_in_view v).knows x.number x.last r.history r.is_history (fits_at T packs value_of start s r id v is at)
+      (subst (λ (z : Start). HasGot packs value_of (begun value_of z) (only_in_view v).knows x.number x.last) (started T packs value_of start s r id v is at) old)
 
   -- what holds of the flow with this start holds of the seat's flow
-  as_started : (s : St) (r : Rule s) (id : ℕ) (v : V) (k : StateKnowledge T) (number : ℕ) (last : Option ℕ) → v ≡ only v ∷ [] → get_elem? s.views id ≡ some v → HasGot packs value_of (begun value_of start) k number last
-      → HasGot packs value_of (begun value_of (only v).start) k number last
+  as_started : (s : St) (r : Rule s) (id : ℕ) (v : V) (k : StateKnowledge T) (number : ℕ) (last : Option ℕ) → v ≡ only_in_view v ∷ [] → get_elem? s.views id ≡ some v → HasGot packs value_of (begun value_of start) k number last
+      → HasGot packs value_of (begun value_of (only_in_view v).start) k number last
   as_started s r id v k number last is at new = subst (λ (z : Start). HasGot packs value_of (begun value_of z) k number last) (sym (started T packs value_of start s r id v is at)) new
 
   -- what the subscription knows after its call of `next`
-  got_then : (s : St) (r : Rule s) (v : V) (x : LastGot) (found : ℕ) (y : StateReply T) → IsStateHistory (begun value_of start) (r.history ++ event_by T packs value_of start (only v) (call.TakeNext x.number) y ∷ [])
-      → IsGiven state_flow (only v).knows.name (subscriber x.number) r.history → last_of x.number (after (current r.history) (call.TakeNext x.number) y).subscribers ≡ Some (Some (value_of found)) → packs found
-      → HasGot packs value_of (begun value_of start) (after_call T packs value_of start (only v) r.history (call.TakeNext x.number) y (Some (last_got x.number (Some found)))).knows x.number (Some found)
-  got_then s r v x found y is given got packed = let e = event_by T packs value_of start (only v) (call.TakeNext x.number) y in record {
-    given = given_stays state_flow state_lawful (begun value_of start) r.history (e ∷ []) (subscriber x.number) (only v).knows.name is.legal given;
-    got = ap (λ (z : StateFlowState T). last_of x.number z.subscribers) (after_all-snoc state_flow (begun value_of start) r.history e) ∙ got;
+  got_then : (s : St) (r : Rule s) (v : V) (x : LastGot) (found : ℕ) (y : StateReply T) → IsStateHistory (begun value_of start) (r.history ++ event_by T packs value_of start (only_in_view v) (call.TakeNext x.number) y ∷ [])
+      → IsGiven state_flow (only_in_view v).knows.name (subscriber x.number) r.history → last_got_by x.number (state_flow_after (current r.history) (call.TakeNext x.number) y).subscribers ≡ Some (Some (value_of found)) → packs found
+      → HasGot packs value_of (begun value_of start) (after_call T packs value_of start (only_in_view v) r.history (call.TakeNext x.number) y (Some (got_last x.number (Some found)))).knows x.number (Some found)
+  got_then s r v x found y is given got packed = let e = event_by T packs value_of start (only_in_view v) (call.TakeNext x.number) y in record {
+    given = given_stays state_flow state_lawful (begun value_of start) r.history (e ∷ []) (subscriber x.number) (only_in_view v).knows.name is.legal given;
+    got = ap (λ (z : StateFlowState T). last_got_by x.number z.subscribers) (after_all-snoc state_flow (begun value_of start) r.history e) ∙ got;
     packed = packed;
   }
 
   -- what the step of a `next` has to prove
   abbrev NextOwes : St → ℕ → Me Unit V → LastGot → ℕ → Next T → Type 0
-  NextOwes s id me x found y = (w : V) × (a : Act Unit) × Valid s.homes me.1 a × Rule (stepped s 0 found id me.1 w a) × packs found × Makes value_of me (call.TakeNext x.number) (reply.Received y) (w, carried_after me.1 a)
-      × ((only w).subscriber ≡ Some (last_got x.number (Some found))) × HasGot packs value_of (begun value_of (only me.0).start) (only w).knows x.number (Some found)
+  NextOwes s id me x found y = (w : V) × (a : Act Unit) × Valid s.homes me.1 a × Rule (stepped s 0 found id me.1 w a) × packs found × StepMakes value_of me (call.TakeNext x.number) (reply.Received y) (w, carried_after me.1 a)
+      × ((only_in_view w).subscriber ≡ Some (got_last x.number (Some found))) × HasGot packs value_of (begun value_of (only_in_view me.0).start) (only_in_view w).knows x.number (Some found)
 
   -- the step proves it if the documented flow may give the reply, and the subscriber has then got the value found
-  next_is : (s : St) (r : Rule s) (id : ℕ) (me : Me Unit V) (x : LastGot) (y : Next T) → me.0 ≡ only me.0 ∷ [] → get_elem? s.views id ≡ some me.0 → IsGiven state_flow (only me.0).knows.name (subscriber x.number) r.history
-      → Replies (current r.history) (call.TakeNext x.number) (reply.Received y)
-      → last_of x.number (after (current r.history) (call.TakeNext x.number) (reply.Received y)).subscribers ≡ Some (Some (value_of (get_or s.words 0 0)))
-      → counts (after (current r.history) (call.TakeNext x.number) (reply.Received y)) ≡ counts (current r.history) → (after (current r.history) (call.TakeNext x.number) (reply.Received y)).value ≡ (current r.history).value
+  next_is : (s : St) (r : Rule s) (id : ℕ) (me : Me Unit V) (x : LastGot) (y : Next T) → me.0 ≡ only_in_view me.0 ∷ [] → get_elem? s.views id ≡ some me.0 → IsGiven state_flow (only_in_view me.0).knows.name (subscriber x.number) r.history
+      → StateFlowReplies (current r.history) (call.TakeNext x.number) (reply.Received y)
+      → last_got_by x.number (state_flow_after (current r.history) (call.TakeNext x.number) (reply.Received y)).subscribers ≡ Some (Some (value_of (get_or s.words 0 0)))
+      → counts (state_flow_after (current r.history) (call.TakeNext x.number) (reply.Received y)) ≡ counts (current r.history) → (state_flow_after (current r.history) (call.TakeNext x.number) (reply.Received y)).value ≡ (current r.history).value
       → NextOwes s id me x (get_or s.words 0 0) y
   next_is s r id me x y is at given replies got same value =
-      let found : ℕ = get_or s.words 0 0 in let c : StateCall T = call.TakeNext x.number in let v : V = me.0 in let sub : Option LastGot = Some (last_got x.number (Some found)) in
-      let packed : packs found = subst packs (sym (found_is T packs value_of start s r)) r.packed in let e = event_by T packs value_of start (only v) c (reply.Received y) in
+      let found : ℕ = get_or s.words 0 0 in let c : StateCall T = call.TakeNext x.number in let v : V = me.0 in let sub : Option LastGot = Some (got_last x.number (Some found)) in
+      let packed : packs found = subst packs (sym (found_is T packs value_of start s r)) r.packed in let e = event_by T packs value_of start (only_in_view v) c (reply.Received y) in
       let is_history : IsStateHistory (begun value_of start) (r.history ++ e ∷ []) = IsHistory-snoc state_flow (begun value_of start) r.history e r.is_history replies given in (
-        after_call T packs value_of start (only v) r.history c (reply.Received y) sub ∷ [],
+        after_call T packs value_of start (only_in_view v) r.history c (reply.Received y) sub ∷ [],
         keeps,
         tt,
         makes_event T packs value_of start s r id v c (reply.Received y) sub (set s.words 0 found) r.word is at replies given
@@ -108,77 +108,77 @@ module _ (T : Type 0) (packs : ℕ → Type 0) (value_of : ℕ → T) (start : S
         as_started s r id v _ x.number (Some found) is at (got_then s r v x found (reply.Received y) is_history given got packed),
       )
 
-  next_empty : (s : St) (r : Rule s) (id : ℕ) (me : Me Unit V) (x : LastGot) (last : ℕ) → me.0 ≡ only me.0 ∷ [] → get_elem? s.views id ≡ some me.0 → HasGot packs value_of (begun value_of start) (sees r.history (only me.0).knows) x.number x.last
+  next_empty : (s : St) (r : Rule s) (id : ℕ) (me : Me Unit V) (x : LastGot) (last : ℕ) → me.0 ≡ only_in_view me.0 ∷ [] → get_elem? s.views id ≡ some me.0 → HasGot packs value_of (begun value_of start) (sees r.history (only_in_view me.0).knows) x.number x.last
       → x.last ≡ Some last → last ≡ get_or s.words 0 0 → NextOwes s id me x (get_or s.words 0 0) Empty
   next_empty s r id me x last is at old has same = let f = current r.history in
-      let got : last_of x.number f.subscribers ≡ Some (Some (value_of last)) = old.got ∙ ap (λ (o : Option ℕ). Some (value_in value_of o)) has in
+      let got : last_got_by x.number f.subscribers ≡ Some (Some (value_of last)) = old.got ∙ ap (λ (o : Option ℕ). Some (value_in value_of o)) has in
       let value : Some (value_of last) ≡ Some f.value = ap (λ (z : ℕ). Some (value_of z)) (same ∙ found_is T packs value_of start s r) ∙ ap (λ (z : T). Some z) r.value in
       next_is s r id me x Empty is at old.given (subst (λ (o : Option (Option T)). Receives f.value o (reply.Received Empty)) (sym got) (inl (value, refl)))
       (got ∙ ap (λ (z : ℕ). Some (Some (value_of z))) same) refl refl
 
-  next_value : (s : St) (r : Rule s) (id : ℕ) (me : Me Unit V) (x : LastGot) → me.0 ≡ only me.0 ∷ [] → get_elem? s.views id ≡ some me.0 → HasGot packs value_of (begun value_of start) (sees r.history (only me.0).knows) x.number x.last
+  next_value : (s : St) (r : Rule s) (id : ℕ) (me : Me Unit V) (x : LastGot) → me.0 ≡ only_in_view me.0 ∷ [] → get_elem? s.views id ≡ some me.0 → HasGot packs value_of (begun value_of start) (sees r.history (only_in_view me.0).knows) x.number x.last
       → value_in value_of x.last ≢ Some (value_of (get_or s.words 0 0)) → NextOwes s id me x (get_or s.words 0 0) (Value (value_of (get_or s.words 0 0)))
   next_value s r id me x is at old fresh = let f = current r.history in let found : ℕ = get_or s.words 0 0 in
       let value : value_of found ≡ f.value = ap value_of (found_is T packs value_of start s r) ∙ r.value in
-      let replies : Receives f.value (last_of x.number f.subscribers) (reply.Received (Value (value_of found))) = subst (λ (o : Option (Option T)). Receives f.value o (reply.Received (Value (value_of found)))) (sym old.got)
+      let replies : Receives f.value (last_got_by x.number f.subscribers) (reply.Received (Value (value_of found))) = subst (λ (o : Option (Option T)). Receives f.value o (reply.Received (Value (value_of found)))) (sym old.got)
       (inr ((λ e. fresh (e ∙ ap (λ (z : T). Some z) (sym value))), ap (λ (z : T). reply.Received (Value z)) value)) in
       next_is s r id me x (Value (value_of found)) is at old.given replies
       (last-with x.number (value_of found) (value_in value_of x.last) f.subscribers old.got)
       (ap (λ (z : ℕ). f.issued * 4294967296 + z) (length-with x.number (value_of found) f.subscribers)) refl
 
-  next_owed : ((v w : ℕ) → packs v → packs w → value_of v ≡ value_of w → v ≡ w) → (s : St) (r : Rule s) (id : ℕ) (me : Me Unit V) (x : LastGot) → me.0 ≡ only me.0 ∷ [] → get_elem? s.views id ≡ some me.0
-      → HasGot packs value_of (begun value_of start) (sees r.history (only me.0).knows) x.number x.last → (o : Option ℕ) → x.last ≡ o → NextOwes s id me x (get_or s.words 0 0) (received value_of x.last (get_or s.words 0 0))
+  next_owed : ((v w : ℕ) → packs v → packs w → value_of v ≡ value_of w → v ≡ w) → (s : St) (r : Rule s) (id : ℕ) (me : Me Unit V) (x : LastGot) → me.0 ≡ only_in_view me.0 ∷ [] → get_elem? s.views id ≡ some me.0
+      → HasGot packs value_of (begun value_of start) (sees r.history (only_in_view me.0).knows) x.number x.last → (o : Option ℕ) → x.last ≡ o → NextOwes s id me x (get_or s.words 0 0) (word_received value_of x.last (get_or s.words 0 0))
   next_owed once s r id me x is at old None e = let found : ℕ = get_or s.words 0 0 in
-      subst (λ (o : Option ℕ). NextOwes s id me x found (received value_of o found)) (sym e)
+      subst (λ (o : Option ℕ). NextOwes s id me x found (word_received value_of o found)) (sym e)
       (next_value s r id me x is at old (λ q. let p : None ≡ Some (value_of found) = sym (ap (value_in value_of) e) ∙ q in absurd (cc)))
   next_owed once s r id me x is at old (Some last) e = let found : ℕ = get_or s.words 0 0 in let G : Next T → Type 0 = NextOwes s id me x found in
-      subst (λ (o : Option ℕ). G (received value_of o found)) (sym e) (dite (ℕ_discrete last found)
+      subst (λ (o : Option ℕ). G (word_received value_of o found)) (sym e) (dite (ℕ_discrete last found)
       (λ hit. subst G (sym (cond-true (last == found) Empty (Value (value_of found)) (eq-eqb last found hit))) (next_empty s r id me x last is at old e hit))
       (λ miss. subst G (sym (cond-false (last == found) Empty (Value (value_of found)) (ne_eqb last found miss))) (next_value s r id me x is at old
       (λ q. let p : Some (value_of last) ≡ Some (value_of found) = sym (ap (value_in value_of) e) ∙ q in let p' : value_of last ≡ value_of found = cc in
       miss (once last found (subst (IsPack packs) e old.packed) (subst packs (sym (found_is T packs value_of start s r)) r.packed) p')))))
 
   -- a load of word 0 by a subscription
-  pub receiving : ((v w : ℕ) → packs v → packs w → value_of v ≡ value_of w → v ≡ w) → (slots id : ℕ) (me : Me Unit V) (x : LastGot) → me.0 ≡ only me.0 ∷ [] → (only me.0).subscriber ≡ Some x
-      → HasGot packs value_of (begun value_of (only me.0).start) (only me.0).knows x.number x.last → Allows Rule slots id me 0 (λ n. n) (receives packs value_of (step slots 0 0 0 none) me)
+  pub receiving : ((v w : ℕ) → packs v → packs w → value_of v ≡ value_of w → v ≡ w) → (slots id : ℕ) (me : Me Unit V) (x : LastGot) → me.0 ≡ only_in_view me.0 ∷ [] → (only_in_view me.0).subscriber ≡ Some x
+      → HasGot packs value_of (begun value_of (only_in_view me.0).start) (only_in_view me.0).knows x.number x.last → Allows Rule slots id me 0 (λ n. n) (receives packs value_of (step slots 0 0 0 none) me)
   receiving once slots id me x is has old s r n at small =
-      let found : ℕ = get_or s.words 0 0 in let g : NextOwes s id me x found (received value_of x.last found) = next_owed once s r id me x is at (has_now s r id me.0 x is at old) x.last refl in (
+      let found : ℕ = get_or s.words 0 0 in let g : NextOwes s id me x found (word_received value_of x.last found) = next_owed once s r id me x is at (has_now s r id me.0 x is at old) x.last refl in (
         g.0,
         g.1,
         g.2,
         g.3,
         λ x' has'. let same : Some x ≡ Some x' = sym has ∙ has' in let e : x ≡ x' = cc in
-            subst (λ (z : LastGot). packs found × Makes value_of me (call.TakeNext z.number) (reply.Received (received value_of z.last found)) (g.0, carried_after me.1 g.1)
-            × ((only g.0).subscriber ≡ Some (last_got z.number (Some found))) × HasGot packs value_of (begun value_of (only me.0).start) (only g.0).knows z.number (Some found)) e (g.4, g.5, g.6, g.7),
+            subst (λ (z : LastGot). packs found × StepMakes value_of me (call.TakeNext z.number) (reply.Received (word_received value_of z.last found)) (g.0, carried_after me.1 g.1)
+            × ((only_in_view g.0).subscriber ≡ Some (got_last z.number (Some found))) × HasGot packs value_of (begun value_of (only_in_view me.0).start) (only_in_view g.0).knows z.number (Some found)) e (g.4, g.5, g.6, g.7),
       )
 
   -- what the subscription knows after its call of `value`
-  got_still : (s : St) (r : Rule s) (v : V) (x : LastGot) (y : StateReply T) → IsStateHistory (begun value_of start) (r.history ++ event_by T packs value_of start (only v) call.GetValue y ∷ [])
-      → HasGot packs value_of (begun value_of start) (sees r.history (only v).knows) x.number x.last
-      → HasGot packs value_of (begun value_of start) (after_call T packs value_of start (only v) r.history call.GetValue y (only v).subscriber).knows x.number x.last
-  got_still s r v x y is old = let e = event_by T packs value_of start (only v) call.GetValue y in record {
-    given = given_stays state_flow state_lawful (begun value_of start) r.history (e ∷ []) (subscriber x.number) (only v).knows.name is.legal old.given;
-    got = ap (λ (z : StateFlowState T). last_of x.number z.subscribers) (after_all-snoc state_flow (begun value_of start) r.history e) ∙ old.got;
+  got_still : (s : St) (r : Rule s) (v : V) (x : LastGot) (y : StateReply T) → IsStateHistory (begun value_of start) (r.history ++ event_by T packs value_of start (only_in_view v) call.GetValue y ∷ [])
+      → HasGot packs value_of (begun value_of start) (sees r.history (only_in_view v).knows) x.number x.last
+      → HasGot packs value_of (begun value_of start) (after_call T packs value_of start (only_in_view v) r.history call.GetValue y (only_in_view v).subscriber).knows x.number x.last
+  got_still s r v x y is old = let e = event_by T packs value_of start (only_in_view v) call.GetValue y in record {
+    given = given_stays state_flow state_lawful (begun value_of start) r.history (e ∷ []) (subscriber x.number) (only_in_view v).knows.name is.legal old.given;
+    got = ap (λ (z : StateFlowState T). last_got_by x.number z.subscribers) (after_all-snoc state_flow (begun value_of start) r.history e) ∙ old.got;
     packed = old.packed;
   }
 
   -- a load of word 0 by a subscription, for `value`
-  pub reading_by : (slots id : ℕ) (me : Me Unit V) (x : LastGot) → me.0 ≡ only me.0 ∷ [] → (only me.0).subscriber ≡ Some x
-      → HasGot packs value_of (begun value_of (only me.0).start) (only me.0).knows x.number x.last → Allows Rule slots id me 0 (λ n. n) (reads_by packs value_of (step slots 0 0 0 none) me)
+  pub reading_by : (slots id : ℕ) (me : Me Unit V) (x : LastGot) → me.0 ≡ only_in_view me.0 ∷ [] → (only_in_view me.0).subscriber ≡ Some x
+      → HasGot packs value_of (begun value_of (only_in_view me.0).start) (only_in_view me.0).knows x.number x.last → Allows Rule slots id me 0 (λ n. n) (reads_by packs value_of (step slots 0 0 0 none) me)
   reading_by slots id me x is has old s r n at small =
       let found : ℕ = get_or s.words 0 0 in let c : StateCall T = call.GetValue in let y : StateReply T = reply.Got (value_of found) in let v : V = me.0 in
-      let same = found_is T packs value_of start s r in let e = event_by T packs value_of start (only v) c y in
-      let replies : Replies (current r.history) c y = ap (λ (z : T). reply.Got z) (ap value_of same ∙ r.value) in
+      let same = found_is T packs value_of start s r in let e = event_by T packs value_of start (only_in_view v) c y in
+      let replies : StateFlowReplies (current r.history) c y = ap (λ (z : T). reply.Got z) (ap value_of same ∙ r.value) in
       let is_history : IsStateHistory (begun value_of start) (r.history ++ e ∷ []) = IsHistory-snoc state_flow (begun value_of start) r.history e r.is_history replies tt in (
-        after_call T packs value_of start (only v) r.history c y (only v).subscriber ∷ [],
+        after_call T packs value_of start (only_in_view v) r.history c y (only_in_view v).subscriber ∷ [],
         keeps,
         tt,
-        makes_event T packs value_of start s r id v c y (only v).subscriber (set s.words 0 found) r.word is at replies tt (set-get_or s.words 0 0 ∙ r.words) r.packed r.value,
+        makes_event T packs value_of start s r id v c y (only_in_view v).subscriber (set s.words 0 found) r.word is at replies tt (set-get_or s.words 0 0 ∙ r.words) r.packed r.value,
         λ x' has'. let both : Some x ≡ Some x' = sym has ∙ has' in let e : x ≡ x' = cc in (
           subst packs (sym same) r.packed,
-          names_event T packs value_of start s r id v me.1 c y (only v).subscriber is at replies tt,
+          names_event T packs value_of start s r id v me.1 c y (only_in_view v).subscriber is at replies tt,
           has',
-          subst (λ (z : LastGot). HasGot packs value_of (begun value_of (only v).start) (after_call T packs value_of start (only v) r.history c y (only v).subscriber).knows z.number z.last) e
+          subst (λ (z : LastGot). HasGot packs value_of (begun value_of (only_in_view v).start) (after_call T packs value_of start (only_in_view v) r.history c y (only_in_view v).subscriber).knows z.number z.last) e
               (as_started s r id v _ x.number x.last is at (got_still s r v x y is_history (has_now s r id v x is at old))),
         ),
       )
@@ -188,20 +188,20 @@ module _ (T : Type 0) (packs : ℕ → Type 0) (value_of : ℕ → T) (start : S
   one_less f g h fits same less = let a = h.live in let b = h.issued in omega arith
 
   -- a subtraction of 1 from word 1
-  pub leaving : (slots id : ℕ) (me : Me Unit V) (x : LastGot) → me.0 ≡ only me.0 ∷ [] → (only me.0).subscriber ≡ Some x → HasGot packs value_of (begun value_of (only me.0).start) (only me.0).knows x.number x.last
+  pub leaving : (slots id : ℕ) (me : Me Unit V) (x : LastGot) → me.0 ≡ only_in_view me.0 ∷ [] → (only_in_view me.0).subscriber ≡ Some x → HasGot packs value_of (begun value_of (only_in_view me.0).start) (only_in_view me.0).knows x.number x.last
       → Allows Rule slots id me 1 (λ n. (n + (2 ^ 64 - 1)) % 2 ^ 64) (leaves value_of (step slots 1 1 0 none) me)
   leaving slots id me x is has old s r n at small =
       let f = current r.history in let c : StateCall T = call.Unsubscribe x.number in let y : StateReply T = reply.Answered true in let now_has = has_now s r id me.0 x is at old in
-      let there : is_some (last_of x.number f.subscribers) ≡ true = ap (λ (o : Option (Option T)). is_some o) now_has.got in
-      let replies : Replies f c y = ap (λ (b : Bool). reply.Answered b) (sym there) in
-      let word1 : (counts f + (2 ^ 64 - 1)) % 2 ^ 64 ≡ counts (after f c y) = one_less f (after f c y) (counted T packs value_of start s r) r.limit_fits refl (one_fewer x.number f.subscribers (counted T packs value_of start s r).once there) in (
-        after_call T packs value_of start (only me.0) r.history c y (Some x) ∷ [],
+      let there : is_some (last_got_by x.number f.subscribers) ≡ true = ap (λ (o : Option (Option T)). is_some o) now_has.got in
+      let replies : StateFlowReplies f c y = ap (λ (b : Bool). reply.Answered b) (sym there) in
+      let word1 : (counts f + (2 ^ 64 - 1)) % 2 ^ 64 ≡ counts (state_flow_after f c y) = one_less f (state_flow_after f c y) (counted T packs value_of start s r) r.limit_fits refl (one_fewer x.number f.subscribers (counted T packs value_of start s r).once there) in (
+        after_call T packs value_of start (only_in_view me.0) r.history c y (Some x) ∷ [],
         keeps,
         tt,
         makes_event T packs value_of start s r id me.0 c y (Some x) (set s.words 1 ((get_or s.words 1 0 + (2 ^ 64 - 1)) % 2 ^ 64)) r.word is at replies now_has.given
             (ap (λ (z : List ℕ). set z 1 ((get_or z 1 0 + (2 ^ 64 - 1)) % 2 ^ 64)) r.words ∙ ap (λ (m : ℕ). r.word ∷ m ∷ []) word1) r.packed r.value,
         λ x' has'. let same : Some x ≡ Some x' = sym has ∙ has' in let e : x ≡ x' = cc in
-            subst (λ (z : LastGot). Makes value_of me (call.Unsubscribe z.number) y (after_call T packs value_of start (only me.0) r.history c y (Some x) ∷ [], me.1)) e
+            subst (λ (z : LastGot). StepMakes value_of me (call.Unsubscribe z.number) y (after_call T packs value_of start (only_in_view me.0) r.history c y (Some x) ∷ [], me.1)) e
             (names_event T packs value_of start s r id me.0 me.1 c y (Some x) is at replies now_has.given),
       )
 
@@ -209,17 +209,17 @@ module _ (T : Type 0) (packs : ℕ → Type 0) (value_of : ℕ → T) (start : S
   issued_is f h fits = let a = h.live in let b = h.issued in omega arith
 
   -- a load of word 1 before a subscription
-  pub finding : (slots id : ℕ) (me : Me Unit V) → me.0 ≡ only me.0 ∷ [] → Allows Rule slots id me 1 (λ n. n) (finds_room value_of (step slots 1 0 0 none) me)
+  pub finding : (slots id : ℕ) (me : Me Unit V) → me.0 ≡ only_in_view me.0 ∷ [] → Allows Rule slots id me 1 (λ n. n) (finds_room value_of (step slots 1 0 0 none) me)
   finding slots id me is s r n at small =
-      let found : ℕ = get_or s.words 1 0 in let f = current r.history in let got = (only me.0).subscriber in let h = counted T packs value_of start s r in
+      let found : ℕ = get_or s.words 1 0 in let f = current r.history in let got = (only_in_view me.0).subscriber in let h = counted T packs value_of start s r in
       let same : found ≡ counts f = ap (λ (z : List ℕ). get_or z 1 0) r.words in
       let issued : found / 4294967296 ≡ f.issued = ap (λ (z : ℕ). z / 4294967296) same ∙ issued_is f h r.limit_fits in
-      let limit : (only me.0).start.limit ≡ start.limit = ap (λ (z : Start). z.limit) (started T packs value_of start s r id me.0 is at) in
+      let limit : (only_in_view me.0).start.limit ≡ start.limit = ap (λ (z : Start). z.limit) (started T packs value_of start s r id me.0 is at) in
       let live = h.live in let most = h.issued in let flow = h.limit_is in let fits = r.limit_fits in
-      dite (dec_le (only me.0).start.limit (found / 4294967296))
-      (λ full. let c : StateCall T = call.Subscribe (subscription_name (only me.0).knows) in let y : StateReply T = reply.Refused Exhausted in
-      let replies : Replies f c y = sym (cond-true (is_exhausted f) (reply.Refused Exhausted) (reply.Subscribed (f.issued + 1)) (eq-eqb f.issued f.limit (omega arith))) in (
-        after_call T packs value_of start (only me.0) r.history c y got ∷ [],
+      dite (dec_le (only_in_view me.0).start.limit (found / 4294967296))
+      (λ full. let c : StateCall T = call.Subscribe (subscription_name (only_in_view me.0).knows) in let y : StateReply T = reply.Refused Exhausted in
+      let replies : StateFlowReplies f c y = sym (cond-true (is_state_exhausted f) (reply.Refused Exhausted) (reply.Subscribed (f.issued + 1)) (eq-eqb f.issued f.limit (omega arith))) in (
+        after_call T packs value_of start (only_in_view me.0) r.history c y got ∷ [],
         keeps,
         tt,
         makes_event T packs value_of start s r id me.0 c y got (set s.words 1 found) r.word is at replies tt (set-get_or s.words 1 0 ∙ r.words) r.packed r.value,
@@ -232,24 +232,24 @@ module _ (T : Type 0) (packs : ℕ → Type 0) (value_of : ℕ → T) (start : S
       let e : counts g ≡ (f.issued + 1) * 4294967296 + (length f.subscribers + 1) = λ i. a i * 4294967296 + b i in omega arith
 
   -- an exchange on word 1
-  pub entering : (slots id : ℕ) (me : Me Unit V) (old new : ℕ) → me.0 ≡ only me.0 ∷ [] → new ≡ old + 4294967297 → old / 4294967296 < (only me.0).start.limit
+  pub entering : (slots id : ℕ) (me : Me Unit V) (old new : ℕ) → me.0 ≡ only_in_view me.0 ∷ [] → new ≡ old + 4294967297 → old / 4294967296 < (only_in_view me.0).start.limit
       → Allows Rule slots id me 1 (λ n. either (eqb n old) new n) (enters packs value_of (step slots 1 old new none) me)
   entering slots id me old new is more room s r n at small =
-      let found : ℕ = get_or s.words 1 0 in let f = current r.history in let h = counted T packs value_of start s r in let k = (only me.0).knows in let name : List ℕ = subscription_name k in
+      let found : ℕ = get_or s.words 1 0 in let f = current r.history in let h = counted T packs value_of start s r in let k = (only_in_view me.0).knows in let name : List ℕ = subscription_name k in
       let same : found ≡ counts f = ap (λ (z : List ℕ). get_or z 1 0) r.words in let c : StateCall T = call.Subscribe name in
-      let limit : (only me.0).start.limit ≡ start.limit = ap (λ (z : Start). z.limit) (started T packs value_of start s r id me.0 is at) in
+      let limit : (only_in_view me.0).start.limit ≡ start.limit = ap (λ (z : Start). z.limit) (started T packs value_of start s r id me.0 is at) in
       let G : ℕ → Type 0 = λ m. (w : V) × (a : Act Unit) × Valid s.homes me.1 a × Rule (stepped s 1 m id me.1 w a) × enters packs value_of (step slots 1 old new none) me found (w, carried_after me.1 a) in
       let flat : G (either (eqb found old) new found) = dite (ℕ_discrete found old)
       (λ hit. let issued : old / 4294967296 ≡ f.issued = ap (λ (z : ℕ). z / 4294967296) (sym hit ∙ same) ∙ issued_is f h r.limit_fits in
-      let m : ℕ = old / 4294967296 + 1 in let y : StateReply T = reply.Subscribed m in let sub : Option LastGot = Some (last_got m None) in let flow = h.limit_is in
-      let free : is_exhausted f ≡ false = ne_eqb f.issued f.limit (λ q. absurd (omega arith)) in
-      let replies : Replies f c y = ap (λ (z : ℕ). reply.Subscribed (z + 1)) issued ∙ sym (cond-false (is_exhausted f) (reply.Refused Exhausted) (reply.Subscribed (f.issued + 1)) free) in
-      let u : StateSubscriber T = record { number = m; last = None } in let e = event_by T packs value_of start (only me.0) c y in
-      let word1 : new ≡ counts (after f c y) = entered f (after f c y) old new h r.limit_fits (sym hit ∙ same) more (ap (λ (z : ℕ). z + 1) issued) (length-append f.subscribers (u ∷ [])) in
-      let w : V = after_call T packs value_of start (only me.0) r.history c y sub ∷ [] in
-      let has : HasGot packs value_of (begun value_of start) (child (only w).knows) m None = record {
+      let m : ℕ = old / 4294967296 + 1 in let y : StateReply T = reply.Subscribed m in let sub : Option LastGot = Some (got_last m None) in let flow = h.limit_is in
+      let free : is_state_exhausted f ≡ false = ne_eqb f.issued f.limit (λ q. absurd (omega arith)) in
+      let replies : StateFlowReplies f c y = ap (λ (z : ℕ). reply.Subscribed (z + 1)) issued ∙ sym (cond-false (is_state_exhausted f) (reply.Refused Exhausted) (reply.Subscribed (f.issued + 1)) free) in
+      let u : StateSubscriber T = record { number = m; last = None } in let e = event_by T packs value_of start (only_in_view me.0) c y in
+      let word1 : new ≡ counts (state_flow_after f c y) = entered f (state_flow_after f c y) old new h r.limit_fits (sym hit ∙ same) more (ap (λ (z : ℕ). z + 1) issued) (length-append f.subscribers (u ∷ [])) in
+      let w : V = after_call T packs value_of start (only_in_view me.0) r.history c y sub ∷ [] in
+      let has : HasGot packs value_of (begun value_of start) (child (only_in_view w).knows) m None = record {
         given = last_given state_flow r.history e (record { number = subscriber m; name = name }) refl;
-        got = ap (λ (z : StateFlowState T). last_of m z.subscribers) (after_all-snoc state_flow (begun value_of start) r.history e)
+        got = ap (λ (z : StateFlowState T). last_got_by m z.subscribers) (after_all-snoc state_flow (begun value_of start) r.history e)
             ∙ last-snoc m f.subscribers u (none_above f.issued m f.subscribers h.numbers (omega arith)) refl;
         packed = tt;
       } in

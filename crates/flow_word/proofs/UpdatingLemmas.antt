@@ -16,7 +16,7 @@ use Rattle.flow_law.specs.Updates.{Updates}
 use Rattle.flow_law.proofs.CountedLemmas.{updated_by_all}
 use Rattle.flow_law.proofs.UpdateCountLemmas.{times_none, times_one, times_more}
 use Rattle.flow_word.specs.Handles.{CallerOfWord, MakesMany, AreNextSeats}
-use Rattle.flow_word.specs.Tokens.{Origin, Token}
+use Rattle.flow_word.specs.Tokens.{WordOrigin, WordToken}
 use Rattle.flow_word.specs.Updating.{HasUpdated, plus_one}
 
 -- ---- one caller
@@ -45,7 +45,7 @@ at_each P holds xs ys changes i d l =
 -- n callers were made through the first one of a new flow, and then each of them has made `each` updates in a call of `for_each_mut`.
 -- The final value is g applied n * each times to the first value.
 pub value_of_updates : {T F : Type 0} {m : Shared F (ℕ × (MutBor (CallerOfWord T) × Unit {0})) ((Unit {0}) × (MutBor (CallerOfWord T) × Unit {0}))} {f : F} {g : T → T} {limit n each : ℕ} {v value : T}
-    {flow now : Origin T} {seat token : Token T} {maker : CallerOfWord T} {made xs : List (CallerOfWord T)} (ys : List (CallerOfWord T))
+    {flow now : WordOrigin T} {seat token : WordToken T} {maker : CallerOfWord T} {made xs : List (CallerOfWord T)} (ys : List (CallerOfWord T))
     → Begins (first_state_flow limit v) (flow, seat) → maker ≡ called_by flow seat → now ≡ maker.flow → MakesMany n maker.token token → AreNextSeats maker.flow maker.token n made
     → xs ≡ made → length xs ≡ n → length ys ≡ length xs → ((i : ℕ) (x y : MutBor (CallerOfWord T)) → m.post f (i, (x, tt)) (tt, (y, tt)) → HasUpdated g each x.now y.now) → ChangesEach m f xs ys
     → IsFinalValue now.first (token.knows ∷ map (λ (w : CallerOfWord T). w.token.knows) ys) value → value ≡ iterate g (n * each) v

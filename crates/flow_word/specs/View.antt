@@ -20,8 +20,8 @@ abbrev pub no_start : Start
 no_start = record { word = 0; limit = 0 }
 
 -- a subscriber's number, and the pack of the value that it got last
-abbrev pub last_got : ℕ → Option ℕ → LastGot
-last_got number last = record { number = number; last = last }
+abbrev pub got_last : ℕ → Option ℕ → LastGot
+got_last number last = record { number = number; last = last }
 
 module _ {T : Type 0} where
   -- the state that a flow began with
@@ -37,20 +37,20 @@ module _ {T : Type 0} where
   with_knows f x = known (f x.knows) x.start x.subscriber
 
   -- the view of the first seat
-  abbrev pub first_view : Start → List (Known T)
-  first_view start = known first_knowledge start None ∷ []
+  abbrev pub first_word_view : Start → List (Known T)
+  first_word_view start = known first_knowledge start None ∷ []
 
   -- the token of a view that has one
-  abbrev pub only : List (Known T) → Known T
-  only [] = known first_knowledge no_start None
-  only (x ∷ xs) = x
+  abbrev pub only_in_view : List (Known T) → Known T
+  only_in_view [] = known first_knowledge no_start None
+  only_in_view (x ∷ xs) = x
 
   -- the first token of a view (a joined view has two tokens)
-  abbrev pub first_of : List (Known T) → List (Known T)
-  first_of [] = []
-  first_of (x ∷ xs) = x ∷ []
+  abbrev pub first_in_view : List (Known T) → List (Known T)
+  first_in_view [] = []
+  first_in_view (x ∷ xs) = x ∷ []
 
   -- the tokens of a joined view without the first
-  abbrev pub others_of : List (Known T) → List (Known T)
-  others_of [] = []
-  others_of (x ∷ xs) = xs
+  abbrev pub others_in_view : List (Known T) → List (Known T)
+  others_in_view [] = []
+  others_in_view (x ∷ xs) = xs

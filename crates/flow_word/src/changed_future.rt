@@ -3,7 +3,7 @@ ghost use Rattle.std.specs.Prelude.{◌≡◌, ⊤, Some, None};
 ghost use Rattle.futures.specs.Task.{Covers, Keeps};
 ghost use Rattle.futures.specs.Poll.{IfReady, OnPending};
 ghost use Rattle.flow_law.specs.StateFlow.{state_flow};
-ghost use Rattle.flow_word.specs.Receiving.{GivesChanged, PollsChange};
+ghost use Rattle.flow_word.specs.Receiving.{WordGivesChanged, WordPollsChange};
 
 use crate::handles::WordReader;
 use flow_law::Packed;
@@ -62,15 +62,15 @@ impl<'a, T: Packed> ChangedFuture<'a, T> {
 impl<'a, T: Packed> Future for ChangedFuture<'a, T> {
     type Output = (WordReader<'a, T>, T);
 
-    ghost gives = { λ f given. GivesChanged state_flow f given };
+    ghost gives = { λ f given. WordGivesChanged state_flow f given };
 
     fn poll(&mut self, cx: &mut Context<'_>) -> Poll<(WordReader<'a, T>, T)>
-        ensures polls { PollsChange state_flow self.old result self.new }
+        ensures polls { WordPollsChange state_flow self.old result self.new }
         // The clauses of the trait. A pending poll has left its waker, or asked to be polled again (`registered`).
-        ensures value { IfReady result (GivesChanged state_flow self.old) }
+        ensures value { IfReady result (WordGivesChanged state_flow self.old) }
         ensures again { OnPending result ⊤ }
         ensures same { OnPending result ((x : _)
-            → GivesChanged state_flow self.new x → GivesChanged state_flow self.old x) }
+            → WordGivesChanged state_flow self.new x → WordGivesChanged state_flow self.old x) }
         ensures registered { OnPending result (Covers cx.new (λ _. ⊥)) }
         ensures kept { Keeps cx.old cx.new }
     {

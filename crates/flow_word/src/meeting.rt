@@ -2,8 +2,8 @@
 ghost use Rattle.std.specs.Prelude.{◌≡◌};
 ghost use Rattle.flow_law.specs.StateFlow.{state_flow};
 ghost use Rattle.flow_law.specs.Tokens.{MeetsIn};
-ghost use Rattle.flow_word.specs.View.{begun, only};
-ghost use Rattle.flow_word.specs.Tokens.{token_of, IsIdle};
+ghost use Rattle.flow_word.specs.View.{begun, only_in_view};
+ghost use Rattle.flow_word.specs.Tokens.{token_of, HasOneToken};
 
 use crate::plays::{Blank, Meet, Observe, Part};
 use crate::token::{WordSeat, WordState, WordSubscription};
@@ -20,12 +20,12 @@ impl<T: Packed> WordState<T> {
     )
         requires flow { ((token_of one.old).table_id ≡ self.now.table_id)
             × ((token_of other.old).table_id ≡ self.now.table_id) }
-        requires idle { IsIdle one.old × IsIdle other.old }
+        requires idle { HasOneToken one.old × HasOneToken other.old }
         ensures met { MeetsIn state_flow self.now.first (token_of one.old) (token_of other.old)
             (token_of one.new) (token_of other.new) }
-        ensures idle { IsIdle one.new × IsIdle other.new }
-        ensures began { begun T.value_of (only one.old.me.0).start ≡ self.now.first }
-        ensures subscriber { (only one.new.me.0).subscriber ≡ (only one.old.me.0).subscriber }
+        ensures idle { HasOneToken one.new × HasOneToken other.new }
+        ensures began { begun T.value_of (only_in_view one.old.me.0).start ≡ self.now.first }
+        ensures subscriber { (only_in_view one.new.me.0).subscriber ≡ (only_in_view one.old.me.0).subscriber }
     {
         let shared = &self.table.shared;
         let blank = shared.split_seat::<Blank>(one);

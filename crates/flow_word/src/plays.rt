@@ -1,7 +1,7 @@
 //! What each step on a word proves. Nothing here runs.
 ghost use Rattle.std.specs.Prelude.{[], ◌++◌, map};
 ghost use Rattle.flow_law.specs.Growth.{makes, child};
-ghost use Rattle.flow_word.specs.View.{with_knows, first_of, others_of};
+ghost use Rattle.flow_word.specs.View.{with_knows, first_in_view, others_in_view};
 ghost use Rattle.flow_word.specs.Steps.{reads, reads_by, sets, exchanges, counts_live, receives, leaves, finds_room, enters, observes, looks};
 
 use crate::view::Known;
@@ -116,7 +116,7 @@ impl<T: Packed> Play<(), Sequence<Known<T>>> for Look {
 pub(crate) struct Part;
 
 impl<T> Split<Sequence<Known<T>>> for Part {
-    ghost left = { first_of };
+    ghost left = { first_in_view };
 
-    ghost right = { others_of };
+    ghost right = { others_in_view };
 }

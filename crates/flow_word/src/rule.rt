@@ -7,10 +7,10 @@ use flow_law::{Packed, Sequence};
 pub struct WordRule;
 
 impl<T: Packed> TableRule<(), Sequence<Known<T>>, Start> for WordRule {
-    ghost use Rattle.flow_word.specs.View.{first_view};
+    ghost use Rattle.flow_word.specs.View.{first_word_view};
     ghost use Rattle.flow_word.specs.Rule.{WordHolds};
 
     ghost holds = { WordHolds T.packs T.value_of };
 
-    ghost first = { first_view };
+    ghost first = { first_word_view };
 }

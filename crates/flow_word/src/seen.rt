@@ -4,7 +4,7 @@ ghost use Rattle.flow_law.specs.Conflation.{Conflates};
 ghost use Rattle.flow_law.specs.Current.{Converges};
 ghost use Rattle.flow_law.specs.StateFlow.{IsStateHistory};
 ghost use Rattle.flow_word.specs.Handles.{IsThereAfter};
-ghost use Rattle.flow_word.specs.Tokens.{token_of, IsIdle};
+ghost use Rattle.flow_word.specs.Tokens.{token_of, HasOneToken};
 ghost use Rattle.flow_word.specs.View.{begun};
 
 use crate::plays::Look;
@@ -16,7 +16,7 @@ use flow_law::{Packed, Sequence};
 impl<T: Packed> WordState<T> {
     fn look(&self, seat: &mut Seat<(), Sequence<Known<T>>>)
         requires flow { (token_of seat.old).table_id ≡ self.now.table_id }
-        requires idle { IsIdle seat.old }
+        requires idle { HasOneToken seat.old }
         ensures same { (seat.new.me ≡ seat.old.me) × (seat.new.table_id ≡ seat.old.table_id) }
         ensures began { begun T.value_of (token_of seat.old).table_id.start ≡ self.now.first }
         ensures history { IsStateHistory self.now.first (token_of seat.new).knows.seen }

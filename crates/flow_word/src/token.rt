@@ -1,8 +1,8 @@
 //! A word state, and the tokens of its callers.
 ghost use Rattle.std.specs.Prelude.{◌≡◌};
-ghost use Rattle.flow_law.specs.Tokens.{origin, numbered};
+ghost use Rattle.flow_law.specs.Tokens.{origin, numbered_token};
 ghost use Rattle.flow_word.specs.View.{begun};
-ghost use Rattle.flow_word.specs.Tokens.{Token, Origin, NumberedToken, word_id, token_of, IsIdle, IsSubscribed};
+ghost use Rattle.flow_word.specs.Tokens.{WordToken, WordOrigin, WordNumbered, word_id, token_of, HasOneToken, IsWordSubscription};
 
 use crate::rule::WordRule;
 use crate::sleepers::WordSleepers;
@@ -27,7 +27,7 @@ pub struct WordState<T: Packed> {
 }
 
 impl<T: Packed> Model for WordState<T> {
-    ghost Value = { Origin T };
+    ghost Value = { WordOrigin T };
 
     ghost view = { λ w. origin (word_id w.table.shared.table_id w.table.shared.key)
         (begun T.value_of w.table.shared.key) };
@@ -51,11 +51,11 @@ impl<T> Drop for WordSeat<T> {
 }
 
 impl<T> Model for WordSeat<T> {
-    ghost Value = { Token T };
+    ghost Value = { WordToken T };
 
     ghost view = { λ s. token_of s.seat };
 
-    ghost invariant = { λ s. IsIdle s.seat };
+    ghost invariant = { λ s. HasOneToken s.seat };
 }
 
 /// A subscription to a word state: a seat of its own, its number, and the pack of the last value that it got.
@@ -71,11 +71,11 @@ pub struct WordSubscription<T: Packed> {
 }
 
 impl<T: Packed> Model for WordSubscription<T> {
-    ghost Value = { NumberedToken T };
+    ghost Value = { WordNumbered T };
 
-    ghost view = { λ s. numbered (token_of s.seat) s.number };
+    ghost view = { λ s. numbered_token (token_of s.seat) s.number };
 
-    ghost invariant = { λ s. IsSubscribed T.packs T.value_of s.seat s.number s.last };
+    ghost invariant = { λ s. IsWordSubscription T.packs T.value_of s.seat s.number s.last };
 }
 
 impl<T: Packed> WordSubscription<T> {

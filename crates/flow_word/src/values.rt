@@ -4,7 +4,7 @@ ghost use Rattle.futures.specs.Poll.{IfReady, OnPending};
 ghost use Rattle.futures.specs.Runs.{After, Within};
 ghost use Rattle.futures.specs.Task.{Covers, IsArmed, Keeps};
 ghost use Rattle.flow_law.specs.StateFlow.{state_flow};
-ghost use Rattle.flow_word.specs.Receiving.{PollsItem, ReceivesInTime, Yields};
+ghost use Rattle.flow_word.specs.Receiving.{WordPollsItem, ReceivesInTime, WordYields};
 
 use crate::handles::WordReader;
 use flow_law::Packed;
@@ -74,23 +74,23 @@ impl<'a, T: Packed> WordValues<'a, T> {
 impl<'a, T: Packed> Stream for WordValues<'a, T> {
     type Item = T;
 
-    ghost yields = { λ v values next. Yields state_flow v.flow.first v.subscription values next };
+    ghost yields = { λ v values next. WordYields state_flow v.flow.first v.subscription values next };
 
     fn poll_next(&mut self, cx: &mut Context<'_>) -> Poll<Option<T>>
         ensures flow { self.new.flow ≡ self.old.flow }
-        ensures polls { PollsItem state_flow self.old.flow.first
+        ensures polls { WordPollsItem state_flow self.old.flow.first
             self.old.subscription result self.new.subscription }
         // The clauses of the trait. A pending poll has left its waker, or asked to be polled again (`registered`).
-        ensures value { IfReady result (Yields state_flow
+        ensures value { IfReady result (WordYields state_flow
             self.old.flow.first self.old.subscription []) }
         ensures rest { IfReady result (λ o. IfSome o (λ x.
-            After (Yields state_flow self.old.flow.first self.old.subscription) x
-            (Yields state_flow self.new.flow.first self.new.subscription))) }
+            After (WordYields state_flow self.old.flow.first self.old.subscription) x
+            (WordYields state_flow self.new.flow.first self.new.subscription))) }
         ensures goes { IfReady result (λ o. OnSome o ⊤) }
         ensures again { OnPending result ⊤ }
         ensures same { OnPending result (Within
-            (Yields state_flow self.old.flow.first self.old.subscription)
-            (Yields state_flow self.new.flow.first self.new.subscription)) }
+            (WordYields state_flow self.old.flow.first self.old.subscription)
+            (WordYields state_flow self.new.flow.first self.new.subscription)) }
         ensures registered { OnPending result (Covers cx.new (λ _. ⊥)) }
         ensures kept { Keeps cx.old cx.new }
     {

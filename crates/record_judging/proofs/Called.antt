@@ -11,14 +11,14 @@ use Rattle.flow_check.specs.declared.timed.Timed.{Timed}
 use Rattle.flow_check.specs.declared.state_calls.StateEntry.{StateEntry}
 use Rattle.flow_check.specs.declared.shared_calls.SharedEntry.{SharedEntry}
 use Rattle.flow_check.specs.declared.verdict.Verdict.TheVariants.{Legal}
-use Rattle.flow_check.specs.Records.{Calls, recorded, call_in}
+use Rattle.flow_check.specs.Records.{CallsByCaller, recorded, call_in}
 use Rattle.flow_check.specs.Orders.{turns_of}
 use Rattle.flow_law.specs.declared.config.Config.{Config}
 use Rattle.record_judging.specs.declared.written.WrittenCall.{WrittenCall}
 use Rattle.record_judging.specs.declared.written.WrittenFlow.{WrittenFlow}
 use Rattle.record_judging.specs.declared.written.WrittenFlow.TheVariants.{State, Shared}
 use Rattle.record_judging.specs.StateRows.{Rows, AreStateCalls, state_parts, state_row}
-use Rattle.record_judging.specs.SharedRows.{AreSharedCalls, plain, shared_parts, shared_row}
+use Rattle.record_judging.specs.SharedRows.{AreSharedCalls, plain, shared_entries, shared_row}
 use Rattle.record_judging.specs.NextCalls.{part_count, calls_of_parts, call_of_turn}
 use Rattle.record_judging.specs.Judged.{JudgesCalls}
 
@@ -41,23 +41,23 @@ module _ {P : Type 0} (flow : WrittenFlow) (lists : List ℕ) (parts : WrittenCa
       omega (arith, one, copies, rest, these, those)
 
 -- the callers that are judged have as many parts as the written calls have
-AreCounted : {C : Type 0} → WrittenFlow → List ℕ → Rows → Calls C → Type 0
+AreCounted : {C : Type 0} → WrittenFlow → List ℕ → Rows → CallsByCaller C → Type 0
 AreCounted flow lists rows callers = map (λ row. length row.items) callers ≡ map (λ row. length (calls_of_parts flow lists row.items)) rows
 
-state_counted : (initial : ℕ) (lists : List ℕ) (rows : Rows) (callers : Calls StateEntry) → AreStateCalls lists rows callers → AreCounted (State initial) lists rows callers
+state_counted : (initial : ℕ) (lists : List ℕ) (rows : Rows) (callers : CallsByCaller StateEntry) → AreStateCalls lists rows callers → AreCounted (State initial) lists rows callers
 unfolding AreCounted
 state_counted initial lists rows callers are =
     sym (map-map length (λ row. row.items) callers) ∙ ap (map length) are ∙ map-map length (λ row. state_row lists row.items) rows
     ∙ map_each (λ row. length (state_row lists row.items)) (λ row. length (calls_of_parts (State initial) lists row.items))
     (λ row. parts_counted (State initial) lists (state_parts lists) (λ call. refl) row.items) rows
 
-shared_counted : (config : Config) (lists : List ℕ) (rows : Rows) (callers : Calls SharedEntry) → AreSharedCalls lists rows callers → AreCounted (Shared config) lists rows callers
+shared_counted : (config : Config) (lists : List ℕ) (rows : Rows) (callers : CallsByCaller SharedEntry) → AreSharedCalls lists rows callers → AreCounted (Shared config) lists rows callers
 unfolding AreCounted
 shared_counted config lists rows callers are =
     map_each (λ row. length row.items) (λ row. length (map plain row.items)) (λ row. sym (length-map row.items plain)) callers
     ∙ sym (map-map length (λ row. map plain row.items) callers) ∙ ap (map length) are ∙ map-map length (λ row. shared_row lists row.items) rows
     ∙ map_each (λ row. length (shared_row lists row.items)) (λ row. length (calls_of_parts (Shared config) lists row.items))
-    (λ row. parts_counted (Shared config) lists (shared_parts lists) (λ call. refl) row.items) rows
+    (λ row. parts_counted (Shared config) lists (shared_entries lists) (λ call. refl) row.items) rows
 
 -- ---- turns
 
@@ -80,7 +80,7 @@ module _ {C : Type 0} (flow : WrittenFlow) (lists : List ℕ) where
       let size = same_Some (length one.items) (length (calls_of_parts flow lists other.items)) e in
       there k (calls_of_parts flow lists other.items) (omega (arith, near, size))
 
-  turn_called : (rows : Rows) (callers : Calls C) → AreCounted flow lists rows callers → (caller k : ℕ) (c : Timed C) → recorded callers caller k ≡ Some c
+  turn_called : (rows : Rows) (callers : CallsByCaller C) → AreCounted flow lists rows callers → (caller k : ℕ) (c : Timed C) → recorded callers caller k ≡ Some c
       → IsSome (call_of_turn flow lists (slice_get rows caller) k)
   unfolding AreCounted
   turn_called rows callers are caller k c at =

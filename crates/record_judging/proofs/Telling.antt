@@ -7,8 +7,8 @@ use Rattle.flow_check.specs.declared.verdict.Verdict.{Verdict}
 use Rattle.flow_check.specs.declared.verdict.Verdict.TheVariants.{Legal, Illegal, GaveUp}
 use Rattle.record_judging.specs.declared.written.Sheet.{Sheet}
 use Rattle.record_judging.specs.declared.written.WrittenCall.{WrittenCall}
-use Rattle.record_judging.specs.Verdicts.{legal, illegal, refused, gave_up, BeginsWith, Read, read_of, JudgesRead, HasCalls, IsStatus, TellsMoment, TellsConflict, TellsOf, TellsOrder, TellsVerdict, Tells, next_call, number_of, IsLineOf, IsLineOfTurn, AreLinesAfter, name_of, status_of}
-use Rattle.record_judging.specs.Cursors.{AddsLine}
+use Rattle.record_judging.specs.Verdicts.{legal, illegal, refused, gave_up, BeginsWith, Read, read_of, JudgesRead, HasCalls, IsStatus, TellsMoment, TellsConflict, TellsOf, TellsOrder, TellsVerdict, TellsRecord, next_call, call_number, IsLineOf, IsLineOfTurn, AreLinesAfter, name_of, status_of}
+use Rattle.record_judging.specs.Cursors.{AddsCallLine}
 use Rattle.record_judging.proofs.Called.{has_calls}
 
 -- ---- words and status
@@ -23,7 +23,7 @@ belongs with_order read Illegal status words is told = inr (inl (is, (told.0, to
 belongs with_order read GaveUp status words is told = inr (inr (inr (is, told)))
 
 -- the words belong to the status
-pub tells_verdict : (with_order : Bool) (status : ℕ) (words : List ℕ) → Tells with_order status words → TellsVerdict with_order status words
+pub tells_verdict : (with_order : Bool) (status : ℕ) (words : List ℕ) → TellsRecord with_order status words → TellsVerdict with_order status words
 tells_verdict with_order status words told = elim told [
   | inl x ↦ inr (inr (inl x))
   | inr x ↦ belongs with_order x.read x.verdict status words x.has_status x.tells
@@ -51,10 +51,10 @@ called read Illegal judges = tt
 called read GaveUp judges = tt
 
 -- the words on a record that was read
-pub tells_read : (with_order : Bool) (sheet : Sheet) (verdict : Verdict) (status : ℕ) (words : List ℕ) → JudgesRead (read_of sheet) verdict → TellsAll with_order (read_of sheet) verdict status words → Tells with_order status words
+pub tells_read : (with_order : Bool) (sheet : Sheet) (verdict : Verdict) (status : ℕ) (words : List ℕ) → JudgesRead (read_of sheet) verdict → TellsAll with_order (read_of sheet) verdict status words → TellsRecord with_order status words
 tells_read with_order sheet verdict status words judges told = inr (record { read = read_of sheet; verdict = verdict; judges = judges; has_calls = called (read_of sheet) verdict judges; has_status = told.0; tells = told.1 })
 
-pub tells_refused : (with_order : Bool) (status : ℕ) (words : List ℕ) → (status ≡ refused) × BeginsWith (codes "refused: ") words → Tells with_order status words
+pub tells_refused : (with_order : Bool) (status : ℕ) (words : List ℕ) → (status ≡ refused) × BeginsWith (codes "refused: ") words → TellsRecord with_order status words
 tells_refused with_order status words told = inl told
 
 pub status_read : (sheet : Sheet) (verdict : Verdict) (status : ℕ) → JudgesRead (read_of sheet) verdict → status ≡ status_of verdict → IsStatus status
@@ -89,12 +89,12 @@ line_added read before (other ∷ order) caller lines line are is =
 
 -- the line of the next turn was added
 pub line_told : (read : Read) (order : List ℕ) (i : ℕ) (next : Option WrittenCall) (lines new : List ℕ) → i < length order → AreLinesAfter read [] (take i order) lines
-    → next ≡ next_call read (take i order) (get_or order i 0) → AddsLine (number_of next) (name_of read.names (get_or order i 0)) lines new
+    → next ≡ next_call read (take i order) (get_or order i 0) → AddsCallLine (call_number next) (name_of read.names (get_or order i 0)) lines new
     → AreLinesAfter read [] (take (i + 1) order) new
 line_told read order i next lines new within are is added =
     let caller = get_or order i 0 in
     let line : IsLineOfTurn read (take i order) caller added.0 =
-    subst (λ (call : Option WrittenCall). IsLineOf (number_of call) (name_of read.names caller) added.0) is added.2 in
+    subst (λ (call : Option WrittenCall). IsLineOf (call_number call) (name_of read.names caller) added.0) is added.2 in
     let told = line_added read [] (take i order) caller lines added.0 are line in
     subst (λ (turns : List ℕ). AreLinesAfter read [] turns new) (sym (take_more order i 0 within)) (
     subst (AreLinesAfter read [] (take i order ++ caller ∷ [])) (sym added.1) told)
@@ -111,7 +111,7 @@ front_of_three a b c rest = sym (append_assoc a (b ++ c) rest ∙ ap (λ (xs : L
 
 -- a line was added that begins with a number and a name
 pub part_added : (number : ℕ) (named name old new rest : List ℕ) → named ≡ name
-    → new ≡ old ++ (codes "  " ++ (decimal number ++ (codes "  " ++ (named ++ (codes " " ++ rest))))) → AddsLine number name old new
+    → new ≡ old ++ (codes "  " ++ (decimal number ++ (codes "  " ++ (named ++ (codes " " ++ rest))))) → AddsCallLine number name old new
 part_added number named name old new rest e added =
     let line = codes "  " ++ (decimal number ++ (codes "  " ++ (named ++ (codes " " ++ rest)))) in (
       line,

@@ -22,5 +22,5 @@ pub record AreAt (read : Read) (before : List ℕ) (cursors : List Cursor) : Typ
       → IsAt read.flow read.lists calls.items (turns_of caller before) cursor
 
 -- a line of a call of this number and a caller of this name was added
-abbrev pub AddsLine : ℕ → List ℕ → List ℕ → List ℕ → Type 0
-AddsLine number name old new = (line : List ℕ) × (new ≡ old ++ line) × IsLineOf number name line
+abbrev pub AddsCallLine : ℕ → List ℕ → List ℕ → List ℕ → Type 0
+AddsCallLine number name old new = (line : List ℕ) × (new ≡ old ++ line) × IsLineOf number name line

@@ -9,12 +9,12 @@ use Rattle.record_judging.specs.declared.written.WrittenCall.{WrittenCall}
 use Rattle.record_judging.specs.declared.written.WrittenFlow.{WrittenFlow}
 use Rattle.record_judging.specs.declared.written.WrittenFlow.TheVariants.{State, Shared}
 use Rattle.record_judging.specs.StateRows.{state_parts}
-use Rattle.record_judging.specs.SharedRows.{shared_parts}
+use Rattle.record_judging.specs.SharedRows.{shared_entries}
 
 -- how many parts a call has
 abbrev pub part_count : WrittenFlow → List ℕ → WrittenCall → ℕ
 part_count (State initial) lists call = length (state_parts lists call)
-part_count (Shared config) lists call = length (shared_parts lists call)
+part_count (Shared config) lists call = length (shared_entries lists call)
 
 -- the call, once for each of its parts
 abbrev pub call_of_parts : WrittenFlow → List ℕ → WrittenCall → List WrittenCall

@@ -8,7 +8,7 @@ use Rattle.flow_check.specs.declared.shared_calls.SharedOperation.TheVariants as
 use Rattle.flow_check.specs.declared.shared_calls.SharedAnswer.{SharedAnswer}
 use Rattle.flow_check.specs.declared.shared_calls.SharedAnswer.TheVariants as answer
 use Rattle.flow_check.specs.declared.shared_calls.SharedEntry.{SharedEntry}
-use Rattle.flow_check.specs.Records.{Calls}
+use Rattle.flow_check.specs.Records.{CallsByCaller}
 use Rattle.record_judging.specs.declared.words.CallWord.{CallWord}
 use Rattle.record_judging.specs.declared.words.CallWord.TheVariants as word
 use Rattle.record_judging.specs.declared.written.WrittenAnswer.{WrittenAnswer}
@@ -44,17 +44,17 @@ plain part = record part { call = record { operation = plain_operation part.call
 -- ---- parts
 
 -- the answer of a part
-abbrev pub shared_answer : List ℕ → WrittenAnswer → SharedAnswer
-shared_answer lists written.Empty = answer.Empty
-shared_answer lists (written.Value v) = answer.Value v
-shared_answer lists (written.Truth b) = answer.Truth b
-shared_answer lists (written.Number n) = answer.Number n
-shared_answer lists (written.Values range) = answer.Values (unplaced (values_in lists range))
-shared_answer lists _ = answer.Done
+abbrev pub written_shared_answer : List ℕ → WrittenAnswer → SharedAnswer
+written_shared_answer lists written.Empty = answer.Empty
+written_shared_answer lists (written.Value v) = answer.Value v
+written_shared_answer lists (written.Truth b) = answer.Truth b
+written_shared_answer lists (written.Number n) = answer.Number n
+written_shared_answer lists (written.Values range) = answer.Values (unplaced (values_in lists range))
+written_shared_answer lists _ = answer.Done
 
 -- the answer of a part, if one is known; a `first` that leaves has received a value
 abbrev pub shared_known : List ℕ → CallWord → Option WrittenAnswer → Option SharedAnswer
-shared_known lists w (Some a) = Some (shared_answer lists a)
+shared_known lists w (Some a) = Some (written_shared_answer lists a)
 shared_known lists word.First None = Some answer.SomeValue
 shared_known lists w None = None
 
@@ -111,13 +111,13 @@ abbrev pub main_part : List ℕ → WrittenCall → Timed SharedEntry
 main_part lists c = shared_part c (shared_operation lists c.call c) (shared_known lists c.call c.answer)
 
 -- the parts of a call, in order
-abbrev pub shared_parts : List ℕ → WrittenCall → List (Timed SharedEntry)
-shared_parts lists c = first_parts c.call c ++ main_part lists c ∷ last_parts (last_operation c.call c.answer) c
+abbrev pub shared_entries : List ℕ → WrittenCall → List (Timed SharedEntry)
+shared_entries lists c = first_parts c.call c ++ main_part lists c ∷ last_parts (last_operation c.call c.answer) c
 
 -- the parts of a caller's calls, in order
 abbrev pub shared_row : List ℕ → List WrittenCall → List (Timed SharedEntry)
-shared_row lists calls = flat_map (shared_parts lists) calls
+shared_row lists calls = flat_map (shared_entries lists) calls
 
 -- the calls that are judged are the parts of the written ones
-abbrev pub AreSharedCalls : List ℕ → Rows → Calls SharedEntry → Type 0
+abbrev pub AreSharedCalls : List ℕ → Rows → CallsByCaller SharedEntry → Type 0
 AreSharedCalls lists rows callers = map (λ row. map plain row.items) callers ≡ map (λ row. shared_row lists row.items) rows

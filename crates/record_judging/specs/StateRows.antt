@@ -8,7 +8,7 @@ use Rattle.flow_check.specs.declared.state_calls.StateOperation.TheVariants as o
 use Rattle.flow_check.specs.declared.state_calls.StateAnswer.{StateAnswer}
 use Rattle.flow_check.specs.declared.state_calls.StateAnswer.TheVariants as answer
 use Rattle.flow_check.specs.declared.state_calls.StateEntry.{StateEntry}
-use Rattle.flow_check.specs.Records.{Calls}
+use Rattle.flow_check.specs.Records.{CallsByCaller}
 use Rattle.record_judging.specs.declared.words.CallWord.{CallWord}
 use Rattle.record_judging.specs.declared.words.CallWord.TheVariants as word
 use Rattle.record_judging.specs.declared.written.Range.{Range}
@@ -30,20 +30,20 @@ only_value (v ∷ []) = answer.Value v
 only_value _ = answer.Empty
 
 -- the answer of a part; an `update` exchanged the old value for the new one
-abbrev pub state_answer : List ℕ → WrittenAnswer → StateAnswer
-state_answer lists written.Done = answer.Done
-state_answer lists written.Cancelled = answer.Done
-state_answer lists written.Empty = answer.Empty
-state_answer lists (written.Value v) = answer.Value v
-state_answer lists (written.Truth b) = answer.Truth b
-state_answer lists (written.Number n) = answer.Number n
-state_answer lists (written.Values range) = only_value (values_in lists range)
-state_answer lists (written.Exchange a b) = answer.Truth true
+abbrev pub written_state_answer : List ℕ → WrittenAnswer → StateAnswer
+written_state_answer lists written.Done = answer.Done
+written_state_answer lists written.Cancelled = answer.Done
+written_state_answer lists written.Empty = answer.Empty
+written_state_answer lists (written.Value v) = answer.Value v
+written_state_answer lists (written.Truth b) = answer.Truth b
+written_state_answer lists (written.Number n) = answer.Number n
+written_state_answer lists (written.Values range) = only_value (values_in lists range)
+written_state_answer lists (written.Exchange a b) = answer.Truth true
 
 -- the answer of a part, if the call has one
 abbrev pub state_known : List ℕ → Option WrittenAnswer → Option StateAnswer
 state_known lists None = None
-state_known lists (Some a) = Some (state_answer lists a)
+state_known lists (Some a) = Some (written_state_answer lists a)
 
 -- the answer of a part that has only one, if the call has an answer
 abbrev pub state_done : Option WrittenAnswer → Option StateAnswer
@@ -93,5 +93,5 @@ abbrev pub state_row : List ℕ → List WrittenCall → List (Timed StateEntry)
 state_row lists calls = flat_map (state_parts lists) calls
 
 -- the calls that are judged are the parts of the written ones
-abbrev pub AreStateCalls : List ℕ → Rows → Calls StateEntry → Type 0
+abbrev pub AreStateCalls : List ℕ → Rows → CallsByCaller StateEntry → Type 0
 AreStateCalls lists rows callers = map (λ row. row.items) callers ≡ map (λ row. state_row lists row.items) rows

@@ -1,4 +1,4 @@
--- The words on a record, and the status that belongs to them. Begin with `Tells`; `TellsVerdict` says only that they belong together.
+-- The words on a record, and the status that belongs to them. Begin with `TellsRecord`; `TellsVerdict` says only that they belong together.
 use Rattle.std.specs.Prelude.{◌≡◌, ◌⊎◌, ◌++◌, ℕ, Bool, true, false, List, [], ◌∷◌, map, take, slice_get, Option, Some, None, IsSome, codes, decimal, string_bytes}
 use Rattle.flow_check.specs.declared.verdict.Verdict.{Verdict}
 use Rattle.flow_check.specs.declared.verdict.Verdict.TheVariants.{Legal, Illegal, GaveUp}
@@ -79,9 +79,9 @@ abbrev pub next_call : Read → List ℕ → ℕ → Option WrittenCall
 next_call read before caller = call_of_turn read.flow read.lists (slice_get read.rows caller) (turns_of caller before)
 
 -- the number of a call in the record, or 0 if there is none
-abbrev pub number_of : Option WrittenCall → ℕ
-number_of None = 0
-number_of (Some call) = call.number
+abbrev pub call_number : Option WrittenCall → ℕ
+call_number None = 0
+call_number (Some call) = call.number
 
 -- the line of a turn begins with the number of a call and the name of the caller
 abbrev pub IsLineOf : ℕ → List ℕ → List ℕ → Type 0
@@ -89,7 +89,7 @@ IsLineOf number name line = BeginsWith (codes "  " ++ (decimal number ++ (codes 
 
 -- the line of this caller's turn, which comes after the turns `before`, is that of the caller's next call
 abbrev pub IsLineOfTurn : Read → List ℕ → ℕ → List ℕ → Type 0
-IsLineOfTurn read before caller line = IsLineOf (number_of (next_call read before caller)) (name_of read.names caller) line
+IsLineOfTurn read before caller line = IsLineOf (call_number (next_call read before caller)) (name_of read.names caller) line
 
 -- after the turns `before`, the lines are those of the turns of the order, one line for each turn, one after another
 abbrev pub AreLinesAfter : Read → List ℕ → List ℕ → List ℕ → Type 0
@@ -138,8 +138,8 @@ pub record TellsRead (with_order : Bool) (status : ℕ) (words : List ℕ) : Typ
   pub tells : TellsOf with_order read verdict words
 
 -- the text is refused, or the words and the status are those of a verdict that is right about the record that was read
-abbrev pub Tells : Bool → ℕ → List ℕ → Type 0
-Tells with_order status words = ((status ≡ refused) × BeginsWith (codes "refused: ") words) ⊎ TellsRead with_order status words
+abbrev pub TellsRecord : Bool → ℕ → List ℕ → Type 0
+TellsRecord with_order status words = ((status ≡ refused) × BeginsWith (codes "refused: ") words) ⊎ TellsRead with_order status words
 
 -- the text is refused, or the status is that of a verdict that is right about the record that was read
 abbrev pub IsStatus : ℕ → Type 0

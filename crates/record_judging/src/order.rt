@@ -3,9 +3,9 @@ ghost use Rattle.std.specs.Prelude.{◌≡◌, ◌+◌, ◌<◌, ◌++◌, [], �
 ghost use Rattle.std.specs.Prelude.{IfOk, OnOk, slice_get, string_bytes};
 ghost use Rattle.std.specs.Option.{option_map};
 ghost use Rattle.record_judging.specs.NextCalls.{calls_of_parts};
-ghost use Rattle.record_judging.specs.Verdicts.{read_of, name_of, next_call, number_of};
+ghost use Rattle.record_judging.specs.Verdicts.{read_of, name_of, next_call, call_number};
 ghost use Rattle.record_judging.specs.Verdicts.{AreLinesAfter};
-ghost use Rattle.record_judging.specs.Cursors.{IsAt, AreAt, AddsLine};
+ghost use Rattle.record_judging.specs.Cursors.{IsAt, AreAt, AddsCallLine};
 
 use crate::judging::parts_of;
 use crate::words::CallWord;
@@ -157,7 +157,7 @@ fn write_named(
     number: usize,
     words: &str,
 ) -> Result<(), AllocError>
-    ensures { OnOk result (AddsLine number
+    ensures { OnOk result (AddsCallLine number
         (name_of (read_of sheet.now).names caller) (string_bytes out.old) (string_bytes out.new)) }
 {
     writeln!(out, "  {number}  {} {words}", sheet.name(caller))?;
@@ -173,7 +173,7 @@ fn write_part(
     call: WrittenCall,
     part: usize,
 ) -> Result<(), AllocError>
-    ensures { OnOk result (AddsLine call.number
+    ensures { OnOk result (AddsCallLine call.number
         (name_of (read_of sheet.now).names caller) (string_bytes out.old) (string_bytes out.new)) }
 {
     words.clear();
@@ -190,7 +190,7 @@ fn write_turn(
     caller: usize,
     next: Option<(WrittenCall, usize)>,
 ) -> Result<(), AllocError>
-    ensures { OnOk result (AddsLine (number_of (option_map (λ part. part.0) next))
+    ensures { OnOk result (AddsCallLine (call_number (option_map (λ part. part.0) next))
         (name_of (read_of sheet.now).names caller) (string_bytes out.old) (string_bytes out.new)) }
 {
     match next {

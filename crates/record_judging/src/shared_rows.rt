@@ -1,11 +1,11 @@
 //! The calls of a record of a shared flow, as they are judged.
 ghost use Rattle.std.specs.Prelude.{◌≡◌, ◌++◌, [], ◌∷◌, map, IfOk, OnOk};
 ghost use Rattle.record_judging.specs.SharedRows.{plain, plain_operation, plain_answer};
-ghost use Rattle.record_judging.specs.SharedRows.{plain_known, plain_last, shared_answer};
+ghost use Rattle.record_judging.specs.SharedRows.{plain_known, plain_last, written_shared_answer};
 ghost use Rattle.record_judging.specs.SharedRows.{shared_known, shared_done, emit_begins};
 ghost use Rattle.record_judging.specs.SharedRows.{shared_operation, shared_part, first_parts};
 ghost use Rattle.record_judging.specs.SharedRows.{last_operation, last_parts};
-ghost use Rattle.record_judging.specs.SharedRows.{shared_parts, shared_row, AreSharedCalls};
+ghost use Rattle.record_judging.specs.SharedRows.{shared_entries, shared_row, AreSharedCalls};
 
 use crate::words::CallWord;
 use crate::written::{WrittenAnswer, WrittenCall};
@@ -13,7 +13,7 @@ use flow_check::{SharedAnswer, SharedEntry, SharedOperation, Timed};
 use std::alloc::{AllocError, Global};
 
 fn shared_answer(answer: WrittenAnswer, lists: &[u64]) -> SharedAnswer<'_>
-    ensures { plain_answer result ≡ shared_answer lists.now answer }
+    ensures { plain_answer result ≡ written_shared_answer lists.now answer }
 {
     match answer {
         WrittenAnswer::Empty => SharedAnswer::Empty,
@@ -146,7 +146,7 @@ fn push_parts<'a>(
     lists: &'a [u64],
 ) -> Result<(), AllocError>
     ensures { OnOk result
-        (map plain row.new.items ≡ map plain row.old.items ++ shared_parts lists.now call) }
+        (map plain row.new.items ≡ map plain row.old.items ++ shared_entries lists.now call) }
 {
     push_first(row, call)?;
     let part = part_of(

@@ -1,7 +1,7 @@
 //! The calls of a record of a state flow, as they are judged.
 ghost use Rattle.std.specs.Prelude.{◌≡◌, ◌++◌, map, IfOk, OnOk};
 ghost use Rattle.record_judging.specs.StateRows.{only_value, exchange, state_operation};
-ghost use Rattle.record_judging.specs.StateRows.{state_answer, state_known, state_done};
+ghost use Rattle.record_judging.specs.StateRows.{written_state_answer, state_known, state_done};
 ghost use Rattle.record_judging.specs.StateRows.{state_part, state_parts, state_row, AreStateCalls};
 
 use crate::words::CallWord;
@@ -20,7 +20,7 @@ fn only_value(values: &[u64]) -> StateAnswer
 }
 
 fn state_answer(answer: WrittenAnswer, lists: &[u64]) -> StateAnswer
-    ensures { result ≡ state_answer lists.now answer }
+    ensures { result ≡ written_state_answer lists.now answer }
 {
     match answer {
         WrittenAnswer::Done | WrittenAnswer::Cancelled => StateAnswer::Done,

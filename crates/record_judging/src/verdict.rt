@@ -1,7 +1,7 @@
 //! The verdict on a record, in words and as a status.
 ghost use Rattle.std.specs.Prelude.{◌≡◌, ◌++◌, IfOk, List, codes, string_bytes, ℕ};
 ghost use Rattle.std.specs.Io.KnownBytes.{Appends};
-ghost use Rattle.record_judging.specs.Verdicts.{TellsVerdict, Tells, TellsOf, TellsOrder, IsStatus};
+ghost use Rattle.record_judging.specs.Verdicts.{TellsVerdict, TellsRecord, TellsOf, TellsOrder, IsStatus};
 ghost use Rattle.record_judging.specs.Verdicts.{TellsConflict, JudgesRead, read_of, status_of, refused};
 ghost use Rattle.record_judging.specs.Verdicts.{BeginsWith};
 
@@ -162,7 +162,7 @@ fn judge_bytes(alloc: Global, bytes: &[u8]) -> Result<(Sheet, Verdict), Unread>
 /// Judges the record of these bytes, and returns the words on it.
 #[tactic(auto, using(crate::proofs::Telling::tells_read, crate::proofs::Telling::tells_refused))]
 fn tell_record(alloc: Global, bytes: &[u8], with_order: bool) -> Result<Told, AllocError>
-    ensures { IfOk result (λ told. Tells with_order told.status (string_bytes told.words)) }
+    ensures { IfOk result (λ told. TellsRecord with_order told.status (string_bytes told.words)) }
 {
     match judge_bytes(alloc, bytes) {
         Ok((sheet, verdict)) => {
@@ -235,7 +235,7 @@ pub fn judge_record<W: Write>(
 ) -> io::Result<u8>
     ensures tells { IfOk result (λ status. (words : List ℕ) × TellsVerdict with_order status words
         × Appends (W.contents out.old) (W.contents out.new) words) }
-    ensures judged { IfOk result (λ status. (words : List ℕ) × Tells with_order status words
+    ensures judged { IfOk result (λ status. (words : List ℕ) × TellsRecord with_order status words
         × Appends (W.contents out.old) (W.contents out.new) words) }
 {
     let told = tell_record(alloc, bytes, with_order)?;

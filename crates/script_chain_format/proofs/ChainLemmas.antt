@@ -15,8 +15,8 @@ use Rattle.script_chain_format.specs.declared.reading.version.Version.{Version}
 use Rattle.script_chain_format.specs.Results.{comes_first, result_then, or_fault}
 use Rattle.script_chain_format.proofs.ListLemmas.{rest_from}
 use Rattle.script_chain_format.proofs.ResultLemmas.{stays-first}
-use Rattle.script_chain_format.specs.SourceFormat.{all_of, bounds_of, source_in, within}
-use Rattle.script_chain_format.specs.ChainFormat.{Build, Operator, operator_in, operator_where, zip_parts, zipped, plain, parts_of, start_of, ops_on, operator_at, chain_at, joined_to}
+use Rattle.script_chain_format.specs.SourceFormat.{each_of, bounds_of, source_in, within}
+use Rattle.script_chain_format.specs.ChainFormat.{Build, Operator, operator_in, operator_where, zip_parts, zipped, plain_operator, parts_of, start_of, ops_on, operator_at, chain_at, joined_to}
 
 pub bounds-none : (vs : List Value) → length vs ≢ 2 → None ≡ bounds_of (items_view vs)
 bounds-none [] other = refl
@@ -32,37 +32,37 @@ joined done x None = refl
 -- if a value gives something, the values after it give what the whole still lacks
 pub all-more : {X : Type 0} (f : Data → Option X) (vs : List Value) (i : ℕ) (v : Value) (x : X) (done more : List X) (whole : Option (List X))
     → i < length vs → v ≡ get_or vs i v → f (view v) ≡ Some x → more ≡ done ++ x ∷ []
-    → option_map (λ rest. done ++ rest) (all_of f (items_view (drop i vs))) ≡ whole
-    → option_map (λ rest. more ++ rest) (all_of f (items_view (drop (i + 1) vs))) ≡ whole
+    → option_map (λ rest. done ++ rest) (each_of f (items_view (drop i vs))) ≡ whole
+    → option_map (λ rest. more ++ rest) (each_of f (items_view (drop (i + 1) vs))) ≡ whole
 all-more f vs i v x done more whole here is gives pushed before =
-    ap (λ l. option_map (λ rest. l ++ rest) (all_of f (items_view (drop (i + 1) vs)))) pushed
-    ∙ joined done x (all_of f (items_view (drop (i + 1) vs)))
-    ∙ ap (λ o. option_map (λ rest. done ++ rest) (option_and_then (λ y. option_map (λ ys. y ∷ ys) (all_of f (items_view (drop (i + 1) vs)))) o)) (sym gives)
-    ∙ ap (λ l. option_map (λ rest. done ++ rest) (all_of f (items_view l))) (sym (rest_from vs i v here is))
+    ap (λ l. option_map (λ rest. l ++ rest) (each_of f (items_view (drop (i + 1) vs)))) pushed
+    ∙ joined done x (each_of f (items_view (drop (i + 1) vs)))
+    ∙ ap (λ o. option_map (λ rest. done ++ rest) (option_and_then (λ y. option_map (λ ys. y ∷ ys) (each_of f (items_view (drop (i + 1) vs)))) o)) (sym gives)
+    ∙ ap (λ l. option_map (λ rest. done ++ rest) (each_of f (items_view l))) (sym (rest_from vs i v here is))
     ∙ before
 
 -- if a value gives nothing, neither does the whole
 pub all-none : {X : Type 0} (f : Data → Option X) (vs : List Value) (i : ℕ) (v : Value) (done : List X) (whole : Option (List X))
     → i < length vs → v ≡ get_or vs i v → f (view v) ≡ None
-    → option_map (λ rest. done ++ rest) (all_of f (items_view (drop i vs))) ≡ whole → whole ≡ None
+    → option_map (λ rest. done ++ rest) (each_of f (items_view (drop i vs))) ≡ whole → whole ≡ None
 all-none f vs i v done whole here is gives before =
     sym before
-    ∙ ap (λ l. option_map (λ rest. done ++ rest) (all_of f (items_view l))) (rest_from vs i v here is)
-    ∙ ap (λ o. option_map (λ rest. done ++ rest) (option_and_then (λ y. option_map (λ ys. y ∷ ys) (all_of f (items_view (drop (i + 1) vs)))) o)) gives
+    ∙ ap (λ l. option_map (λ rest. done ++ rest) (each_of f (items_view l))) (rest_from vs i v here is)
+    ∙ ap (λ o. option_map (λ rest. done ++ rest) (option_and_then (λ y. option_map (λ ys. y ∷ ys) (each_of f (items_view (drop (i + 1) vs)))) o)) gives
 
 -- if no value is left, what was found is the whole
 pub all-over : {X : Type 0} (f : Data → Option X) (vs : List Value) (i : ℕ) (done : List X) (whole : Option (List X))
-    → length vs ≤ i → option_map (λ rest. done ++ rest) (all_of f (items_view (drop i vs))) ≡ whole → whole ≡ Some done
+    → length vs ≤ i → option_map (λ rest. done ++ rest) (each_of f (items_view (drop i vs))) ≡ whole → whole ≡ Some done
 all-over f vs i done whole over before =
-    sym before ∙ ap (λ l. option_map (λ rest. done ++ rest) (all_of f (items_view l))) (drop_of_length-le vs {i = i} over) ∙ ap Some (append-nil done)
+    sym before ∙ ap (λ l. option_map (λ rest. done ++ rest) (each_of f (items_view l))) (drop_of_length-le vs {i = i} over) ∙ ap Some (append-nil done)
 
 -- ---- operators on a chain
 
 pub operator-zip : (f : Data → Result Build ScriptFault) (version : Version) (at : ℕ) (d with : Data) (by : Joining) → Some (by, with) ≡ zip_parts version d → operator_where f version at d ≡ zipped by (f with)
-operator-zip f version at d with by is = ap (λ o. option_map_or (λ zip. zipped zip.0 (f zip.1)) o (plain (operator_in version at d))) (sym is)
+operator-zip f version at d with by is = ap (λ o. option_map_or (λ zip. zipped zip.0 (f zip.1)) o (plain_operator (operator_in version at d))) (sym is)
 
-pub operator-plain : (f : Data → Result Build ScriptFault) (version : Version) (at : ℕ) (d : Data) → None ≡ zip_parts version d → operator_where f version at d ≡ plain (operator_in version at d)
-operator-plain f version at d is = ap (λ o. option_map_or (λ zip. zipped zip.0 (f zip.1)) o (plain (operator_in version at d))) (sym is)
+pub operator-plain : (f : Data → Result Build ScriptFault) (version : Version) (at : ℕ) (d : Data) → None ≡ zip_parts version d → operator_where f version at d ≡ plain_operator (operator_in version at d)
+operator-plain f version at d is = ap (λ o. option_map_or (λ zip. zipped zip.0 (f zip.1)) o (plain_operator (operator_in version at d))) (sym is)
 
 pub chain-parts : (version : Version) (levels at : ℕ) (d from : Data) (ops : Items) → (levels ≡ 0 → ⊥) → Some (from, ops) ≡ parts_of d
     → ops_on (operator_at version (levels - 1) at) (start_of (source_in at from)) ops ≡ chain_at version levels at d
@@ -95,18 +95,18 @@ some-more x (Some xs) = refl
 some-more x None = refl
 
 pub each-more : {X : Type 0} (f : Data → Option X) (vs : List Value) (i : ℕ) (v : Value) (whole : Bool) → i < length vs → v ≡ get_or vs i v → is_some (f (view v)) ≡ true
-    → is_some (all_of f (items_view (drop i vs))) ≡ whole → is_some (all_of f (items_view (drop (i + 1) vs))) ≡ whole
+    → is_some (each_of f (items_view (drop i vs))) ≡ whole → is_some (each_of f (items_view (drop (i + 1) vs))) ≡ whole
 each-more f vs i v whole here is some before =
-    step (f (view v)) (all_of f (items_view (drop (i + 1) vs))) some ∙ ap (λ l. is_some (all_of f (items_view l))) (sym (rest_from vs i v here is)) ∙ before
+    step (f (view v)) (each_of f (items_view (drop (i + 1) vs))) some ∙ ap (λ l. is_some (each_of f (items_view l))) (sym (rest_from vs i v here is)) ∙ before
   where
     step : {X : Type 0} (o : Option X) (rest : Option (List X)) → is_some o ≡ true → is_some rest ≡ is_some (option_and_then (λ x. option_map (λ xs. x ∷ xs) rest) o)
     step (Some x) rest is = sym (some-more x rest)
     step None rest is = cc
 
 pub each-none : {X : Type 0} (f : Data → Option X) (vs : List Value) (i : ℕ) (v : Value) (whole : Bool) → i < length vs → v ≡ get_or vs i v → is_some (f (view v)) ≡ false
-    → is_some (all_of f (items_view (drop i vs))) ≡ whole → whole ≡ false
+    → is_some (each_of f (items_view (drop i vs))) ≡ whole → whole ≡ false
 each-none f vs i v whole here is none before =
-    sym before ∙ ap (λ l. is_some (all_of f (items_view l))) (rest_from vs i v here is) ∙ step (f (view v)) (all_of f (items_view (drop (i + 1) vs))) none
+    sym before ∙ ap (λ l. is_some (each_of f (items_view l))) (rest_from vs i v here is) ∙ step (f (view v)) (each_of f (items_view (drop (i + 1) vs))) none
   where
     step : {X : Type 0} (o : Option X) (rest : Option (List X)) → is_some o ≡ false → is_some (option_and_then (λ x. option_map (λ xs. x ∷ xs) rest) o) ≡ false
     step (Some x) rest is = cc
@@ -121,11 +121,11 @@ one-longer (Some x) None n xs each is = cc
 one-longer None rest n xs each is = cc
 
 -- as many results as values
-pub all-length : {X : Type 0} (f : Data → Option X) (vs : List Value) (xs : List X) → all_of f (items_view vs) ≡ Some xs → length xs ≡ length vs
+pub all-length : {X : Type 0} (f : Data → Option X) (vs : List Value) (xs : List X) → each_of f (items_view vs) ≡ Some xs → length xs ≡ length vs
 all-length f [] xs is =
     let same : [] ≡ xs = cc in
     ap length (sym same)
-all-length f (v ∷ vs) xs is = one-longer (f (view v)) (all_of f (items_view vs)) (length vs) xs (λ ys. all-length f vs ys) is
+all-length f (v ∷ vs) xs is = one-longer (f (view v)) (each_of f (items_view vs)) (length vs) xs (λ ys. all-length f vs ys) is
 
 -- ---- limits on the number of values
 
@@ -146,11 +146,11 @@ many at most n (Some xs) each more some = ap (λ t. if t then Err (TooLarge at) 
     below : (k : ℕ) → k ≡ n → nat_lt most k ≡ true
     below k is = grind (arith, nat_tests)
 
-pub few-enough : {X : Type 0} (f : Data → Option X) (at most : ℕ) (vs : List Value) → length vs ≤ most → no_more at most (all_of f (items_view vs)) ≡ or_fault (BadShape at) (all_of f (items_view vs))
-few-enough f at most vs few_values = few at most (length vs) (all_of f (items_view vs)) (λ xs. all-length f vs xs) few_values
+pub few-enough : {X : Type 0} (f : Data → Option X) (at most : ℕ) (vs : List Value) → length vs ≤ most → no_more at most (each_of f (items_view vs)) ≡ or_fault (BadShape at) (each_of f (items_view vs))
+few-enough f at most vs few_values = few at most (length vs) (each_of f (items_view vs)) (λ xs. all-length f vs xs) few_values
 
-pub too-many : {X : Type 0} (f : Data → Option X) (at most : ℕ) (vs : List Value) → most < length vs → is_some (all_of f (items_view vs)) ≡ true → no_more at most (all_of f (items_view vs)) ≡ Err (TooLarge at)
-too-many f at most vs more some = many at most (length vs) (all_of f (items_view vs)) (λ xs. all-length f vs xs) more some
+pub too-many : {X : Type 0} (f : Data → Option X) (at most : ℕ) (vs : List Value) → most < length vs → is_some (each_of f (items_view vs)) ≡ true → no_more at most (each_of f (items_view vs)) ≡ Err (TooLarge at)
+too-many f at most vs more some = many at most (length vs) (each_of f (items_view vs)) (λ xs. all-length f vs xs) more some
 
 pub misshapen : {X : Type 0} (at most : ℕ) (o : Option (List X)) → is_some o ≡ false → no_more at most o ≡ Err (BadShape at)
 misshapen at most None none = refl

@@ -2,7 +2,7 @@
 use Rattle.std.proofs.Common.{◌≡◌, ℕ, true, Result, Ok, Err, refl, ap, ◌∙◌}
 use Rattle.script_chain_format.specs.declared.reading.fault.ScriptFault.{ScriptFault}
 use Rattle.script_chain_format.specs.declared.reading.fault.ScriptFault.TheVariants.{OutOfMemory, ReadFailed, WriteFailed, NotJson, BadVersion, BadShape, UnknownName, DuplicateName, TooLarge}
-use Rattle.script_chain_format.specs.Results.{Gives, result_map, comes_first, first_fault, first_of, is_final}
+use Rattle.script_chain_format.specs.Results.{Gives, result_map, comes_first, first_fault, refusing_fault, is_decisive}
 
 -- a refusal of a part refuses a whole that keeps refusals
 pub gives_err : {A B : Type 0} (m : Result A ScriptFault) (whole : Result B ScriptFault) (fault : ScriptFault) → Gives m (Err fault)
@@ -31,7 +31,7 @@ gives_final m whole (DuplicateName at) g first through = through (DuplicateName 
 gives_final m whole (TooLarge at) g first through = cc
 
 -- a refusal that no later fault precedes is that of the whole
-pub final-whole : {A B : Type 0} (f : A → B) (m whole : Result B ScriptFault) (r : Result A ScriptFault) → Gives m (result_map f r) → is_final r ≡ true
+pub final-whole : {A B : Type 0} (f : A → B) (m whole : Result B ScriptFault) (r : Result A ScriptFault) → Gives m (result_map f r) → is_decisive r ≡ true
     → ((fault : ScriptFault) → comes_first fault ≡ true → m ≡ Err fault → whole ≡ Err fault) → Gives whole (result_map f r)
 final-whole f m whole (Ok a) g final through = cc
 final-whole f m whole (Err fault) g final through = gives_final m whole fault g final through
@@ -51,7 +51,7 @@ stays-first (TooLarge at) (Err next) first = cc
 
 -- the first of a limit and of a refusal that is found next refuses the whole
 limit-first : {B C : Type 0} (at : ℕ) (o : Result B ScriptFault) (next : ScriptFault) (whole : Result C ScriptFault) → Gives o (Err next)
-    → whole ≡ Err (first_fault (TooLarge at) o) → Gives whole (Err (first_of (TooLarge at) next))
+    → whole ≡ Err (first_fault (TooLarge at) o) → Gives whole (Err (refusing_fault (TooLarge at) next))
 limit-first at o OutOfMemory whole g is = tt
 limit-first at o ReadFailed whole g is = absurd g
 limit-first at o WriteFailed whole g is = absurd g
@@ -64,7 +64,7 @@ limit-first at o (TooLarge k) whole g is = is ∙ ap (λ r. Err (first_fault (To
 
 -- the first of two refusals refuses the whole
 gives_first : {A B C : Type 0} (m : Result A ScriptFault) (o : Result B ScriptFault) (whole : Result C ScriptFault) (fault next : ScriptFault) → Gives m (Err fault) → Gives o (Err next)
-    → ((f : ScriptFault) → m ≡ Err f → whole ≡ Err (first_fault f o)) → Gives whole (Err (first_of fault next))
+    → ((f : ScriptFault) → m ≡ Err f → whole ≡ Err (first_fault f o)) → Gives whole (Err (refusing_fault fault next))
 gives_first m o whole OutOfMemory next g h through = tt
 gives_first m o whole ReadFailed next g h through = absurd g
 gives_first m o whole WriteFailed next g h through = absurd g

@@ -271,12 +271,12 @@ abbrev pub zipped : Joining → Result Build ScriptFault → Result (Result Oper
 zipped by r = result_map (zip_with by) r
 
 -- an operator that is not a zip, so that no inner chain can be refused
-abbrev pub plain : Result Operator ScriptFault → Result (Result Operator ChainFault) ScriptFault
-plain r = result_map (λ o. Ok o) r
+abbrev pub plain_operator : Result Operator ScriptFault → Result (Result Operator ChainFault) ScriptFault
+plain_operator r = result_map (λ o. Ok o) r
 
 -- an operator; `chain_by` reads the other chain of a zip
 abbrev pub operator_where : (Data → Result Build ScriptFault) → Version → ℕ → Data → Result (Result Operator ChainFault) ScriptFault
-operator_where chain_by version at d = option_map_or (λ zip. zipped zip.0 (chain_by zip.1)) (zip_parts version d) (plain (operator_in version at d))
+operator_where chain_by version at d = option_map_or (λ zip. zipped zip.0 (chain_by zip.1)) (zip_parts version d) (plain_operator (operator_in version at d))
 
 -- the chain with these operators added in order; `operator_by` reads each of them
 abbrev pub ops_on : (Data → Result (Result Operator ChainFault) ScriptFault) → Result Build ScriptFault → Items → Result Build ScriptFault

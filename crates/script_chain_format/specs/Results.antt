@@ -26,20 +26,20 @@ comes_first (TooLarge at) = false
 comes_first _ = true
 
 -- whether it is a fault that takes precedence over every fault found later in the same part
-abbrev pub is_final : {A : Type 0} → Result A ScriptFault → Bool
-is_final (Ok a) = false
-is_final (Err fault) = comes_first fault
+abbrev pub is_decisive : {A : Type 0} → Result A ScriptFault → Bool
+is_decisive (Ok a) = false
+is_decisive (Err fault) = comes_first fault
 
 -- which of two faults, found one after the other in the same part, refuses it: a bad form, or out of memory, comes before a limit
-abbrev pub first_of : ScriptFault → ScriptFault → ScriptFault
-first_of (TooLarge at) (BadShape k) = BadShape k
-first_of (TooLarge at) OutOfMemory = OutOfMemory
-first_of fault next = fault
+abbrev pub refusing_fault : ScriptFault → ScriptFault → ScriptFault
+refusing_fault (TooLarge at) (BadShape k) = BadShape k
+refusing_fault (TooLarge at) OutOfMemory = OutOfMemory
+refusing_fault fault next = fault
 
 -- which fault refuses a part, by a fault and what is read next, which may be no fault
 abbrev pub first_fault : {A : Type 0} → ScriptFault → Result A ScriptFault → ScriptFault
 first_fault fault (Ok a) = fault
-first_fault fault (Err next) = first_of fault next
+first_fault fault (Err next) = refusing_fault fault next
 
 -- ---- what a reader gives
 

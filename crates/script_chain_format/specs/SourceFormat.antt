@@ -29,32 +29,32 @@ abbrev pub whole_number : Data → Option ℤ
 whole_number d = option_and_then as_i64 (as_number d)
 
 -- what f gives for each of the values, if it gives something for all of them
-abbrev pub all_of : {X : Type 0} → (Data → Option X) → Items → Option (List X)
-all_of f no_items = Some []
-all_of f (item d ds) = option_and_then (λ x. option_map (λ xs. x ∷ xs) (all_of f ds)) (f d)
+abbrev pub each_of : {X : Type 0} → (Data → Option X) → Items → Option (List X)
+each_of f no_items = Some []
+each_of f (item d ds) = option_and_then (λ x. option_map (λ xs. x ∷ xs) (each_of f ds)) (f d)
 
 -- the values as whole numbers, if all of them are
 abbrev pub whole_numbers : Items → Option (List ℤ)
-whole_numbers ds = all_of whole_number ds
+whole_numbers ds = each_of whole_number ds
 
 -- the entry of a value: an item, a pending turn, or a fault
-abbrev pub entry_of : Data → Option (Entry ℤ)
-entry_of d =
+abbrev pub entry_in : Data → Option (Entry ℤ)
+entry_in d =
     option_map_or (λ x. Some (entry.Item x)) (whole_number d)
     (option_map_or (λ text. where_true (bytes_eq text (codes "pending")) (Some entry.Pending)) (as_str d)
     (where_true (has_only (codes "fault" ∷ []) d) (option_map entry.Fault (u32_at (codes "fault") d))))
 
 -- the values as entries of a scripted source, if all of them are
 abbrev pub entries_of : Items → Option (List (Entry ℤ))
-entries_of ds = all_of entry_of ds
+entries_of ds = each_of entry_in ds
 
 -- the values as whole numbers; more than the most that is allowed are too large
-abbrev pub numbers_of : ℕ → ℕ → Items → Result (List ℤ) ScriptFault
-numbers_of at most ds = result_then (λ xs. within at most (length xs) xs) (or_fault (BadShape at) (whole_numbers ds))
+abbrev pub whole_numbers_of : ℕ → ℕ → Items → Result (List ℤ) ScriptFault
+whole_numbers_of at most ds = result_then (λ xs. within at most (length xs) xs) (or_fault (BadShape at) (whole_numbers ds))
 
 -- the whole numbers of a list; more than the most that is allowed are too large
 abbrev pub numbers_in : ℕ → ℕ → Data → Result (List ℤ) ScriptFault
-numbers_in at most d = result_then (numbers_of at most) (or_fault (BadShape at) (as_array d))
+numbers_in at most d = result_then (whole_numbers_of at most) (or_fault (BadShape at) (as_array d))
 
 -- a source that gives a list of numbers
 abbrev pub list_source : ℕ → Data → Result (ChainRun ℤ) ScriptFault

@@ -66,7 +66,7 @@ fn zipped(
 /// Returns an operator that is not a zip, so that no inner chain can fail to be built.
 fn plain(op: Result<Op, ScriptFault>) -> Result<Result<Op, ChainFault>, ScriptFault>
     ensures { (m : Result chains.Operator TheScriptFault) → Gives m (operator_result op)
-        → Gives (chains.plain m) (operator_build_result result) }
+        → Gives (chains.plain_operator m) (operator_build_result result) }
 {
     Ok(Ok(op?))
 }

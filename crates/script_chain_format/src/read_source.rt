@@ -37,7 +37,7 @@ pub fn numbers_of(
     most: usize,
     values: &[Value],
 ) -> Result<Vec<i64>, ScriptFault>
-    ensures { Gives (sources.numbers_of at most (items_view values.now)) (numbers_result result) }
+    ensures { Gives (sources.whole_numbers_of at most (items_view values.now)) (numbers_result result) }
 {
     if values.len() <= most {
         return whole_numbers(alloc, at, values);
@@ -78,7 +78,7 @@ fn whole_numbers(alloc: Global, at: u64, values: &[Value]) -> Result<Vec<i64>, S
 
 /// Returns the entry of a value: an item, a pending turn, or a fault.
 fn entry_of(value: &Value) -> Option<Entry<i64>>
-    ensures { result ≡ sources.entry_of (view value.now) }
+    ensures { result ≡ sources.entry_in (view value.now) }
 {
     if let Some(item) = value.as_i64() {
         return Some(Entry::Item(item));

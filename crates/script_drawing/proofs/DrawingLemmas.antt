@@ -6,7 +6,7 @@ use Rattle.script_chain_format.specs.declared.reading.fault.ScriptFault.{ScriptF
 use Rattle.script_chain_format.specs.declared.reading.fault.ScriptFault.TheVariants.{OutOfMemory, ReadFailed, WriteFailed, NotJson, BadVersion, BadShape, UnknownName, DuplicateName, TooLarge}
 use Rattle.script_chain_format.specs.Results.{Gives}
 use Rattle.script_format.specs.Checks.{most_bytes}
-use Rattle.flow_script.specs.ScriptMeaning.{meaning}
+use Rattle.flow_script.specs.ScriptMeaning.{script_meaning}
 use Rattle.flow_script.specs.Playing.{read_failed}
 use Rattle.flow_script.specs.Telling.{IsRefusal, TellsFault}
 use Rattle.flow_script.proofs.MeaningLemmas.{same_meaning, plays_refused}
@@ -16,7 +16,7 @@ use Rattle.script_drawing.specs.Program.{RunsDrawing}
 
 -- a script that is refused
 pub draws_refused : (known left old : Option (List ℕ)) (bytes : List ℕ) (fault : ScriptFault) → Consumes known left bytes → (length bytes ≤ most_bytes → IsAtEnd left)
-    → Gives {A = List ℕ} (meaning bytes) (Err fault) → Draws known old old (Err fault)
+    → Gives {A = List ℕ} (script_meaning bytes) (Err fault) → Draws known old old (Err fault)
 draws_refused known left old bytes OutOfMemory taken end is = plays_refused known left old bytes OutOfMemory taken end is
 draws_refused known left old bytes ReadFailed taken end is = absurd is
 draws_refused known left old bytes WriteFailed taken end is = absurd is
@@ -28,18 +28,18 @@ draws_refused known left old bytes (DuplicateName at) taken end is = plays_refus
 draws_refused known left old bytes (TooLarge at) taken end is = plays_refused known left old bytes (TooLarge at) taken end is
 
 draws_whole : (known left old new : Option (List ℕ)) (bytes text drawn : List ℕ) → Consumes known left bytes → (length bytes ≤ most_bytes → IsAtEnd left)
-    → meaning bytes ≡ Ok text → TellsLines text drawn → Appends old new drawn → Draws known old new (Ok tt)
+    → script_meaning bytes ≡ Ok text → TellsLines text drawn → Appends old new drawn → Draws known old new (Ok tt)
 draws_whole None left old new bytes text drawn taken end is tells written = tt
 draws_whole (Some input) left old new bytes text drawn taken end is tells written = (text, drawn, same_meaning input left bytes taken end ∙ is, tells, written)
 
 draws_front : (known left old new : Option (List ℕ)) (bytes text drawn : List ℕ) (count : ℕ) → Consumes known left bytes → (length bytes ≤ most_bytes → IsAtEnd left)
-    → meaning bytes ≡ Ok text → TellsLines text drawn → Appends old new (take count drawn) → Draws known old new (Err WriteFailed)
+    → script_meaning bytes ≡ Ok text → TellsLines text drawn → Appends old new (take count drawn) → Draws known old new (Err WriteFailed)
 draws_front None left old new bytes text drawn count taken end is tells written = tt
 draws_front (Some input) left old new bytes text drawn count taken end is tells written = (text, drawn, count, same_meaning input left bytes taken end ∙ is, tells, written)
 
 -- all of the drawing was written, or a first part of it
 pub draws_written : (known left old new : Option (List ℕ)) (bytes text drawn : List ℕ) (r : Result (Unit {0}) ScriptFault) → Consumes known left bytes
-    → (length bytes ≤ most_bytes → IsAtEnd left) → meaning bytes ≡ Ok text → TellsLines text drawn → OnOk r (Appends old new drawn)
+    → (length bytes ≤ most_bytes → IsAtEnd left) → script_meaning bytes ≡ Ok text → TellsLines text drawn → OnOk r (Appends old new drawn)
     → OnErr r ((count : ℕ) × Appends old new (take count drawn)) → IfErr r (λ fault. fault ≡ WriteFailed) → Draws known old new r
 draws_written known left old new bytes text drawn (Ok u) taken end is tells whole front fault = draws_whole known left old new bytes text drawn taken end is tells whole
 draws_written known left old new bytes text drawn (Err f) taken end is tells whole front fault =

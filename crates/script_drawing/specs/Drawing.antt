@@ -6,14 +6,14 @@ use Rattle.std.specs.declared.alloc.Global.{Global}
 use Rattle.script_chain_format.specs.declared.reading.fault.ScriptFault.{ScriptFault}
 use Rattle.script_chain_format.specs.declared.reading.fault.ScriptFault.TheVariants.{WriteFailed}
 use Rattle.script_chain_format.specs.Results.{Gives}
-use Rattle.flow_script.specs.ScriptMeaning.{meaning}
+use Rattle.flow_script.specs.ScriptMeaning.{script_meaning}
 use Rattle.flow_script.specs.Playing.{Plays}
 
 -- ---- lines
 
 -- the parts of a text between its line feeds
-abbrev pub lines_of : List ℕ → List (List ℕ)
-lines_of text = slice_split (λ byte. byte == 10) text
+abbrev pub text_lines : List ℕ → List (List ℕ)
+text_lines text = slice_split (λ byte. byte == 10) text
 
 -- the text contains these lines, one after the other
 abbrev pub TellsInOrder : List (List ℕ) → List ℕ → Type 0
@@ -22,7 +22,7 @@ TellsInOrder (line ∷ more) text = (before : List ℕ) × (after : List ℕ) ×
 
 -- what is drawn contains each line of the text that a script writes, in order
 abbrev pub TellsLines : List ℕ → List ℕ → Type 0
-TellsLines text drawn = TellsInOrder (lines_of text) drawn
+TellsLines text drawn = TellsInOrder (text_lines text) drawn
 
 -- ---- pictures
 
@@ -36,8 +36,8 @@ Pictures meant (Err fault) = Gives {A = List ℕ} meant (Err fault)
 -- failed, a first part of one is written. A script is refused as the player refuses it.
 abbrev pub Draws : Option (List ℕ) → Option (List ℕ) → Option (List ℕ) → Result (Unit {0}) ScriptFault → Type 0
 Draws known old new (Ok u) =
-    IfSome known (λ bytes. (text : List ℕ) × (drawn : List ℕ) × (meaning bytes ≡ Ok text) × TellsLines text drawn × Appends old new drawn)
+    IfSome known (λ bytes. (text : List ℕ) × (drawn : List ℕ) × (script_meaning bytes ≡ Ok text) × TellsLines text drawn × Appends old new drawn)
 Draws known old new (Err WriteFailed) =
-    IfSome known (λ bytes. (text : List ℕ) × (drawn : List ℕ) × (count : ℕ) × (meaning bytes ≡ Ok text) × TellsLines text drawn
+    IfSome known (λ bytes. (text : List ℕ) × (drawn : List ℕ) × (count : ℕ) × (script_meaning bytes ≡ Ok text) × TellsLines text drawn
     × Appends old new (take count drawn))
 Draws known old new (Err fault) = Plays known old new (Err fault)

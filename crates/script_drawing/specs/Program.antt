@@ -9,8 +9,8 @@ use Rattle.script_drawing.specs.declared.drawing.Form.TheVariants.{Text, Svg, Ex
 use Rattle.script_drawing.specs.Drawing.{Draws}
 
 -- the line for arguments that are refused
-abbrev pub usage_line : List ℕ
-usage_line = lined (codes "usage: flow_draw [--text | --explain]")
+abbrev pub draw_usage_line : List ℕ
+draw_usage_line = lined (codes "usage: flow_draw [--text | --explain]")
 
 -- the form that the arguments ask for, which are none, `--text`, or `--explain`; `None` for any others
 abbrev pub form_of : {A : Type 0} → List (String A) → Option Form

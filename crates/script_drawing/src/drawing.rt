@@ -1,7 +1,7 @@
 //! The drawing of a script.
 ghost use Rattle.std.specs.Prelude.{IfOk, string_bytes};
-ghost use Rattle.flow_script.specs.Said.{said};
-ghost use Rattle.flow_script.specs.ScriptMeaning.{meaning, text_of};
+ghost use Rattle.flow_script.specs.Said.{all_said};
+ghost use Rattle.flow_script.specs.ScriptMeaning.{script_meaning, text_of};
 ghost use Rattle.script_drawing.specs.Drawing.{Pictures, TellsInOrder, TellsLines};
 ghost use Rattle.script_drawing.specs.Listing.{told};
 
@@ -78,7 +78,7 @@ fn pictured(
 
 /// Draws the script of these bytes, by its answers.
 fn drawn(alloc: Global, form: Form, bytes: &[u8], answers: &Answers) -> Result<String, ScriptFault>
-    ensures { IfOk result (λ drawn. TellsLines (text_of (said answers.now)) (string_bytes drawn)) }
+    ensures { IfOk result (λ drawn. TellsLines (text_of (all_said answers.now)) (string_bytes drawn)) }
 {
     // The reader has accepted these bytes, so only memory can be refused.
     let Ok(script) = Value::from_slice(alloc, bytes) else {
@@ -100,7 +100,7 @@ fn drawn(alloc: Global, form: Form, bytes: &[u8], answers: &Answers) -> Result<S
 
 /// Draws the script of these bytes, or returns why it is refused.
 pub fn drawing_of(alloc: Global, form: Form, bytes: &[u8]) -> Result<String, ScriptFault>
-    ensures { Pictures (meaning bytes.now) result }
+    ensures { Pictures (script_meaning bytes.now) result }
 {
     let answers = match answers_of(alloc, bytes) {
         Ok(answers) => answers,

@@ -1,13 +1,13 @@
 //! The lines of a text.
 ghost use Rattle.std.specs.Prelude.{◌≡◌, IfOk};
-ghost use Rattle.script_drawing.specs.Drawing.{lines_of};
+ghost use Rattle.script_drawing.specs.Drawing.{text_lines};
 ghost use Rattle.script_drawing.specs.Listing.{told};
 
 use std::alloc::{AllocError, Global};
 
 /// Returns the parts of a text between its line feeds.
 pub fn split_lines<'a>(alloc: Global, text: &'a str) -> Result<Vec<&'a str>, AllocError>
-    ensures { IfOk result (λ lines. told lines.items ≡ lines_of text.now) }
+    ensures { IfOk result (λ lines. told lines.items ≡ text_lines text.now) }
 {
     let mut lines = Vec::new(alloc);
     let mut rest = text;

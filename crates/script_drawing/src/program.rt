@@ -3,9 +3,9 @@ ghost use Rattle.std.specs.Prelude.{◌≡◌, ◌≢◌, false, IfSome, None};
 ghost use Rattle.flow_script.specs.Playing.{TakesWithin, is_read_failed, is_write_failed};
 ghost use Rattle.flow_script.specs.Telling.{Tells, memory_line};
 ghost use Rattle.flow_script.specs.Watching.{inner_of, has_failed};
-ghost use Rattle.flow_script.specs.ScriptMeaning.{meaning};
+ghost use Rattle.flow_script.specs.ScriptMeaning.{script_meaning};
 ghost use Rattle.script_drawing.specs.Drawing.{Draws, Pictures};
-ghost use Rattle.script_drawing.specs.Program.{RunsDrawing, form_of, usage_line};
+ghost use Rattle.script_drawing.specs.Program.{RunsDrawing, form_of, draw_usage_line};
 
 use crate::drawing::{Form, drawing_of};
 use flow_script::{
@@ -43,7 +43,7 @@ pub fn refuse_arguments<W: Write>(output: &mut Watched<W>, kind: ErrorKind) -> u
     ensures memory { kind ≡ ErrorKind.OutOfMemory → Tells (has_failed output.new)
         (W.contents (inner_of output.old)) (W.contents (inner_of output.new)) memory_line 4 result }
     ensures wrong { kind ≢ ErrorKind.OutOfMemory → Tells (has_failed output.new)
-        (W.contents (inner_of output.old)) (W.contents (inner_of output.new)) usage_line 2 result }
+        (W.contents (inner_of output.old)) (W.contents (inner_of output.new)) draw_usage_line 2 result }
 {
     tell_arguments(output, kind, USAGE)
 }
@@ -56,7 +56,7 @@ fn drawn_or_explained<E: Write>(
     bytes: &[u8],
     errors: &mut E,
 ) -> Result<String, ScriptFault>
-    ensures { Pictures (meaning bytes.now) result }
+    ensures { Pictures (script_meaning bytes.now) result }
 {
     match drawing_of(alloc, form, bytes) {
         Ok(drawn) => Ok(drawn),
@@ -134,7 +134,7 @@ pub fn run<R: Read, W: Write, E: Write>(
     requires reads { has_failed input.old ≡ false }
     requires writes { has_failed output.old ≡ false }
     ensures usage { form_of args.now ≡ None → Tells (has_failed output.new)
-        (W.contents (inner_of output.old)) (W.contents (inner_of output.new)) usage_line 2 result }
+        (W.contents (inner_of output.old)) (W.contents (inner_of output.new)) draw_usage_line 2 result }
     ensures unread { form_of args.now ≡ None → input.new ≡ input.old }
     ensures draws { IfSome (form_of args.now) (λ form. RunsDrawing
         (R.remaining (inner_of input.old)) (has_failed input.new) (has_failed output.new)

@@ -31,7 +31,7 @@ use Rattle.script_format.specs.NameForm.{name_at}
 use Rattle.script_format.specs.Format.{allows, verb_of}
 use Rattle.script_format.specs.Flows.{head_in}
 use Rattle.script_format.specs.Heads.{NamedHead, kind_at}
-use Rattle.script_chain_format.specs.SourceFormat.{numbers_of, whole_numbers}
+use Rattle.script_chain_format.specs.SourceFormat.{whole_numbers_of, whole_numbers}
 use Rattle.script_chain_format.specs.declared.reading.version.Version.{Version}
 use Rattle.script_chain_format.specs.declared.reading.version.Version.TheVariants.{One, Two}
 
@@ -63,12 +63,12 @@ abbrev pub is_known : List ℕ → NameLists → Bool
 is_known name names = list_any (λ known. bytes_eq name known) names.emissions || list_any (λ known. bytes_eq name known) names.subscribers
 
 -- the names with one more emission
-abbrev pub with_emission : List ℕ → NameLists → NameLists
-with_emission name names = record names { emissions = names.emissions ++ name ∷ [] }
+abbrev pub naming_emission : List ℕ → NameLists → NameLists
+naming_emission name names = record names { emissions = names.emissions ++ name ∷ [] }
 
 -- the names with one more subscriber
-abbrev pub with_subscriber : List ℕ → NameLists → NameLists
-with_subscriber name names = record names { subscribers = names.subscribers ++ name ∷ [] }
+abbrev pub naming_subscriber : List ℕ → NameLists → NameLists
+naming_subscriber name names = record names { subscribers = names.subscribers ++ name ∷ [] }
 
 -- the names that were introduced for the flow at a place
 abbrev pub names_at : ℕ → List NameLists → NameLists
@@ -80,11 +80,11 @@ introduced at name row after = if list_any (is_known name) row then Err (Duplica
 
 -- the names after a step that introduces an emission
 abbrev pub introduces_emission : ℕ → ℕ → List ℕ → List NameLists → Result (List NameLists) ScriptFault
-introduces_emission flow at name row = introduced at name row (slice_set row flow (with_emission name (names_at flow row)))
+introduces_emission flow at name row = introduced at name row (slice_set row flow (naming_emission name (names_at flow row)))
 
 -- the names after a step that introduces a subscriber
 abbrev pub introduces_subscriber : ℕ → ℕ → List ℕ → List NameLists → Result (List NameLists) ScriptFault
-introduces_subscriber flow at name row = introduced at name row (slice_set row flow (with_subscriber name (names_at flow row)))
+introduces_subscriber flow at name row = introduced at name row (slice_set row flow (naming_subscriber name (names_at flow row)))
 
 -- which emission of the flow at a place the name stands for; `UnknownName` unless an earlier step introduced it for this flow
 abbrev pub emission_at : ℕ → ℕ → List ℕ → List NameLists → Result ℕ ScriptFault
@@ -113,8 +113,8 @@ abbrev pub first_at : Data → Option Items
 first_at d = option_and_then (λ values. where_true (is_some (whole_numbers values)) (Some values)) (option_and_then as_array (get (codes "first") d))
 
 -- the expected value, and the value that replaces it
-abbrev pub pair_of : Data → Option (ℤ × ℤ)
-pair_of d = option_and_then (λ expect. option_map (λ update. (expect, update)) (i64_at (codes "update") d)) (i64_at (codes "expect") d)
+abbrev pub expected_and_new : Data → Option (ℤ × ℤ)
+expected_and_new d = option_and_then (λ expect. option_map (λ update. (expect, update)) (i64_at (codes "update") d)) (i64_at (codes "expect") d)
 
 -- the step with this verb, if its other keys have the right form
 abbrev pub written_by : FlowVerb → Data → Option Written
@@ -131,7 +131,7 @@ written_by Count d = Some (plain step.Count)
 written_by Reset d = Some (plain step.Reset)
 written_by Value d = Some (plain step.Value)
 written_by Set d = option_map (λ value. plain (step.Set value)) (i64_at (codes "value") d)
-written_by CompareAndSet d = option_map (λ pair. plain (step.CompareAndSet pair.0 pair.1)) (pair_of d)
+written_by CompareAndSet d = option_map (λ pair. plain (step.CompareAndSet pair.0 pair.1)) (expected_and_new d)
 written_by Turn d = option_map (λ now. plain (step.Turn now)) (u64_at (codes "at") d)
 
 -- a step, and the names that were introduced up to it
@@ -140,8 +140,8 @@ pub record Named : Type 0 where
   pub names : List NameLists
 
 -- the step, with these names after it
-abbrev pub named : List NameLists → Action → Named
-named names step = record { step = step; names = names }
+abbrev pub with_names : List NameLists → Action → Named
+with_names names step = record { step = step; names = names }
 
 -- the most first values of a subscriber
 abbrev pub most_first : ℕ
@@ -149,15 +149,15 @@ most_first = 10000
 
 -- the step on the flow at a place: first its limit is checked, then its name, among those that were introduced before it
 abbrev pub named_step : ℕ → ℕ → List NameLists → Written → Result Named ScriptFault
-named_step flow at names (plain s) = Ok (named names (on_flow flow s))
-named_step flow at names (emit name value) = result_map (λ after. named after (on_flow flow (step.Emit value))) (introduces_emission flow at name names)
-named_step flow at names (poll name) = result_map (λ place. named names (on_flow flow (step.Poll place))) (emission_at flow at name names)
-named_step flow at names (cancel name) = result_map (λ place. named names (on_flow flow (step.Cancel place))) (emission_at flow at name names)
-named_step flow at names (subscribe name) = result_map (λ after. named after (on_flow flow step.Subscribe)) (introduces_subscriber flow at name names)
+named_step flow at names (plain s) = Ok (with_names names (on_flow flow s))
+named_step flow at names (emit name value) = result_map (λ after. with_names after (on_flow flow (step.Emit value))) (introduces_emission flow at name names)
+named_step flow at names (poll name) = result_map (λ place. with_names names (on_flow flow (step.Poll place))) (emission_at flow at name names)
+named_step flow at names (cancel name) = result_map (λ place. with_names names (on_flow flow (step.Cancel place))) (emission_at flow at name names)
+named_step flow at names (subscribe name) = result_map (λ after. with_names after (on_flow flow step.Subscribe)) (introduces_subscriber flow at name names)
 named_step flow at names (subscribe_with name values) =
-    result_then (λ first. result_map (λ after. named after (action.subscribe_with flow first)) (introduces_subscriber flow at name names)) (numbers_of at most_first values)
-named_step flow at names (next name) = result_map (λ place. named names (on_flow flow (step.Next place))) (subscriber_at flow at name names)
-named_step flow at names (unsubscribe name) = result_map (λ place. named names (on_flow flow (step.Unsubscribe place))) (subscriber_at flow at name names)
+    result_then (λ first. result_map (λ after. with_names after (action.subscribe_with flow first)) (introduces_subscriber flow at name names)) (whole_numbers_of at most_first values)
+named_step flow at names (next name) = result_map (λ place. with_names names (on_flow flow (step.Next place))) (subscriber_at flow at name names)
+named_step flow at names (unsubscribe name) = result_map (λ place. with_names names (on_flow flow (step.Unsubscribe place))) (subscriber_at flow at name names)
 
 -- whether the flow has this name
 abbrev pub is_named : List ℕ → NamedHead → Bool
@@ -185,7 +185,7 @@ collected_in version at d = result_then (chain_in version at) (or_fault (BadShap
 -- a step by its verb: on a flow, or a collection
 abbrev pub step_by : Version → List NamedHead → Verb → ℕ → List NameLists → Data → Result Named ScriptFault
 step_by version flows (Flow verb) at names d = flow_step_by version flows verb at names d
-step_by version flows Collect at names d = result_map (λ build. named names (collect build)) (collected_in version at d)
+step_by version flows Collect at names d = result_map (λ build. with_names names (collect build)) (collected_in version at d)
 
 -- a step, and the names after it
 abbrev pub step_of : Version → List NamedHead → ℕ → List NameLists → Data → Result Named ScriptFault
@@ -240,7 +240,7 @@ value_result r = result_map view r
 
 -- a step that was read, with the names after it, or the fault
 abbrev pub named_result : Result Step ScriptFault → List NameLists → Result Named ScriptFault
-named_result r names = result_map (λ step. named names (action_of step)) r
+named_result r names = result_map (λ step. with_names names (action_of step)) r
 
 -- steps that were read, or the fault
 abbrev pub steps_result : Result (Vec Step Global) ScriptFault → Result (List Action) ScriptFault

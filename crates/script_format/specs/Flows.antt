@@ -27,14 +27,14 @@ abbrev pub named_flow : List ℕ → Data → Result NamedHead ScriptFault
 named_flow name d = if is_name name then result_map (λ flow. record { name = Some name; flow = flow }) (flow_in Two d) else Err (BadShape 0)
 
 -- the flows with one more; a bad form of any flow takes precedence over a limit of any
-abbrev pub with_flow : Result (List NamedHead) ScriptFault → Result NamedHead ScriptFault → Result (List NamedHead) ScriptFault
-with_flow (Ok flows) flow = result_map (λ f. flows ++ f ∷ []) flow
-with_flow (Err fault) flow = Err (first_fault fault flow)
+abbrev pub with_named_flow : Result (List NamedHead) ScriptFault → Result NamedHead ScriptFault → Result (List NamedHead) ScriptFault
+with_named_flow (Ok flows) flow = result_map (λ f. flows ++ f ∷ []) flow
+with_named_flow (Err fault) flow = Err (first_fault fault flow)
 
 -- these flows, and then those of the members
 abbrev pub flows_after : Result (List NamedHead) ScriptFault → Members → Result (List NamedHead) ScriptFault
 flows_after flows no_members = flows
-flows_after flows (member name d ms) = flows_after (with_flow flows (named_flow name d)) ms
+flows_after flows (member name d ms) = flows_after (with_named_flow flows (named_flow name d)) ms
 
 -- no flows yet, or `TooLarge` if a script may not have this many
 abbrev pub no_flows_of : ℕ → Result (List NamedHead) ScriptFault

@@ -16,8 +16,8 @@ use Rattle.script_format.specs.declared.verb.FlowVerb.TheVariants.{TryEmit, Emit
 use Rattle.script_chain_format.specs.Members.{u32_at, text_at, has_only, where_true}
 use Rattle.script_chain_format.specs.declared.reading.version.Version.{Version}
 use Rattle.script_chain_format.specs.declared.reading.version.Version.TheVariants.{One, Two}
-use Rattle.script_format.specs.declared.verb.Kind.{Kind}
-use Rattle.script_format.specs.declared.verb.Kind.TheVariants as kind
+use Rattle.script_format.specs.declared.verb.HeadKind.{HeadKind}
+use Rattle.script_format.specs.declared.verb.HeadKind.TheVariants as kind
 
 -- ---- the configuration of a flow
 
@@ -43,38 +43,38 @@ config_of d =
 -- ---- steps
 
 -- whether there is a flow
-abbrev pub is_flow : Kind → Bool
+abbrev pub is_flow : HeadKind → Bool
 is_flow kind.Absent = false
 is_flow _ = true
 
 -- whether the flow is a shared flow
-abbrev pub is_shared : Kind → Bool
+abbrev pub is_shared : HeadKind → Bool
 is_shared kind.Shared = true
 is_shared _ = false
 
 -- whether the flow is a state flow
-abbrev pub is_state : Kind → Bool
+abbrev pub is_state : HeadKind → Bool
 is_state kind.State = true
 is_state _ = false
 
 -- whether scripts emit into the flow
-abbrev pub is_mutable : Kind → Bool
+abbrev pub is_mutable : HeadKind → Bool
 is_mutable kind = is_shared kind || is_state kind
 
 -- whether the flow has one current value
-abbrev pub has_value : Kind → Bool
+abbrev pub has_value : HeadKind → Bool
 has_value kind.State = true
 has_value kind.StateIn = true
 has_value _ = false
 
 -- whether a chain is shared into the flow
-abbrev pub is_sharing : Kind → Bool
+abbrev pub is_sharing : HeadKind → Bool
 is_sharing kind.Share = true
 is_sharing kind.StateIn = true
 is_sharing _ = false
 
 -- whether a flow of this kind allows a step with this verb
-abbrev pub allows : FlowVerb → Kind → Bool
+abbrev pub allows : FlowVerb → HeadKind → Bool
 allows TryEmit kind = is_mutable kind
 allows Emit kind = is_shared kind
 allows Poll kind = is_shared kind

@@ -18,8 +18,8 @@ abbrev pub shared_parts_of : SharedChain → SharedParts
 shared_parts_of shared = record { chain = view shared.chain.now; started = shared.started; limit = shared.limit }
 
 -- those parts, with the value of one more key
-abbrev pub parts_of : {N : Type 0} → SharedChain × N → SharedParts × N
-parts_of parts = (shared_parts_of parts.0, parts.1)
+abbrev pub parts_with : {N : Type 0} → SharedChain × N → SharedParts × N
+parts_with parts = (shared_parts_of parts.0, parts.1)
 
 -- a flow that was read, or the fault
 abbrev pub flow_result : Result ScriptFlow ScriptFault → Result Head ScriptFault

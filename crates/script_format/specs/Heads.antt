@@ -13,8 +13,8 @@ use Rattle.script_chain_format.specs.declared.reading.fault.ScriptFault.{ScriptF
 use Rattle.script_chain_format.specs.declared.reading.fault.ScriptFault.TheVariants.{BadShape}
 use Rattle.script_chain_format.specs.declared.reading.version.Version.{Version}
 use Rattle.script_chain_format.specs.declared.reading.version.Version.TheVariants.{One, Two}
-use Rattle.script_format.specs.declared.verb.Kind.{Kind}
-use Rattle.script_format.specs.declared.verb.Kind.TheVariants as kind
+use Rattle.script_format.specs.declared.verb.HeadKind.{HeadKind}
+use Rattle.script_format.specs.declared.verb.HeadKind.TheVariants as kind
 use Rattle.script_chain_format.specs.Results.{result_then, result_map, or_fault}
 use Rattle.script_chain_format.specs.Members.{u64_at, u32_at, i64_at, text_at, has_only, where_true}
 use Rattle.script_format.specs.Format.{limit_at, config_of}
@@ -36,14 +36,14 @@ pub record NamedHead : Type 0 where
   pub flow : Head
 
 -- the kind of a flow
-abbrev pub kind_of : Head → Kind
+abbrev pub kind_of : Head → HeadKind
 kind_of (shared_flow config) = kind.Shared
 kind_of (state_flow initial limit) = kind.State
 kind_of (shared_chain build started replay limit) = kind.Share
 kind_of (state_chain build started initial limit) = kind.StateIn
 
 -- the kind of the flow at a place, or `Absent` if there is none
-abbrev pub kind_at : ℕ → List NamedHead → Kind
+abbrev pub kind_at : ℕ → List NamedHead → HeadKind
 kind_at place flows = option_map_or (λ named. kind_of named.flow) (slice_get flows place) kind.Absent
 
 -- a state flow: its first value, and the most numbers that it issues

@@ -13,8 +13,8 @@ abbrev pub lists_of : FlowNames → NameLists
 lists_of names = record { emissions = map (λ k. k.now) names.emissions.keys; subscribers = map (λ k. k.now) names.subscribers.keys }
 
 -- the names of each flow
-abbrev pub row_of : Names → List NameLists
-row_of names = map lists_of names.flows.items
+abbrev pub name_rows : Names → List NameLists
+name_rows names = map lists_of names.flows.items
 
 -- a step as it is written, in the definitions' terms
 abbrev pub written_of : Written → checks.Written

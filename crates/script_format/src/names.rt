@@ -3,7 +3,7 @@ ghost use Rattle.std.specs.Prelude.{◌≡◌, false, OnOk, IfOk, IfErr, map, re
 ghost use Rattle.std.specs.List.{list_any};
 ghost use Rattle.script_chain_format.specs.Results.{Gives, or_fault};
 ghost use Rattle.script_format.specs.Checks as checks;
-ghost use Rattle.script_format.specs.Names.{lists_of, row_of};
+ghost use Rattle.script_format.specs.Names.{lists_of, name_rows};
 
 use indexmap::IndexSet;
 use script_chain_format::ScriptFault;
@@ -47,7 +47,7 @@ impl<'a> FlowNames<'a> {
     fn add_emission(&mut self, name: &'a str) -> Result<(), ScriptFault>
         requires { checks.is_known name.now (lists_of self.old) ≡ false }
         ensures added { OnOk result
-            (lists_of self.new ≡ checks.with_emission name.now (lists_of self.old)) }
+            (lists_of self.new ≡ checks.naming_emission name.now (lists_of self.old)) }
         ensures fault { IfErr result (λ fault. fault ≡ ScriptFault.OutOfMemory) }
     {
         self.emissions.insert(name)?;
@@ -57,7 +57,7 @@ impl<'a> FlowNames<'a> {
     fn add_subscriber(&mut self, name: &'a str) -> Result<(), ScriptFault>
         requires { checks.is_known name.now (lists_of self.old) ≡ false }
         ensures added { OnOk result
-            (lists_of self.new ≡ checks.with_subscriber name.now (lists_of self.old)) }
+            (lists_of self.new ≡ checks.naming_subscriber name.now (lists_of self.old)) }
         ensures fault { IfErr result (λ fault. fault ≡ ScriptFault.OutOfMemory) }
     {
         self.subscribers.insert(name)?;
@@ -74,7 +74,7 @@ pub struct Names<'a> {
 impl<'a> Names<'a> {
     /// Returns no names, for a script of `count` flows.
     pub fn new(alloc: Global, count: usize) -> Result<Self, ScriptFault>
-        ensures none { IfOk result (λ names. row_of names ≡ replicate count checks.no_names) }
+        ensures none { IfOk result (λ names. name_rows names ≡ replicate count checks.no_names) }
         ensures fault { IfErr result (λ fault. fault ≡ ScriptFault.OutOfMemory) }
     {
         let mut flows = Vec::new(alloc);
@@ -86,7 +86,7 @@ impl<'a> Names<'a> {
 
     /// Returns which emission of a flow the name stands for.
     pub fn emission(&self, flow: usize, at: u64, name: &str) -> Result<usize, ScriptFault>
-        ensures { Gives (checks.emission_at flow at name.now (row_of self.now)) result }
+        ensures { Gives (checks.emission_at flow at name.now (name_rows self.now)) result }
     {
         match self.flows.get(flow) {
             Some(names) => place_in(&names.emissions, at, name),
@@ -96,7 +96,7 @@ impl<'a> Names<'a> {
 
     /// Returns which subscriber of a flow the name stands for.
     pub fn subscriber(&self, flow: usize, at: u64, name: &str) -> Result<usize, ScriptFault>
-        ensures { Gives (checks.subscriber_at flow at name.now (row_of self.now)) result }
+        ensures { Gives (checks.subscriber_at flow at name.now (name_rows self.now)) result }
     {
         match self.flows.get(flow) {
             Some(names) => place_in(&names.subscribers, at, name),
@@ -105,7 +105,7 @@ impl<'a> Names<'a> {
     }
 
     fn is_known(&self, name: &str) -> bool
-        ensures { result ≡ list_any (checks.is_known name.now) (row_of self.now) }
+        ensures { result ≡ list_any (checks.is_known name.now) (name_rows self.now) }
     {
         for names in &self.flows {
             if names.is_known(name) {
@@ -116,8 +116,8 @@ impl<'a> Names<'a> {
     }
 
     pub fn add_emission(&mut self, flow: usize, at: u64, name: &'a str) -> Result<(), ScriptFault>
-        ensures { Gives (checks.introduces_emission flow at name.now (row_of self.old))
-            (checks.then_names result (row_of self.new)) }
+        ensures { Gives (checks.introduces_emission flow at name.now (name_rows self.old))
+            (checks.then_names result (name_rows self.new)) }
     {
         if self.is_known(name) {
             return Err(ScriptFault::DuplicateName(at));
@@ -129,8 +129,8 @@ impl<'a> Names<'a> {
     }
 
     pub fn add_subscriber(&mut self, flow: usize, at: u64, name: &'a str) -> Result<(), ScriptFault>
-        ensures { Gives (checks.introduces_subscriber flow at name.now (row_of self.old))
-            (checks.then_names result (row_of self.new)) }
+        ensures { Gives (checks.introduces_subscriber flow at name.now (name_rows self.old))
+            (checks.then_names result (name_rows self.new)) }
     {
         if self.is_known(name) {
             return Err(ScriptFault::DuplicateName(at));

@@ -46,7 +46,7 @@ fn with_flow(
 ) -> Result<Vec<NamedFlow>, ScriptFault>
     ensures { (m : Result (List NamedHead) TheScriptFault) (o : Result NamedHead TheScriptFault)
         → Gives m (flows_result flows) → Gives o (named_flow_result flow)
-        → Gives (row.with_flow m o) (flows_result result) }
+        → Gives (row.with_named_flow m o) (flows_result result) }
 {
     match flows {
         Ok(flows) => pushed(flows, flow?),

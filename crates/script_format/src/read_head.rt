@@ -12,7 +12,7 @@ use crate::read_config::{config_of, limit_at};
 use crate::read_flows::named_flows;
 use crate::read_share::{share_in, state_in};
 use crate::script::{NamedFlow, ScriptFlow};
-use crate::verb::Kind;
+use crate::verb::HeadKind;
 use script_chain_format::{ScriptFault, Version, has_only, i64_at, text_at};
 use serde_json::Value;
 use std::alloc::Global;
@@ -112,24 +112,24 @@ fn only_in(alloc: Global, flow: &Value) -> Result<Vec<NamedFlow>, ScriptFault>
 }
 
 /// Returns the kind of a flow, which decides what steps it allows.
-fn kind_of(flow: &ScriptFlow) -> Kind
+fn kind_of(flow: &ScriptFlow) -> HeadKind
     ensures { result ≡ heads.kind_of (head_of_flow flow.now) }
 {
     match flow {
-        ScriptFlow::Shared(_) => Kind::Shared,
-        ScriptFlow::State { .. } => Kind::State,
-        ScriptFlow::Share { .. } => Kind::Share,
-        ScriptFlow::StateIn { .. } => Kind::StateIn,
+        ScriptFlow::Shared(_) => HeadKind::Shared,
+        ScriptFlow::State { .. } => HeadKind::State,
+        ScriptFlow::Share { .. } => HeadKind::Share,
+        ScriptFlow::StateIn { .. } => HeadKind::StateIn,
     }
 }
 
 /// Returns the kind of the flow at a place, or `Absent` if there is none.
-pub fn kind_at(flows: &[NamedFlow], place: usize) -> Kind
+pub fn kind_at(flows: &[NamedFlow], place: usize) -> HeadKind
     ensures { result ≡ heads.kind_at place (heads_of flows.now) }
 {
     match flows.get(place) {
         Some(named) => kind_of(&named.flow),
-        None => Kind::Absent,
+        None => HeadKind::Absent,
     }
 }
 

@@ -3,7 +3,7 @@ ghost use Rattle.std.specs.Prelude.{◌≡◌, map, option_map};
 ghost use Rattle.serde_json.specs.View.{view};
 ghost use Rattle.script_format.specs.Heads as heads;
 ghost use Rattle.script_chain_format.specs.Results.{Gives};
-ghost use Rattle.script_format.specs.HeadViews.{flow_result, parts_of, shared_parts_of};
+ghost use Rattle.script_format.specs.HeadViews.{flow_result, parts_with, shared_parts_of};
 
 use crate::read_config::limit_at;
 use crate::script::ScriptFlow;
@@ -104,7 +104,7 @@ fn shared_chain<'a>(version: Version, keys: &[&str], flow: &'a Value) -> Option<
 
 /// Returns the shared chain, and how many values are replayed.
 fn share_parts(version: Version, flow: &Value) -> Option<(SharedChain<'_>, u32)>
-    ensures { option_map parts_of result ≡ heads.share_parts version (view flow.now) }
+    ensures { option_map parts_with result ≡ heads.share_parts version (view flow.now) }
 {
     let shared = shared_chain(version, SHARE_KEYS, flow)?;
     let replay = u32_at(flow, "replay")?;
@@ -129,7 +129,7 @@ pub fn share_in(alloc: Global, version: Version, flow: &Value) -> Result<ScriptF
 
 /// Returns the shared chain, and the first value.
 fn state_in_parts(version: Version, flow: &Value) -> Option<(SharedChain<'_>, i64)>
-    ensures { option_map parts_of result ≡ heads.state_in_parts version (view flow.now) }
+    ensures { option_map parts_with result ≡ heads.state_in_parts version (view flow.now) }
 {
     let shared = shared_chain(version, STATE_IN_KEYS, flow)?;
     let initial = i64_at(flow, "initial")?;

@@ -5,7 +5,7 @@ ghost use Rattle.script_chain_format.specs.Results.{Gives};
 ghost use Rattle.script_format.specs.Actions.{heads_of};
 ghost use Rattle.script_format.specs.Format as format;
 ghost use Rattle.script_format.specs.Checks as checks;
-ghost use Rattle.script_format.specs.Names.{row_of, written_of};
+ghost use Rattle.script_format.specs.Names.{name_rows, written_of};
 ghost use Rattle.script_chain_format.specs.Chains.{build_result};
 
 use crate::names::Names;
@@ -52,8 +52,8 @@ fn named_step<'a>(
     at: u64,
     written: Written<'a>,
 ) -> Result<Step, ScriptFault>
-    ensures { Gives (checks.named_step flow at (row_of names.old) (written_of written.entry))
-        (checks.named_result result (row_of names.new)) }
+    ensures { Gives (checks.named_step flow at (name_rows names.old) (written_of written.entry))
+        (checks.named_result result (name_rows names.new)) }
 {
     match written {
         Written::Plain(step) => Ok(Step::Flow(flow, step)),
@@ -101,8 +101,8 @@ fn flow_step<'a>(
 ) -> Result<Step, ScriptFault>
     ensures { Gives
         (checks.flow_step_by version
-        (heads_of flows.now) verb at (row_of names.old) (view step.now))
-        (checks.named_result result (row_of names.new)) }
+        (heads_of flows.now) verb at (name_rows names.old) (view step.now))
+        (checks.named_result result (name_rows names.new)) }
 {
     let Some(written) = written_by(verb, step) else {
         return Err(ScriptFault::BadShape(at));
@@ -139,8 +139,8 @@ pub fn step_of<'a>(
     step: &'a Value,
 ) -> Result<Step, ScriptFault>
     ensures { Gives
-        (checks.step_of version (heads_of flows.now) at (row_of names.old) (view step.now))
-        (checks.named_result result (row_of names.new)) }
+        (checks.step_of version (heads_of flows.now) at (name_rows names.old) (view step.now))
+        (checks.named_result result (name_rows names.new)) }
 {
     let Some(verb) = verb_of(version, step) else {
         return Err(ScriptFault::BadShape(at));

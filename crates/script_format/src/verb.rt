@@ -6,7 +6,7 @@ use script_chain_format::Version;
 
 /// The kind of flow that a step acts on.
 #[derive(Clone, Copy)]
-pub enum Kind {
+pub enum HeadKind {
     /// There is no flow.
     Absent,
     Shared,
@@ -146,7 +146,7 @@ fn behind_first(keys: &'static [&'static str]) -> &'static [&'static str]
     rest
 }
 
-impl Kind {
+impl HeadKind {
     /// Returns whether a flow of this kind allows a step with this verb.
     pub fn allows(self, verb: FlowVerb) -> bool
         ensures { result ≡ format.allows verb self }
@@ -173,7 +173,7 @@ impl Kind {
     fn is_flow(self) -> bool
         ensures { result ≡ format.is_flow self }
     {
-        !matches!(self, Kind::Absent)
+        !matches!(self, HeadKind::Absent)
     }
 
     /// Returns whether scripts emit into a flow of this kind.
@@ -186,26 +186,26 @@ impl Kind {
     fn is_shared(self) -> bool
         ensures { result ≡ format.is_shared self }
     {
-        matches!(self, Kind::Shared)
+        matches!(self, HeadKind::Shared)
     }
 
     fn is_state(self) -> bool
         ensures { result ≡ format.is_state self }
     {
-        matches!(self, Kind::State)
+        matches!(self, HeadKind::State)
     }
 
     /// Returns whether a flow of this kind has one current value.
     fn has_value(self) -> bool
         ensures { result ≡ format.has_value self }
     {
-        matches!(self, Kind::State | Kind::StateIn)
+        matches!(self, HeadKind::State | HeadKind::StateIn)
     }
 
     /// Returns whether a chain is shared into a flow of this kind.
     fn is_sharing(self) -> bool
         ensures { result ≡ format.is_sharing self }
     {
-        matches!(self, Kind::Share | Kind::StateIn)
+        matches!(self, HeadKind::Share | HeadKind::StateIn)
     }
 }

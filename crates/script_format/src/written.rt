@@ -57,7 +57,7 @@ fn subscribe_with_of(step: &Value) -> Option<Written<'_>>
 
 /// Returns the expected value, and the value that replaces it.
 fn pair_of(step: &Value) -> Option<(i64, i64)>
-    ensures { result ≡ checks.pair_of (view step.now) }
+    ensures { result ≡ checks.expected_and_new (view step.now) }
 {
     let expect = i64_at(step, "expect")?;
     let update = i64_at(step, "update")?;

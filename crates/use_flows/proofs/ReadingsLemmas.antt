@@ -9,7 +9,7 @@ use Rattle.flow_law.specs.declared.call.SharedReply.TheVariants as reply
 use Rattle.flow_law.specs.declared.fault.FlowFault.{FlowFault}
 use Rattle.flow_law.specs.declared.fault.FlowFault.TheVariants.{Exhausted}
 use Rattle.flow_core.specs.SharedCore.{cache_reply}
-use Rattle.flow_law.specs.SharedFlow.{Answer, answer, issuing, is_exhausted, cache_start, values, cache}
+use Rattle.flow_law.specs.SharedFlow.{Replied, answer, issuing, is_exhausted, cache_start, values, cache}
 use Rattle.flow_law.specs.EmitRule.{emit_case, appends, append, numbered, try_emit, try_emit_in}
 use Rattle.flow_law.specs.SharedHistory.{Replies, after, reply_by}
 use Rattle.flow_law.specs.Standing.{Core, StandsFor, least_position, first_needed}
@@ -61,7 +61,7 @@ module _ {T : Type 0} where
       let replied : reply.Tested b ≡ reply_by reply.Tested (issued (is_exhausted s)).reply = said ∙ ap (λ a. reply_by reply.Tested a.reply) opened in
       ap (λ a. a.after) opened ∙ left (is_exhausted s) replied
     where
-      issued : Bool → Answer Bool T
+      issued : Bool → Replied Bool T
       issued t = if t then record { reply = Err Exhausted; after = s } else answer true (append x s)
 
       tested : Bool → SharedReply T

@@ -23,8 +23,8 @@ module _ {T : Type 0} where
     pub whole : s.reset_mark ≡ 0
 
   -- the core stands for a flow that has no subscriber and was never reset
-  abbrev pub KeepsReadings : Core T → Type 0
-  KeepsReadings core = (s : SharedFlowState T) × StandsFor core s × IsUnread s
+  abbrev pub KeepsMeasured : Core T → Type 0
+  KeepsMeasured core = (s : SharedFlowState T) × StandsFor core s × IsUnread s
 
   -- the readings of such a core: all values that it holds, which are its replay cache
   abbrev pub latest_of : Core T → Latest T

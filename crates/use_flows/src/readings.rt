@@ -14,13 +14,13 @@ pub struct Readings<T: FlowValue> {
 }
 
 impl<T: FlowValue> Model for Readings<T> {
-    ghost use Rattle.use_flows.specs.Readings.{Latest, latest_of, KeepsReadings};
+    ghost use Rattle.use_flows.specs.Readings.{Latest, latest_of, KeepsMeasured};
 
     ghost Value = { Latest T };
 
     ghost view = { λ r. latest_of r.flow };
 
-    ghost invariant = { λ r. KeepsReadings r.flow };
+    ghost invariant = { λ r. KeepsMeasured r.flow };
 }
 
 impl<T: FlowValue> Readings<T> {

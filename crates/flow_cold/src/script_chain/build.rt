@@ -2,7 +2,7 @@
 ghost use Rattle.std.specs.Prelude.{◌≡◌, ◌≤◌, ⊤, ℕ, ℤ, IfOk, IfErr, MatchResult};
 ghost use Rattle.flow_law.specs.Chain.{meaning_of};
 ghost use Rattle.flow_law.specs.ChainRun.{ChainRun, asks};
-ghost use Rattle.flow_cold.specs.Build.{AddsDepth, Refuses, RefusesDepth, TakesNone, depth_of, op_depth, op_meaning, op_rest, op_whole};
+ghost use Rattle.flow_cold.specs.Build.{AddsDepth, RefusesOp, RefusesDepth, TakesNone, depth_of, op_depth, op_meaning, op_rest, op_whole};
 ghost use Rattle.flow_cold.specs.Part.{part_depth, part_rest, part_whole};
 ghost use Rattle.flow_cold.specs.ScriptChain.{IsNodeOver, NodeAsksBehind, node_depth, node_rest, node_whole};
 ghost use Rattle.flow_cold.specs.Sources.{source_rest, source_whole};
@@ -148,7 +148,7 @@ impl ScriptChain {
         ensures rest { IfOk result (λ chain. ⟦<ScriptChain as Cold>⟧.rest chain tt
             ≡ op_rest op (⟦<ScriptChain as Cold>⟧.rest self tt)) }
         ensures depth { MatchResult result (λ chain. AddsDepth op (depth_of self) (depth_of chain))
-            (Refuses op self) }
+            (RefusesOp op self) }
     {
         let depth = op.depth_on(self.depth)?;
         let upstream = match Box::new(alloc, self.into_node()) {

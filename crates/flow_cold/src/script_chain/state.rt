@@ -3,7 +3,7 @@ ghost use Rattle.std.specs.Ordering.{int_eq};
 ghost use Rattle.std.specs.Prelude.{◌≡◌, ◌≢◌, suc, ℤ, Some, Err};
 ghost use Rattle.flow_law.specs.ChainRun.{ChainRun, gives};
 ghost use Rattle.flow_law.specs.OperatorRuns.{distinct_run, drop_run, scan_run, take_run, transform_run};
-ghost use Rattle.flow_operators.specs.Behind.{after_ask, after_distinct, after_drop, after_scan, after_transform};
+ghost use Rattle.flow_operators.specs.Behind.{rest_after_ask, after_distinct, after_drop, after_scan, after_transform};
 ghost use Rattle.flow_cold.specs.Numbers.{computed, sums};
 ghost use Rattle.flow_cold.specs.OperatorAsks.{HeldLeaves, StepLeaves, after_adding};
 ghost use Rattle.flow_cold.specs.Operators.{HeldGives, StepGives, adding_rest, after_number, after_step, scanning_rest};
@@ -165,7 +165,7 @@ impl Scanning {
             (after_number result (scanning_rest self.new r)
             (scan_run (computed self.new.by) self.new.last r)) }
         ensures behind { (r : ChainRun ℤ) →
-            HeldLeaves (after_scan self.old.begun r) result r (after_ask r) }
+            HeldLeaves (after_scan self.old.begun r) result r (rest_after_ask r) }
         ensures given { result ≢ Some (Err ChainFault.OutOfMemory) }
     {
         if self.begun {

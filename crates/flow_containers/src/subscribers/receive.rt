@@ -1,7 +1,7 @@
 //! The next value of a subscriber, by one look-up.
 ghost use Rattle.std.specs.Prelude.{◌≡◌, ◌-◌, ◌≤◌, length, IfSome, IsOk};
 ghost use Rattle.flow_law.specs.SharedFlow as flow;
-ghost use Rattle.flow_containers.specs.Receiving.{Receives};
+ghost use Rattle.flow_containers.specs.Receiving.{SubscriberReceives};
 
 use crate::subscribers::Subscribers;
 use circular_buffer::HeapCircularBuffer;
@@ -34,7 +34,7 @@ impl<T: FlowValue, A: Allocator> Subscribers<T, A> {
         requires held { length values.now.items ≤ self.old.emitted }
         requires kept { IfSome (flow.position_of number self.old.list)
             (λ position. self.old.emitted - length values.now.items ≤ position) }
-        ensures receives { Receives number values.now.items self.old result self.new }
+        ensures receives { SubscriberReceives number values.now.items self.old result self.new }
         ensures given { T.IsAlwaysCopied → IsOk result }
     {
         let Some(row) = self.members.get_mut(number, key) else {

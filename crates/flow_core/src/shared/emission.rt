@@ -9,7 +9,7 @@ ghost use Rattle.flow_law.specs.Sleeping.{first_waiting};
 ghost use Rattle.flow_law.specs.declared.states.SharedFlowState.{SharedFlowState};
 ghost use Rattle.flow_law.specs.declared.call.SharedCall.TheVariants as call;
 ghost use Rattle.flow_law.specs.declared.call.SharedReply.TheVariants as reply;
-ghost use Rattle.flow_core.specs.SharedCore.{try_emit_reply, emit_reply, case_of, kept_full, pushed, dropped, MayAppend, Shows, Leads, Keeps, Reaches, IsExhausted, RefusedFor};
+ghost use Rattle.flow_core.specs.SharedCore.{try_emit_reply, emit_reply, case_of, kept_full, pushed, dropped, MayAppend, CoreShows, Leads, Keeps, CoreReaches, IsExhausted, RefusedFor};
 
 use super::SharedCore;
 use flow_law::{Emit, FlowFault, FlowValue, Overflow, Refused};
@@ -28,7 +28,7 @@ enum EmitCase {
 impl<T: FlowValue, A: Allocator + Copy> SharedCore<T, A> {
     fn emit_case(&self) -> EmitCase
         ensures found { MayAppend result self.now }
-        ensures shown { Shows self.now rule.emit_case (case_of result) }
+        ensures shown { CoreShows self.now rule.emit_case (case_of result) }
     {
         if self.subscribers.len() == 0 {
             return EmitCase::Appends;
@@ -77,7 +77,7 @@ impl<T: FlowValue, A: Allocator + Copy> SharedCore<T, A> {
             (self.old.config.overflow ≡ Overflow.DropOldest) }
         ensures { MatchResult result
             (λ number. (number ≡ self.old.issued + 1) × (self.old.issued ≢ self.old.config.limit) ×
-            Reaches self.old (λ s. rule.drop_oldest (rule.append value s)) self.new)
+            CoreReaches self.old (λ s. rule.drop_oldest (rule.append value s)) self.new)
             (λ refused. (refused.value ≡ value) ×
             (self.new ≡ self.old) × IsExhausted refused.fault self.old) }
     {
@@ -191,7 +191,7 @@ impl<T: FlowValue, A: Allocator + Copy> SharedCore<T, A> {
 
     fn is_offered_as(&self, number: u64) -> bool
         ensures own { OnTrue result (self.now.config.replay + self.now.config.extra ≡ 0) }
-        ensures shown { Shows self.now (flow.is_offered_as number) result }
+        ensures shown { CoreShows self.now (flow.is_offered_as number) result }
     {
         self.is_offering() && self.newest == number
     }

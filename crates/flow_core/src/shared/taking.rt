@@ -4,7 +4,7 @@ ghost use Rattle.std.specs.Vec.{vec_len, vec_capacity};
 ghost use Rattle.flow_law.specs.Draining.{DrainsBy};
 ghost use Rattle.flow_law.specs.declared.outcome.Drained.TheVariants.{Most};
 ghost use Rattle.flow_core.specs.SubId.{number_of};
-ghost use Rattle.flow_core.specs.SharedCore.{Nexts};
+ghost use Rattle.flow_core.specs.SharedCore.{SharedCoreNexts};
 
 use super::SharedCore;
 use crate::sub_id::SubId;
@@ -23,7 +23,7 @@ impl<T: FlowValue, A: Allocator + Copy> SharedCore<T, A> {
         values: &mut Vec<T, B>,
     ) -> usize
         ensures most { result ≤ most }
-        ensures taken { DrainsBy (Nexts (number_of id)) result
+        ensures taken { DrainsBy (SharedCoreNexts (number_of id)) result
             self.old values.old.items (Ok Most) values.new.items self.new }
         ensures room { (vec_len values.new ≡ vec_len values.old + result) ×
             (vec_capacity values.old ≤ vec_capacity values.new) }

@@ -3,7 +3,7 @@ ghost use Rattle.std.specs.Prelude.{◌≡◌, ◌≢◌, ◌⊎◌, ◌<◌, tr
 ghost use Rattle.flow_law.specs.declared.chain.ChainFault.TheVariants.{OutOfMemory};
 ghost use Rattle.flow_operators.specs.Asking.{IsFinal};
 ghost use Rattle.flow_operators.specs.Pairs.{AsksSides, PairGives};
-ghost use Rattle.flow_operators.specs.Pairs.{is_over, left_chain, most_pairs, right_chain};
+ghost use Rattle.flow_operators.specs.Pairs.{is_zip_over, left_chain, most_pairs, right_chain};
 ghost use Rattle.flow_operators.specs.Upstreams.{WithAnswer};
 
 use crate::cold::{Asked, Cold};
@@ -35,23 +35,23 @@ impl<L: Cold, R: Cold> Pairs<L, R, L::Item> {
         ensures gives { (m : L.Reading) (n : R.Reading) →
             L.Reads (left_chain self.old) m → R.Reads (right_chain self.old) n
             → PairGives (λ c. L.rest c m) (λ c. R.rest c n) self.old result self.new }
-        ensures runs { IfOk result (λ _. is_over self.new ≡ false) }
+        ensures runs { IfOk result (λ _. is_zip_over self.new ≡ false) }
         ensures fewer { IfOk result (λ _. most_pairs L.most_asks R.most_asks self.new
             < most_pairs L.most_asks R.most_asks self.old) }
         ensures pends { IfErr result (λ asked.
             IsFinal asked ⊎ most_pairs L.most_asks R.most_asks self.new
             < most_pairs L.most_asks R.most_asks self.old) }
-        ensures over { IfErr result (λ asked. IsFinal asked → is_over self.new ≡ true) }
+        ensures over { IfErr result (λ asked. IsFinal asked → is_zip_over self.new ≡ true) }
         ensures given { L.IsGiven (left_chain self.old) → R.IsGiven (right_chain self.old)
             → IfErr result (λ asked. asked ≢ Asked.Fault OutOfMemory) }
         ensures left_lasting { L.IsGiven (left_chain self.old) → L.IsGiven (left_chain self.new) }
         ensures right_lasting { R.IsGiven (right_chain self.old)
             → R.IsGiven (right_chain self.new) }
-        ensures behind { (¬ (is_over self.old ≡ true)) → (m : L.Reading) (n : R.Reading)
+        ensures behind { (¬ (is_zip_over self.old ≡ true)) → (m : L.Reading) (n : R.Reading)
             → L.Reads (left_chain self.old) m → R.Reads (right_chain self.old) n
             → WithAnswer result (λ asked.
             AsksSides (λ c. L.rest c m) (λ c. R.rest c n) self.old asked self.new) }
-        ensures end { is_over self.old ≡ true → (result ≡ Err Asked.End) × self.new ≡ self.old }
+        ensures end { is_zip_over self.old ≡ true → (result ≡ Err Asked.End) × self.new ≡ self.old }
     {
         if self.left.ended {
             return Err(Asked::End);

@@ -2,7 +2,7 @@
 ghost use Rattle.std.specs.Prelude.{◌≡◌, ◌≢◌, ◌⊎◌, ◌<◌, true, false, None, IfOk, IfErr};
 ghost use Rattle.flow_operators.specs.Asking.{IsFinal};
 ghost use Rattle.flow_operators.specs.Results.{AsksScanned, KeepsResult, ResultGives};
-ghost use Rattle.flow_operators.specs.Results.{initial_of, is_over, last_of, most_results, scanned};
+ghost use Rattle.flow_operators.specs.Results.{initial_of, is_scan_over, last_result, most_results, scanned};
 ghost use Rattle.flow_operators.specs.Upstreams.{WithAnswer};
 
 use crate::cold::{Asked, Cold};
@@ -21,8 +21,8 @@ impl<C: Cold, U: FlowValue> Results<C, U> {
     pub(crate) fn new(upstream: C, initial: U) -> Self
         ensures chain { scanned result ≡ upstream }
         ensures initial { initial_of result ≡ initial }
-        ensures last { last_of result ≡ None }
-        ensures over { is_over result ≡ false }
+        ensures last { last_result result ≡ None }
+        ensures over { is_scan_over result ≡ false }
     {
         Results {
             upstream: Upstream::new(upstream),
@@ -43,19 +43,19 @@ impl<C: Cold, U: FlowValue> Results<C, U> {
         ensures initial { initial_of self.new ≡ initial_of self.old }
         ensures gives { (m : C.Reading) → C.Reads (scanned self.old) m
             → ResultGives (λ c. C.rest c m) self.old result self.new }
-        ensures runs { IfOk result (λ _. is_over self.new ≡ false) }
+        ensures runs { IfOk result (λ _. is_scan_over self.new ≡ false) }
         ensures fewer { IfOk result (λ _.
             C.most_asks (scanned self.new) < most_results C.most_asks self.old) }
         ensures pends { IfErr result (λ asked. IsFinal asked
             ⊎ most_results C.most_asks self.new < most_results C.most_asks self.old) }
-        ensures over { IfErr result (λ asked. IsFinal asked → is_over self.new ≡ true) }
+        ensures over { IfErr result (λ asked. IsFinal asked → is_scan_over self.new ≡ true) }
         ensures given { C.IsGiven (scanned self.old) → U.IsAlwaysCopied
             → IfErr result (λ asked. asked ≢ Asked.Fault ChainFault.OutOfMemory) }
         ensures lasting { C.IsGiven (scanned self.old) → C.IsGiven (scanned self.new) }
-        ensures behind { (¬ (is_over self.old ≡ true)) →
+        ensures behind { (¬ (is_scan_over self.old ≡ true)) →
             (m : C.Reading) → C.Reads (scanned self.old) m
             → WithAnswer result (λ asked. AsksScanned (λ c. C.rest c m) self.old asked self.new) }
-        ensures end { is_over self.old ≡ true → (result ≡ Err Asked.End) × self.new ≡ self.old }
+        ensures end { is_scan_over self.old ≡ true → (result ≡ Err Asked.End) × self.new ≡ self.old }
     {
         if self.upstream.ended {
             return Err(Asked::End);
@@ -77,13 +77,13 @@ impl<C: Cold, U: FlowValue> Results<C, U> {
 
     /// Answers what was made of an item, and keeps a copy of it as the last result. A fault ends the chain.
     pub(crate) fn keep(&mut self, made: Result<U, ChainFault>) -> Asked<U>
-        requires { is_over self.old ≡ false }
+        requires { is_scan_over self.old ≡ false }
         ensures keeps { KeepsResult made result self.new }
         ensures chain { scanned self.new ≡ scanned self.old }
         ensures initial { initial_of self.new ≡ initial_of self.old }
         ensures given { U.IsAlwaysCopied → made ≢ Err ChainFault.OutOfMemory
             → result ≢ Asked.Fault ChainFault.OutOfMemory }
-        ensures over { IsFinal result → is_over self.new ≡ true }
+        ensures over { IsFinal result → is_scan_over self.new ≡ true }
     {
         match made {
             Ok(next) => match next.try_copy() {
@@ -108,8 +108,8 @@ impl<C: Cold, U: FlowValue> Results<C, U> {
         ensures rest { (m : C.Reading)
             → C.rest (scanned self.new) m ≡ C.whole (scanned self.old) m }
         ensures initial { initial_of self.new ≡ initial_of self.old }
-        ensures last { last_of self.new ≡ None }
-        ensures over { is_over self.new ≡ false }
+        ensures last { last_result self.new ≡ None }
+        ensures over { is_scan_over self.new ≡ false }
     {
         self.last = None;
         self.upstream.rewind();

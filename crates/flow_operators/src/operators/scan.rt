@@ -5,7 +5,7 @@ ghost use Rattle.flow_law.specs.ChainRun.{gives};
 ghost use Rattle.flow_law.specs.Chain.{scan_meaning, meaning_of};
 ghost use Rattle.flow_law.specs.OperatorRuns.{scan_run};
 ghost use Rattle.flow_operators.specs.Closures.{ComputesPairs, NeverRefusesPairs};
-ghost use Rattle.flow_operators.specs.Results.{AsksScanned, initial_of, is_over, most_results, results_rest, scanned};
+ghost use Rattle.flow_operators.specs.Results.{AsksScanned, initial_of, is_scan_over, most_results, results_rest, scanned};
 ghost use Rattle.std.proofs.Common.{arith};
 ghost use Rattle.std.proofs.lemmas.Grind.{common_steps};
 
@@ -45,7 +45,7 @@ where
 
     ghost limit = { C.limit + 1 };
 
-    ghost IsOver = { λ s. is_over s.results ≡ true };
+    ghost IsOver = { λ s. is_scan_over s.results ≡ true };
 
     ghost IsGiven = { λ s. C.IsGiven (scanned s.results)
         × NeverRefusesPairs (F.post s.closure) × U.IsAlwaysCopied };

@@ -4,7 +4,7 @@ ghost use Rattle.flow_law.specs.declared.chain.ChainFault.{ChainFault};
 ghost use Rattle.flow_law.specs.Chain.{zip_meaning, meaning_of};
 ghost use Rattle.flow_law.specs.OperatorRuns.{zip_run};
 ghost use Rattle.flow_operators.specs.Closures.{ComputesPairs, NeverRefusesPairs};
-ghost use Rattle.flow_operators.specs.Pairs.{AsksSides, is_over, left_chain, most_pairs, pairs_rest, right_chain};
+ghost use Rattle.flow_operators.specs.Pairs.{AsksSides, is_zip_over, left_chain, most_pairs, pairs_rest, right_chain};
 ghost use Rattle.std.proofs.Common.{arith};
 
 use crate::cold::{Asked, Cold};
@@ -53,7 +53,7 @@ where
 
     ghost limit = { L.limit + R.limit };
 
-    ghost IsOver = { λ s. is_over s.pairs ≡ true };
+    ghost IsOver = { λ s. is_zip_over s.pairs ≡ true };
 
     ghost IsGiven = { λ s. L.IsGiven (left_chain s.pairs)
         × R.IsGiven (right_chain s.pairs) × NeverRefusesPairs (F.post s.closure) };

@@ -1,6 +1,6 @@
 //! The threads of a crowd that emit.
 ghost use Rattle.std.specs.Prelude.{◌≡◌, [], ◌+◌, ◌*◌, ◌<◌, ◌≤◌, ◌^◌, All, ℕ, IfSome, slice_index_or, vec_capacity, vec_len};
-ghost use Rattle.flow_program.specs.Callers.{Emits};
+ghost use Rattle.flow_program.specs.Callers.{OnlyEmits};
 ghost use Rattle.flow_program.specs.Crowds.{HasSentAs, WillEmit};
 ghost use Rattle.flow_program.specs.Numbers.{numbers_from};
 
@@ -21,15 +21,15 @@ pub struct EmitsAll {
 
 impl Promise<Seat<u64>> for EmitsAll {
     ghost use Rattle.std.specs.Prelude.{◌≡◌};
-    ghost use Rattle.flow_program.specs.Callers.{Emits};
+    ghost use Rattle.flow_program.specs.Callers.{OnlyEmits};
     ghost use Rattle.flow_program.specs.Numbers.{numbers_from};
 
     ghost kept_by = { λ p seat. (seat.table_id ≡ p.seat.value.table_id)
-        × Emits (numbers_from p.first p.count) p.seat.value.knows seat.knows };
+        × OnlyEmits (numbers_from p.first p.count) p.seat.value.knows seat.knows };
 }
 
 /// A thread that emits.
-pub type Emitting = PromisedHandle<Seat<u64>, EmitsAll>;
+pub type EmittingThread = PromisedHandle<Seat<u64>, EmitsAll>;
 
 /// Emits `count` numbers, from `first` on, and returns the seat.
 fn emit_all<R: Wait>(
@@ -42,7 +42,7 @@ fn emit_all<R: Wait>(
     requires table { seat.table_id ≡ flow.now.table_id }
     requires fits { first + count ≤ 2 ^ 64 }
     ensures table { result.table_id ≡ flow.entry.now.table_id }
-    ensures emitted { Emits (numbers_from first count) seat.knows result.knows }
+    ensures emitted { OnlyEmits (numbers_from first count) seat.knows result.knows }
 {
     let mut emitter = flow.emitter(seat);
     send_all(rt, &mut emitter, first, count);
@@ -57,7 +57,7 @@ pub fn start_emitter<'s, E, R: Wait + Sync>(
     seat: Seat<u64>,
     first: u64,
     count: u64,
-) -> Option<Emitting>
+) -> Option<EmittingThread>
     requires table { seat.table_id ≡ flow.now.table_id }
     requires fits { first + count ≤ 2 ^ 64 }
     ensures { IfSome result (λ thread.
@@ -82,7 +82,7 @@ pub fn start_emitters<'s, E, R: Wait + Sync>(
     flow: &'s SharedFlow<u64>,
     emitters: Vec<Emitter<'s, u64>>,
     values: u64,
-) -> Option<Vec<Emitting>>
+) -> Option<Vec<EmittingThread>>
     requires flow { All (λ c. c.flow.table_id ≡ flow.now.table_id) emitters.items }
     requires count { vec_len emitters < 2 ^ 32 }
     requires values { values < 2 ^ 32 }
@@ -106,7 +106,7 @@ pub fn start_emitters<'s, E, R: Wait + Sync>(
 pub fn join_emitters<'a, R: Threads>(
     rt: &R,
     flow: &'a SharedFlow<u64>,
-    threads: Vec<Emitting>,
+    threads: Vec<EmittingThread>,
     emitters: &mut Vec<Emitter<'a, u64>>,
 )
     requires table { All

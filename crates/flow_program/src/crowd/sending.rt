@@ -1,6 +1,6 @@
 //! Threads that send numbers.
 ghost use Rattle.std.specs.Prelude.{◌≡◌, ◌∷◌, [], ◌+◌, ◌^◌, ◌≤◌};
-ghost use Rattle.flow_program.specs.Callers.{Emits};
+ghost use Rattle.flow_program.specs.Callers.{OnlyEmits};
 ghost use Rattle.flow_program.specs.Numbers.{numbers_from};
 
 use flow_shared::Emitter;
@@ -10,7 +10,7 @@ use std::thread;
 /// Sends a value. If it is refused, lets other threads run and sends it again: the receiver makes room meanwhile.
 fn send<R: Wait>(rt: &R, emitter: &mut Emitter<'_, u64>, value: u64)
     ensures flow { emitter.new.flow ≡ emitter.old.flow }
-    ensures sent { Emits (value ∷ []) emitter.old.token.knows emitter.new.token.knows }
+    ensures sent { OnlyEmits (value ∷ []) emitter.old.token.knows emitter.new.token.knows }
 {
     for _ in rt.forever() {
         match emitter.send(rt, value) {
@@ -25,7 +25,7 @@ fn send<R: Wait>(rt: &R, emitter: &mut Emitter<'_, u64>, value: u64)
 pub fn send_all<R: Wait>(rt: &R, emitter: &mut Emitter<'_, u64>, first: u64, count: u64)
     requires { first + count ≤ 2 ^ 64 }
     ensures flow { emitter.new.flow ≡ emitter.old.flow }
-    ensures sent { Emits
+    ensures sent { OnlyEmits
         (numbers_from first count) emitter.old.token.knows emitter.new.token.knows }
 {
     for sent in 0..count {

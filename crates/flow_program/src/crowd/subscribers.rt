@@ -2,7 +2,7 @@
 ghost use Rattle.std.specs.Prelude.{◌≡◌, [], ◌+◌, ◌<◌, ◌≤◌, All, ℕ, IfSome, length, slice_index_or, vec_capacity, vec_len};
 ghost use Rattle.flow_law.specs.Done.{done_by};
 ghost use Rattle.flow_program.specs.Callers.{Reads};
-ghost use Rattle.flow_program.specs.Crowds.{HasTakenAs, IsMaker, IsSubscribed, WillRead};
+ghost use Rattle.flow_program.specs.Crowds.{HasTakenAs, IsMaker, IsNewSubscription, WillRead};
 
 use crate::crowd::receiving::receive_all;
 use flow_shared::{Emitter, Reader, SharedFlow, Subscription};
@@ -28,7 +28,7 @@ pub fn subscribe_all<'a, R: Wait>(
     ensures flows { IfSome result (λ readers. (i : ℕ) (d : _) → i < count →
         (slice_index_or readers.items i d).flow ≡ maker.old.flow) }
     ensures subscribed { IfSome result (λ readers. (i : ℕ) (d : _) → i < count →
-        IsSubscribed (done_by maker.new.token.knows) (maker.old.token.knows.made + i)
+        IsNewSubscription (done_by maker.new.token.knows) (maker.old.token.knows.made + i)
         (slice_index_or readers.items i d).subscription) }
 {
     let mut readers = Vec::with_capacity(alloc, count as usize).ok()?;

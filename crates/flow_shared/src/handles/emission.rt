@@ -2,9 +2,9 @@
 ghost use Rattle.std.specs.Prelude.{◌≡◌};
 ghost use Rattle.flow_law.specs.declared.call.SharedCall.TheVariants as call;
 ghost use Rattle.flow_law.specs.declared.call.SharedReply.TheVariants as reply;
-ghost use Rattle.flow_shared.specs.SharedReplies.{Calls, Polls, PollsNow, CancelsNow};
+ghost use Rattle.flow_shared.specs.SharedReplies.{SharedCalls, Polls, PollsNow, CancelsNow};
 ghost use Rattle.flow_shared.specs.BoundEmissions.{queued_by};
-ghost use Rattle.flow_shared.specs.BoundReplies.{polled_by, polled_flow, polled_now_by, polled_now_flow, cancelled_by, cancelled_flow};
+ghost use Rattle.flow_shared.specs.BoundReplies.{own_polled, polled_flow, polled_now_by, polled_now_flow, cancelled_by, cancelled_flow};
 
 use super::caller::FlowCaller;
 use super::emitter::Emitter;
@@ -81,7 +81,7 @@ impl<'a, T: FlowValue, A: Allocator + Copy> BoundEmission<'a, T, A> {
     /// emitter. Without a buffer every subscriber has then received it or left.
     pub fn poll<R: Wait>(self, rt: &R) -> PollAnswer<'a, T, A>
         ensures flow { polled_flow result ≡ self.entry.flow }
-        ensures polls { Polls self.entry.flow self.entry.emission (polled_by result) }
+        ensures polls { Polls self.entry.flow self.entry.emission (own_polled result) }
     {
         let BoundEmission { flow, emission } = self;
         match flow.poll_emit(rt, emission) {
@@ -108,7 +108,7 @@ impl<'a, T: FlowValue, A: Allocator + Copy> BoundEmission<'a, T, A> {
     /// A queued value is lost. An offered value is withdrawn from the subscribers that have not received it.
     pub fn cancel<R: Wait>(self, rt: &R) -> (Emitter<'a, T, A>, bool)
         ensures flow { result.0.flow ≡ self.entry.flow }
-        ensures cancelled { Calls self.entry.flow self.entry.emission.token
+        ensures cancelled { SharedCalls self.entry.flow self.entry.emission.token
             (call.Cancel self.entry.emission.number) (reply.Tested result.1) result.0.token }
     {
         let BoundEmission { flow, emission } = self;

@@ -11,7 +11,7 @@ ghost use Rattle.flow_law.specs.Waiting.{EachWaits};
 ghost use Rattle.flow_law.specs.declared.call.SharedCall.TheVariants as call;
 ghost use Rattle.flow_law.specs.declared.call.SharedReply.TheVariants as reply;
 ghost use Rattle.flow_core.specs.SharedCore.{try_emit_reply, cache_reply};
-ghost use Rattle.flow_shared.specs.SharedReplies.{Calls, Emits, EmitsNow, ResetsNow};
+ghost use Rattle.flow_shared.specs.SharedReplies.{SharedCalls, Emits, EmitsNow, ResetsNow};
 ghost use Rattle.flow_shared.specs.BoundReplies.{emitted_by, emitted_flow};
 
 use super::caller::FlowCaller;
@@ -54,7 +54,7 @@ impl<'a, T: FlowValue, A: Allocator + Copy> FlowCaller<'a, SharedCore<T, A>, A> 
     /// `MutableSharedFlow.tryEmit`.
     pub fn try_emit<R: Wait>(&mut self, rt: &R, value: T) -> Result<bool, Rejected<T, Exhausted>>
         ensures flow { self.new.flow ≡ self.old.flow }
-        ensures called { Calls self.old.flow self.old.token (call.TryEmit value)
+        ensures called { SharedCalls self.old.flow self.old.token (call.TryEmit value)
             (try_emit_reply (handed_by limit_fault result)) self.new.token }
         ensures handed_back { IfErr result (λ rejected. rejected.value ≡ value) }
     {
@@ -138,7 +138,7 @@ impl<'a, T: FlowValue, A: Allocator + Copy> FlowCaller<'a, SharedCore<T, A>, A> 
     /// `OutOfMemory` if there is no memory for the list or for a copy. The flow is not changed.
     pub fn replay_cache<R: Wait>(&mut self, rt: &R) -> Result<Vec<T, A>, OutOfMemory>
         ensures flow { self.new.flow ≡ self.old.flow }
-        ensures called { Calls self.old.flow self.old.token call.ReplayCache
+        ensures called { SharedCalls self.old.flow self.old.token call.ReplayCache
             (cache_reply (answer_by memory_fault result)) self.new.token }
     {
         match self.flow.replay_cache(rt, &mut self.seat) {
@@ -150,7 +150,7 @@ impl<'a, T: FlowValue, A: Allocator + Copy> FlowCaller<'a, SharedCore<T, A>, A> 
     /// Empties the replay cache. Present subscribers still receive the values that they have not received.
     pub fn reset_replay_cache<R: Wait>(&mut self, rt: &R)
         ensures flow { self.new.flow ≡ self.old.flow }
-        ensures called { Calls self.old.flow self.old.token
+        ensures called { SharedCalls self.old.flow self.old.token
             call.ResetReplayCache reply.Reset self.new.token }
     {
         self.flow.reset_replay_cache(rt, &mut self.seat);

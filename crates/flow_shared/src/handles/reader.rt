@@ -14,6 +14,7 @@ use super::caller::FlowCaller;
 use super::errors::{drain_end, try_next_error};
 use crate::dropping::TRIES;
 use crate::flow::Flow;
+use crate::sleepless::Sleepless;
 use crate::token::FlowSubscription;
 use flow_core::{FlowCore, ReaderCalls, SharedCore, StateCore, SubscriberCalls};
 use flow_law::{Next, OutOfMemory, TryNextError};
@@ -100,11 +101,7 @@ impl<'a, S: ReaderCalls + Drop, A: Allocator + Copy> FlowReader<'a, S, A> {
             (next_in (answer_by memory_fault result)) self.new.subscription }
         ensures given { S.Item.IsAlwaysCopied → IsOk result }
     {
-        match self.flow.next(rt, &mut self.subscription) {
-            Ok(Next::Value(value)) => Ok(Some(value)),
-            Ok(_) => Ok(None),
-            Err(_fault) => Err(OutOfMemory),
-        }
+        self.next_asleep(rt, &mut Sleepless)
     }
 
     /// Takes the next value if no other caller holds the flow; otherwise returns `Busy`.

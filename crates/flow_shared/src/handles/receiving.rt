@@ -5,7 +5,7 @@ ghost use Rattle.flow_law.specs.Handles.{next_in};
 ghost use Rattle.flow_law.specs.SharedHistory.{shared_flow};
 ghost use Rattle.flow_law.specs.StateFlow.{state_flow};
 ghost use Rattle.flow_shared.specs.Calls.{NextsOf};
-ghost use Rattle.flow_shared.specs.Receiving.{Receives};
+ghost use Rattle.flow_shared.specs.Receiving.{FlowReceives};
 
 use super::reader::FlowReader;
 use flow_core::{ReaderCalls, SharedCore, StateCore};
@@ -37,7 +37,7 @@ impl<'a, S: ReaderCalls + Drop, A: Allocator + Copy> FlowReader<'a, S, A> {
     /// Waits for the next value, and takes it.
     fn await_next<R: Wait>(&mut self, rt: &R) -> Result<S::Item, OutOfMemory>
         ensures flow { self.new.flow ≡ self.old.flow }
-        ensures received { Receives S.kind self.old.flow self.old.subscription
+        ensures received { FlowReceives S.kind self.old.flow self.old.subscription
             (answer_by memory_fault result) self.new.subscription }
         ensures given { S.Item.IsAlwaysCopied → IsOk result }
     {
@@ -64,7 +64,7 @@ impl<'a, T: FlowValue, A: Allocator + Copy> FlowReader<'a, SharedCore<T, A>, A> 
     /// A collector of a `SharedFlow`, which suspends until there is a value.
     pub fn receive<R: Wait>(&mut self, rt: &R) -> Result<T, OutOfMemory>
         ensures flow { self.new.flow ≡ self.old.flow }
-        ensures received { Receives shared_flow self.old.flow self.old.subscription
+        ensures received { FlowReceives shared_flow self.old.flow self.old.subscription
             (answer_by memory_fault result) self.new.subscription }
         ensures given { T.IsAlwaysCopied → IsOk result }
     {
@@ -83,7 +83,7 @@ impl<'a, T: FlowValue, A: Allocator + Copy> FlowReader<'a, StateCore<T, A>, A> {
     /// A collector of a `StateFlow`, which suspends until the value is another one.
     pub fn changed<R: Wait>(&mut self, rt: &R) -> Result<T, OutOfMemory>
         ensures flow { self.new.flow ≡ self.old.flow }
-        ensures received { Receives state_flow self.old.flow self.old.subscription
+        ensures received { FlowReceives state_flow self.old.flow self.old.subscription
             (answer_by memory_fault result) self.new.subscription }
         ensures given { T.IsAlwaysCopied → IsOk result }
     {

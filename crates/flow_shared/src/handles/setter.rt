@@ -7,7 +7,7 @@ ghost use Rattle.flow_law.specs.Handles.{called_by};
 ghost use Rattle.flow_law.specs.StateFlow.{IsStateHistory};
 ghost use Rattle.flow_law.specs.declared.call.StateCall.TheVariants as call;
 ghost use Rattle.flow_law.specs.declared.call.StateReply.TheVariants as reply;
-ghost use Rattle.flow_core.specs.StateCore.{value_reply, cache_reply, reset_reply};
+ghost use Rattle.flow_core.specs.StateCore.{value_reply, state_cache_reply, reset_reply};
 ghost use Rattle.flow_shared.specs.StateReplies.{StateCalls, SetsNow};
 
 use super::caller::FlowCaller;
@@ -101,7 +101,7 @@ impl<'a, T: FlowValue, A: Allocator + Copy> FlowCaller<'a, StateCore<T, A>, A> {
     pub fn replay_cache<R: Wait>(&mut self, rt: &R) -> Result<Vec<T, A>, OutOfMemory>
         ensures flow { self.new.flow ≡ self.old.flow }
         ensures called { StateCalls self.old.flow self.old.token call.ReplayCache
-            (cache_reply (answer_by memory_fault result)) self.new.token }
+            (state_cache_reply (answer_by memory_fault result)) self.new.token }
     {
         match self.flow.replay_cache(rt, &mut self.seat) {
             Ok(values) => Ok(values),

@@ -6,6 +6,7 @@ ghost use Rattle.futures.specs.Task.{Covers, IsArmed, Keeps};
 ghost use Rattle.flow_shared.specs.Polling.{PollsItem, PollsNext, Yields, polled_by};
 
 use super::reader::FlowReader;
+use crate::calling::AtOnce;
 use flow_core::ReaderCalls;
 use flow_law::{FlowFault, Next, OutOfMemory};
 use futures::Stream;
@@ -36,7 +37,7 @@ impl<'a, S: ReaderCalls + Drop, A: Allocator + Copy> FlowReader<'a, S, A> {
         ensures armed { OnPending result (IsArmed cx.new) }
         ensures kept { Keeps cx.old cx.new }
     {
-        let answer = self.flow.next_or_sleep(&mut self.subscription, cx);
+        let answer = self.flow.next_by(&AtOnce, &mut self.subscription, cx);
         polled(answer)
     }
 

@@ -1,12 +1,13 @@
 //! The calls that only shared flows have.
-ghost use Rattle.std.specs.Prelude.{◌≡◌, IfErr, ⊤};
+ghost use Rattle.std.specs.Prelude.{◌≡◌, IfErr};
 ghost use Rattle.flow_law.specs.declared.call.SharedCall.TheVariants as call;
 ghost use Rattle.flow_law.specs.declared.call.SharedReply.TheVariants as reply;
+ghost use Rattle.flow_shared.specs.CoreCalls.{after_emit, after_polling};
 ghost use Rattle.flow_core.specs.SharedCore.{try_emit_reply, emit_reply, cache_reply};
 
-use crate::core_call::CoreCall;
+use crate::core_call::{CoreCall, Made, Then};
 use flow_core::SharedCore;
-use flow_law::{Emit as Emission, FlowFault, FlowValue, Refused};
+use flow_law::{Emit as Emission, FlowFault, FlowValue, Refused, Touch};
 use std::alloc::Allocator;
 
 #[derive(Drop)]
@@ -23,21 +24,10 @@ impl<T: FlowValue, A: Allocator + Copy> CoreCall<SharedCore<T, A>> for TryEmit<T
 
     ghost also = { λ c answer. IfErr answer (λ refused. refused.value ≡ c.value) };
 
-    fn run(self, core: &mut SharedCore<T, A>) -> Result<bool, Refused<T>> {
+    #[inline(always)]
+    fn run(self, core: &mut SharedCore<T, A>) -> Made<Result<bool, Refused<T>>> {
         let TryEmit { value } = self;
-        core.try_emit(value)
-    }
-
-    fn ends(&self) -> Option<u64> {
-        None
-    }
-
-    fn cancels(&self) -> Option<u64> {
-        None
-    }
-
-    fn is_set(_answer: &Result<bool, Refused<T>>) -> bool {
-        false
+        Made::quiet(core.try_emit(value))
     }
 }
 
@@ -55,21 +45,14 @@ impl<T: FlowValue, A: Allocator + Copy> CoreCall<SharedCore<T, A>> for Emit<T> {
 
     ghost also = { λ c answer. IfErr answer (λ refused. refused.value ≡ c.value) };
 
-    fn run(self, core: &mut SharedCore<T, A>) -> Result<Emission, Refused<T>> {
+    ghost then = { λ c answer. after_emit answer };
+
+    #[inline(always)]
+    fn run(self, core: &mut SharedCore<T, A>) -> Made<Result<Emission, Refused<T>>> {
         let Emit { value } = self;
-        core.emit(value)
-    }
-
-    fn ends(&self) -> Option<u64> {
-        None
-    }
-
-    fn cancels(&self) -> Option<u64> {
-        None
-    }
-
-    fn is_set(_answer: &Result<Emission, Refused<T>>) -> bool {
-        false
+        let answer = core.emit(value);
+        let then = Then::after_emit(&answer);
+        Made::before(answer, then)
     }
 }
 
@@ -85,22 +68,12 @@ impl<T: FlowValue, A: Allocator + Copy> CoreCall<SharedCore<T, A>> for Poll {
 
     ghost reply = { λ waits. reply.Tested waits };
 
-    ghost also = { λ c waits. ⊤ };
+    ghost then = { λ c waits. after_polling c.number waits };
 
-    fn run(self, core: &mut SharedCore<T, A>) -> bool {
-        core.poll(self.number)
-    }
-
-    fn ends(&self) -> Option<u64> {
-        None
-    }
-
-    fn cancels(&self) -> Option<u64> {
-        None
-    }
-
-    fn is_set(_answer: &bool) -> bool {
-        false
+    #[inline(always)]
+    fn run(self, core: &mut SharedCore<T, A>) -> Made<bool> {
+        let waits = core.poll(self.number);
+        Made::before(waits, Then::after_poll(self.number, waits))
     }
 }
 
@@ -116,22 +89,10 @@ impl<T: FlowValue, A: Allocator + Copy> CoreCall<SharedCore<T, A>> for Cancel {
 
     ghost reply = { λ was_waiting. reply.Tested was_waiting };
 
-    ghost also = { λ c was_waiting. ⊤ };
-
-    fn run(self, core: &mut SharedCore<T, A>) -> bool {
-        core.cancel(self.number)
-    }
-
-    fn ends(&self) -> Option<u64> {
-        None
-    }
-
-    fn cancels(&self) -> Option<u64> {
-        Some(self.number)
-    }
-
-    fn is_set(_answer: &bool) -> bool {
-        false
+    #[inline(always)]
+    fn run(self, core: &mut SharedCore<T, A>) -> Made<bool> {
+        let touches = Touch::Emission(self.number);
+        Made::touching(core.cancel(self.number), touches)
     }
 }
 
@@ -145,22 +106,9 @@ impl<T: FlowValue, A: Allocator + Copy> CoreCall<SharedCore<T, A>> for ResetRepl
 
     ghost reply = { λ none. reply.Reset };
 
-    ghost also = { λ c none. ⊤ };
-
-    fn run(self, core: &mut SharedCore<T, A>) {
-        core.reset_replay_cache()
-    }
-
-    fn ends(&self) -> Option<u64> {
-        None
-    }
-
-    fn cancels(&self) -> Option<u64> {
-        None
-    }
-
-    fn is_set(_answer: &()) -> bool {
-        false
+    #[inline(always)]
+    fn run(self, core: &mut SharedCore<T, A>) -> Made<()> {
+        Made::quiet(core.reset_replay_cache())
     }
 }
 
@@ -174,21 +122,8 @@ impl<T: FlowValue, A: Allocator + Copy> CoreCall<SharedCore<T, A>> for ReplayCac
 
     ghost reply = { λ answer. cache_reply answer };
 
-    ghost also = { λ c answer. ⊤ };
-
-    fn run(self, core: &mut SharedCore<T, A>) -> Result<Vec<T, A>, FlowFault> {
-        core.replay_cache()
-    }
-
-    fn ends(&self) -> Option<u64> {
-        None
-    }
-
-    fn cancels(&self) -> Option<u64> {
-        None
-    }
-
-    fn is_set(_answer: &Result<Vec<T, A>, FlowFault>) -> bool {
-        false
+    #[inline(always)]
+    fn run(self, core: &mut SharedCore<T, A>) -> Made<Result<Vec<T, A>, FlowFault>> {
+        Made::quiet(core.replay_cache())
     }
 }

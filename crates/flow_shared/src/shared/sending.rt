@@ -1,106 +1,43 @@
 //! Emissions whose threads sleep while they wait.
 ghost use Rattle.std.specs.Prelude.{◌≡◌, IfErr};
+ghost use Rattle.flow_law.specs.History.{IsEmission};
+ghost use Rattle.flow_law.specs.SharedHistory.{shared_flow};
 ghost use Rattle.flow_sleepers.specs.Waiters.{IsReadyToWait};
-ghost use Rattle.flow_shared.specs.EmitFutures.{Ends};
+ghost use Rattle.flow_shared.specs.EmitFutures.{EmitEnds};
 ghost use Rattle.flow_shared.specs.Sending.{Sends};
-ghost use Rattle.flow_shared.specs.SharedReplies.{Emits, Polls, EmitRefusedIfDue, EmitIsWait, IsEmitFault, IsStillWaiting};
+ghost use Rattle.flow_shared.specs.SharedReplies.{IsEmitFault};
 
 use super::Seat;
-use super::calls::{Emit as EmitCall, Poll as PollCall};
-use super::emission::answered;
-use crate::answers::{Emission, Emitted, Polled};
+use super::calls::{Emit as EmitCall, Poll};
 use crate::flow::Flow;
-use crate::token::FlowSeat;
 use flow_core::SharedCore;
-use flow_law::{FlowValue, Refused};
-use flow_sleepers::{ThreadWaiter, Waiter};
+use flow_law::{Emit, FlowValue, Refused};
+use flow_sleepers::ThreadWaiter;
 use std::alloc::Allocator;
 use std::sync::Wait;
 
 impl<T: FlowValue, A: Allocator + Copy> Flow<SharedCore<T, A>, A> {
-    /// Emits a value as `emit` does. If the emission waits, the caller sleeps.
-    pub(super) fn emit_asleep<R: Wait, W: Waiter<A>>(
-        &self,
-        rt: &R,
-        seat: Seat<T, A>,
-        value: T,
-        waiter: &mut W,
-    ) -> Emitted<T, A>
-        requires { seat.table_id ≡ self.now.table_id }
-        ensures emits { Emits self.now seat value result }
-        ensures refused { EmitRefusedIfDue result }
-        ensures armed { EmitIsWait result → W.is_armed waiter.new }
-    {
-        let FlowSeat { seat } = seat;
-        let (own, answer) = self.call_by_asleep(rt, seat.unwrap(), EmitCall { value }, waiter);
-        answered(own, answer)
-    }
-
-    /// Polls an emission as `poll_emit` does. If the emission waits, the caller sleeps.
-    pub(super) fn poll_asleep<R: Wait, W: Waiter<A>>(
-        &self,
-        rt: &R,
-        emission: Emission<T, A>,
-        waiter: &mut W,
-    ) -> Polled<T, A>
-        requires { emission.token.table_id ≡ self.now.table_id }
-        ensures polls { Polls self.now emission result }
-        ensures armed { IsStillWaiting result → W.is_armed waiter.new }
-    {
-        let Emission { seat, number } = emission;
-        let (seat, waits) = self.call_by_asleep(rt, seat, PollCall { number }, waiter);
-        if waits {
-            Polled::Waiting(Emission { seat, number })
-        } else {
-            Polled::Done(FlowSeat { seat: Some(seat) })
-        }
-    }
-
-    /// Waits until the emission is done. The thread sleeps before each poll.
+    /// Waits until the emission of this number is done. The thread sleeps before each poll.
     fn await_end<R: Wait>(
         &self,
         rt: &R,
-        emission: Emission<T, A>,
+        seat: &mut Seat<T, A>,
+        number: u64,
         waiter: &mut ThreadWaiter<A>,
-    ) -> Seat<T, A>
-        requires flow { emission.token.table_id ≡ self.now.table_id }
+    )
+        requires flow { seat.old.table_id ≡ self.now.table_id }
+        requires emission { IsEmission shared_flow seat.old.knows number }
         requires ready { IsReadyToWait waiter.old }
-        ensures ends { Ends self.now emission.number emission.token result }
-        ensures flow { result.table_id ≡ self.now.table_id }
+        ensures ends { EmitEnds self.now number seat.old seat.new }
+        ensures flow { seat.new.table_id ≡ self.now.table_id }
     {
-        let mut emission = emission;
         for _ in rt.forever() {
             waiter.wait(rt);
-            match self.poll_asleep(rt, emission, waiter) {
-                Polled::Done(seat) => return seat,
-                Polled::Waiting(back) => emission = back,
+            if !self.call(rt, seat, Poll { number }, waiter) {
+                return;
             }
         }
         unreachable!()
-    }
-
-    /// Emits a value, and waits until the emission is done.
-    fn send_by<R: Wait>(
-        &self,
-        rt: &R,
-        seat: Seat<T, A>,
-        value: T,
-    ) -> (Seat<T, A>, Result<(), Refused<T>>)
-        requires { seat.table_id ≡ self.now.table_id }
-        ensures sent { Sends self.now value seat result.1 result.0 }
-        ensures refused { IfErr result.1 (λ refused. IsEmitFault refused.fault) }
-        ensures handed_back { IfErr result.1 (λ refused. refused.value ≡ value) }
-        ensures flow { result.0.table_id ≡ self.now.table_id }
-    {
-        let mut waiter = ThreadWaiter::new();
-        match self.emit_asleep(rt, seat, value, &mut waiter) {
-            Emitted::Done(seat) => (seat, Ok(())),
-            Emitted::Queued(emission) => {
-                let seat = self.await_end(rt, emission, &mut waiter);
-                (seat, Ok(()))
-            }
-            Emitted::Refused(seat, value, fault) => (seat, Err(Refused { value, fault })),
-        }
     }
 
     /// Emits a value through a seat that its caller keeps, and waits until the emission is done.
@@ -116,9 +53,13 @@ impl<T: FlowValue, A: Allocator + Copy> Flow<SharedCore<T, A>, A> {
         ensures handed_back { IfErr result (λ refused. refused.value ≡ value) }
         ensures flow { seat.new.table_id ≡ self.now.table_id }
     {
-        let own = seat.seat.take();
-        let (FlowSeat { seat: back }, answer) = self.send_by(rt, FlowSeat { seat: own }, value);
-        seat.seat = back;
-        answer
+        let mut waiter = ThreadWaiter::new();
+        match self.call(rt, seat, EmitCall { value }, &mut waiter)? {
+            Emit::Done => Ok(()),
+            Emit::Queued(number) => {
+                self.await_end(rt, seat, number, &mut waiter);
+                Ok(())
+            }
+        }
     }
 }

@@ -8,8 +8,9 @@ ghost use Rattle.flow_core.specs.SharedCore.{subscribe_reply};
 ghost use Rattle.flow_shared.specs.Calls.{Subscribes};
 
 use super::{Seat, Subscription};
-use crate::core_call::CoreCall;
+use crate::core_call::{CoreCall, Made};
 use crate::flow::Flow;
+use crate::sleepless::Sleepless;
 use crate::token::FlowSubscription;
 use flow_core::{SharedCore, SubId};
 use flow_law::{FlowValue, Refused};
@@ -30,21 +31,10 @@ impl<T: FlowValue, A: Allocator + Copy> CoreCall<SharedCore<T, A>> for Subscribe
 
     ghost also = { λ c answer. IfErr answer (λ refused. refused.value ≡ c.first) };
 
-    fn run(self, core: &mut SharedCore<T, A>) -> Result<SubId, Refused<Vec<T, A>>> {
+    #[inline(always)]
+    fn run(self, core: &mut SharedCore<T, A>) -> Made<Result<SubId, Refused<Vec<T, A>>>> {
         let SubscribeWith { first } = self;
-        core.subscribe_with(first)
-    }
-
-    fn ends(&self) -> Option<u64> {
-        None
-    }
-
-    fn cancels(&self) -> Option<u64> {
-        None
-    }
-
-    fn is_set(_answer: &Result<SubId, Refused<Vec<T, A>>>) -> bool {
-        false
+        Made::quiet(core.subscribe_with(first))
     }
 }
 
@@ -65,7 +55,7 @@ impl<T: FlowValue, A: Allocator + Copy> Flow<SharedCore<T, A>, A> {
         ensures refused { IfErr result (λ refused.
             (refused.fault ≡ OutOfMemory) ⊎ (refused.fault ≡ Exhausted)) }
     {
-        let id = self.call(rt, seat, SubscribeWith { first })?;
+        let id = self.call(rt, seat, SubscribeWith { first }, &mut Sleepless)?;
         let made = self.seat(seat);
         Ok(FlowSubscription { seat: made, id })
     }

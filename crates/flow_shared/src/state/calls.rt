@@ -1,13 +1,13 @@
 //! The calls that only state flows have.
-ghost use Rattle.std.specs.Prelude.{◌≡◌, Err, IsOk, ⊤};
+ghost use Rattle.std.specs.Prelude.{◌≡◌, Err, IsOk};
 ghost use Rattle.flow_law.specs.declared.fault.FlowFault.TheVariants.{Unsupported};
 ghost use Rattle.flow_law.specs.declared.call.StateCall.TheVariants as call;
 ghost use Rattle.flow_law.specs.declared.call.StateReply.TheVariants as reply;
-ghost use Rattle.flow_core.specs.StateCore.{value_reply, cache_reply, reset_reply};
+ghost use Rattle.flow_core.specs.StateCore.{value_reply, state_cache_reply, reset_reply};
 
-use crate::core_call::CoreCall;
+use crate::core_call::{CoreCall, Made};
 use flow_core::StateCore;
-use flow_law::{FlowFault, FlowValue};
+use flow_law::{FlowFault, FlowValue, Touch};
 use std::alloc::Allocator;
 
 #[derive(Drop)]
@@ -22,23 +22,10 @@ impl<T: FlowValue, A: Allocator + Copy> CoreCall<StateCore<T, A>> for Set<T> {
 
     ghost reply = { λ answer. reply.Done };
 
-    ghost also = { λ c answer. ⊤ };
-
-    fn run(self, core: &mut StateCore<T, A>) -> () {
+    #[inline(always)]
+    fn run(self, core: &mut StateCore<T, A>) -> Made<()> {
         let Set { value } = self;
-        core.set(value)
-    }
-
-    fn ends(&self) -> Option<u64> {
-        None
-    }
-
-    fn cancels(&self) -> Option<u64> {
-        None
-    }
-
-    fn is_set(_answer: &()) -> bool {
-        true
+        Made::touching(core.set(value), Touch::Subscribers)
     }
 }
 
@@ -54,23 +41,10 @@ impl<T: FlowValue, A: Allocator + Copy> CoreCall<StateCore<T, A>> for TryEmit<T>
 
     ghost reply = { λ answer. reply.Answered answer };
 
-    ghost also = { λ c answer. ⊤ };
-
-    fn run(self, core: &mut StateCore<T, A>) -> bool {
+    #[inline(always)]
+    fn run(self, core: &mut StateCore<T, A>) -> Made<bool> {
         let TryEmit { value } = self;
-        core.try_emit(value)
-    }
-
-    fn ends(&self) -> Option<u64> {
-        None
-    }
-
-    fn cancels(&self) -> Option<u64> {
-        None
-    }
-
-    fn is_set(_answer: &bool) -> bool {
-        true
+        Made::touching(core.try_emit(value), Touch::Subscribers)
     }
 }
 
@@ -87,23 +61,16 @@ impl<'a, T: FlowValue, A: Allocator + Copy> CoreCall<StateCore<T, A>> for Compar
 
     ghost reply = { λ answer. reply.Answered answer };
 
-    ghost also = { λ c answer. ⊤ };
-
-    fn run(self, core: &mut StateCore<T, A>) -> bool {
+    #[inline(always)]
+    fn run(self, core: &mut StateCore<T, A>) -> Made<bool> {
         let CompareAndSet { expect, update } = self;
-        core.compare_and_set(expect, update)
-    }
-
-    fn ends(&self) -> Option<u64> {
-        None
-    }
-
-    fn cancels(&self) -> Option<u64> {
-        None
-    }
-
-    fn is_set(answer: &bool) -> bool {
-        *answer
+        let was_set = core.compare_and_set(expect, update);
+        let touches = if was_set {
+            Touch::Subscribers
+        } else {
+            Touch::Nobody
+        };
+        Made::touching(was_set, touches)
     }
 }
 
@@ -119,20 +86,9 @@ impl<T: FlowValue, A: Allocator + Copy> CoreCall<StateCore<T, A>> for ResetRepla
 
     ghost also = { λ c answer. answer ≡ Err Unsupported };
 
-    fn run(self, core: &mut StateCore<T, A>) -> Result<(), FlowFault> {
-        core.reset_replay_cache()
-    }
-
-    fn ends(&self) -> Option<u64> {
-        None
-    }
-
-    fn cancels(&self) -> Option<u64> {
-        None
-    }
-
-    fn is_set(_answer: &Result<(), FlowFault>) -> bool {
-        false
+    #[inline(always)]
+    fn run(self, core: &mut StateCore<T, A>) -> Made<Result<(), FlowFault>> {
+        Made::quiet(core.reset_replay_cache())
     }
 }
 
@@ -144,24 +100,11 @@ impl<T: FlowValue, A: Allocator + Copy> CoreCall<StateCore<T, A>> for ReplayCach
 
     ghost call = { λ c name. call.ReplayCache };
 
-    ghost reply = { λ answer. cache_reply answer };
+    ghost reply = { λ answer. state_cache_reply answer };
 
-    ghost also = { λ c answer. ⊤ };
-
-    fn run(self, core: &mut StateCore<T, A>) -> Result<Vec<T, A>, FlowFault> {
-        core.replay_cache()
-    }
-
-    fn ends(&self) -> Option<u64> {
-        None
-    }
-
-    fn cancels(&self) -> Option<u64> {
-        None
-    }
-
-    fn is_set(_answer: &Result<Vec<T, A>, FlowFault>) -> bool {
-        false
+    #[inline(always)]
+    fn run(self, core: &mut StateCore<T, A>) -> Made<Result<Vec<T, A>, FlowFault>> {
+        Made::quiet(core.replay_cache())
     }
 }
 
@@ -177,19 +120,8 @@ impl<T: FlowValue, A: Allocator + Copy> CoreCall<StateCore<T, A>> for GetValue {
 
     ghost also = { λ c answer. T.IsAlwaysCopied → IsOk answer };
 
-    fn run(self, core: &mut StateCore<T, A>) -> Result<T, FlowFault> {
-        core.value()
-    }
-
-    fn ends(&self) -> Option<u64> {
-        None
-    }
-
-    fn cancels(&self) -> Option<u64> {
-        None
-    }
-
-    fn is_set(_answer: &Result<T, FlowFault>) -> bool {
-        false
+    #[inline(always)]
+    fn run(self, core: &mut StateCore<T, A>) -> Made<Result<T, FlowFault>> {
+        Made::quiet(core.value())
     }
 }

@@ -8,7 +8,9 @@ ghost use Rattle.flow_shared.specs.StateReplies.{StateCalls, SetsNow};
 
 use super::calls::{CompareAndSet, GetValue, Set, TryEmit};
 use super::{StateSeat, StateSubscription};
+use crate::calling::AtOnce;
 use crate::flow::Flow;
+use crate::sleepless::Sleepless;
 use flow_core::StateCore;
 use flow_law::{FlowFault, FlowValue, Refused};
 use std::alloc::Allocator;
@@ -25,7 +27,7 @@ impl<T: FlowValue, A: Allocator + Copy> Flow<StateCore<T, A>, A> {
         ensures refused { IfErr result (λ fault. fault ≡ OutOfMemory) }
         ensures given { T.IsAlwaysCopied → IsOk result }
     {
-        self.call(rt, seat, GetValue)
+        self.call(rt, seat, GetValue, &mut Sleepless)
     }
 
     /// Returns what `value` returns, through the seat of a subscription. The subscriber does not receive the value by
@@ -53,7 +55,7 @@ impl<T: FlowValue, A: Allocator + Copy> Flow<StateCore<T, A>, A> {
         requires { seat.old.table_id ≡ self.now.table_id }
         ensures { StateCalls self.now seat.old (call.Set value) reply.Done seat.new }
     {
-        self.call(rt, seat, Set { value })
+        self.call(rt, seat, Set { value }, &mut Sleepless)
     }
 
     /// Sets the current value if no other caller is inside; otherwise returns it with `Busy`, and the seat has counted
@@ -62,7 +64,7 @@ impl<T: FlowValue, A: Allocator + Copy> Flow<StateCore<T, A>, A> {
         requires { seat.old.table_id ≡ self.now.table_id }
         ensures { SetsNow self.now seat.old value result seat.new }
     {
-        match self.call_now(seat, Set { value }) {
+        match self.call_by(&AtOnce, seat, Set { value }, &mut Sleepless) {
             Ok(()) => Ok(()),
             Err(Set { value }) => Err(Refused {
                 value,
@@ -78,7 +80,7 @@ impl<T: FlowValue, A: Allocator + Copy> Flow<StateCore<T, A>, A> {
         ensures { StateCalls self.now seat.old
             (call.TryEmit value) (reply.Answered result) seat.new }
     {
-        self.call(rt, seat, TryEmit { value })
+        self.call(rt, seat, TryEmit { value }, &mut Sleepless)
     }
 
     /// Sets the value to `update` if it is equal to `expect`, and returns whether it was; if not, drops `update`. Both
@@ -97,6 +99,6 @@ impl<T: FlowValue, A: Allocator + Copy> Flow<StateCore<T, A>, A> {
         ensures { StateCalls self.now seat.old (call.CompareAndSet expect.now update)
             (reply.Answered result) seat.new }
     {
-        self.call(rt, seat, CompareAndSet { expect, update })
+        self.call(rt, seat, CompareAndSet { expect, update }, &mut Sleepless)
     }
 }

@@ -10,12 +10,12 @@ use std::process::Abort;
 
 /// A chain that counts how often it is asked.
 #[derive(Drop)]
-struct Counted<'a, C> {
+struct CountedAsks<'a, C> {
     chain: C,
     asks: &'a Cell<u32>,
 }
 
-impl<'a, C: Cold> Cold for Counted<'a, C> {
+impl<'a, C: Cold> Cold for CountedAsks<'a, C> {
     type Item = C::Item;
 
     ghost Reading = { C.Reading };
@@ -51,8 +51,8 @@ impl<'a, C: Cold> Cold for Counted<'a, C> {
 }
 
 /// Returns a chain of the numbers from 1 to 5 that counts its asks.
-fn one_to_five(asks: &Cell<u32>) -> Counted<'_, OfRange> {
-    Counted {
+fn one_to_five(asks: &Cell<u32>) -> CountedAsks<'_, OfRange> {
+    CountedAsks {
         chain: OfRange::new(1, 5),
         asks,
     }

@@ -1,5 +1,5 @@
 //! Worked examples of emissions: values that wait, are dropped, offered or cancelled.
-use crate::steps::Kind::Shared;
+use crate::steps::PlayedKind::Shared;
 use crate::steps::Step::{
     Cache, Cancel, Count, DropEmission, DropSubscription, Emit, Next, Poll, Subscribe, TryEmit,
     Unsubscribe,

@@ -2,7 +2,7 @@
 //! `MutableStateFlow`.
 use crate::examples::emissions;
 use crate::playing::play;
-use crate::steps::Kind::{Shared, State};
+use crate::steps::PlayedKind::{Shared, State};
 use crate::steps::Step::{
     Cache, Cancel, CompareAndSet, Count, Current, Drain, Emit, Next, Poll, Reset, ResetRefused,
     Set, Subscribe, SubscribeRefused, SubscribeWith, SubscribeWithRefused, TryEmit,

@@ -7,7 +7,7 @@ use std::thread::{Threads, join};
 use std::time::Clock;
 
 /// Handles that make calls of one kind.
-pub trait Makes<C> {
+pub trait MakesCalls<C> {
     /// Makes a call, and compares what it returns.
     fn make<R: Wait + Clock + Abort + RandomSource + AllocGlobal>(
         &mut self,
@@ -27,7 +27,7 @@ pub trait Ends<E> {
 pub fn make_all<R, C, H>(rt: &R, handle: &mut H, place: usize, calls: &[C])
 where
     R: Wait + Clock + Abort + RandomSource + AllocGlobal,
-    H: Makes<C>,
+    H: MakesCalls<C>,
 {
     for (number, call) in calls.iter().enumerate() {
         handle.make(rt, place.saturating_add(number), call);
@@ -38,7 +38,7 @@ where
 fn read_all<R, C, E, H>(rt: &R, mut reader: H, place: usize, calls: &[C], end: &E)
 where
     R: Wait + Clock + Abort + RandomSource + AllocGlobal,
-    H: Makes<C> + Ends<E> + Drop,
+    H: MakesCalls<C> + Ends<E> + Drop,
 {
     make_all(rt, &mut reader, place, calls);
     reader.end(rt, place, end);
@@ -58,8 +58,8 @@ where
     R: Wait + Clock + Threads + Abort + RandomSource + AllocGlobal + Sync,
     C: Sync,
     E: Sync,
-    S: Makes<C> + Send,
-    D: Makes<C> + Ends<E> + Drop + Send,
+    S: MakesCalls<C> + Send,
+    D: MakesCalls<C> + Ends<E> + Drop + Send,
 {
     let from = place.saturating_add(50);
     join(

@@ -15,7 +15,7 @@ use std::random::RandomSource;
 use std::sync::Wait;
 use std::time::{Clock, Duration};
 
-impl<'a> Makes<Call> for Emitter<'a, i64> {
+impl<'a> MakesCalls<Call> for Emitter<'a, i64> {
     fn make<R: Wait + Clock + Abort + RandomSource + AllocGlobal>(
         &mut self,
         rt: &R,

@@ -3,7 +3,7 @@ use crate::compare::{compare, no_such_call};
 use crate::flows::new_reader;
 use crate::handle_calls::{next, receive, try_emit};
 use crate::handles::emissions::poll_until_received;
-use crate::handles::players::{Ends, Makes};
+use crate::handles::players::{Ends, MakesCalls};
 use crate::handles::shared::{Call, End};
 use crate::handles::streams::next_of;
 use flow_law::OutOfMemory;
@@ -100,7 +100,7 @@ impl<'a> Handles<'a> {
     }
 }
 
-impl<'a> Makes<Call> for Handles<'a> {
+impl<'a> MakesCalls<Call> for Handles<'a> {
     fn make<R: Wait + Clock + Abort + RandomSource + AllocGlobal>(
         &mut self,
         rt: &R,

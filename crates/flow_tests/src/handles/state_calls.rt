@@ -2,7 +2,7 @@
 use crate::compare::{compare, no_such_call};
 use crate::flows::new_state_reader;
 use crate::handles::answers::{length, pause};
-use crate::handles::players::{Ends, Makes};
+use crate::handles::players::{Ends, MakesCalls};
 use crate::handles::state::{Call, End};
 use crate::handles::streams::next_of;
 use flow_law::{OutOfMemory, Unsupported};
@@ -23,7 +23,7 @@ fn one_more(value: &i64) -> Result<i64, OutOfMemory> {
     }
 }
 
-impl<'a> Makes<Call> for Setter<'a, i64> {
+impl<'a> MakesCalls<Call> for Setter<'a, i64> {
     fn make<R: Wait + Clock + Abort + RandomSource + AllocGlobal>(
         &mut self,
         rt: &R,
@@ -120,7 +120,7 @@ fn follow<R: Wait>(rt: &R, reader: &mut StateReader<'_, i64>, last: i64) -> bool
     unreachable!()
 }
 
-impl<'a> Makes<Call> for StateReader<'a, i64> {
+impl<'a> MakesCalls<Call> for StateReader<'a, i64> {
     fn make<R: Wait + Clock + Abort + RandomSource + AllocGlobal>(
         &mut self,
         rt: &R,

@@ -29,7 +29,7 @@ pub struct Handles<S: Drop, D: Drop> {
     pub reader: D,
 }
 
-impl<S: Makes<Call> + Drop, D: Makes<Call> + Drop> Makes<Call> for Handles<S, D> {
+impl<S: MakesCalls<Call> + Drop, D: MakesCalls<Call> + Drop> MakesCalls<Call> for Handles<S, D> {
     fn make<R: Wait + Clock + Abort + RandomSource + AllocGlobal>(
         &mut self,
         rt: &R,

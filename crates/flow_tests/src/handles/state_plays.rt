@@ -1,6 +1,6 @@
 //! Plays the worked examples over state flows.
 use crate::flows::{new_state_flow, new_state_reader};
-use crate::handles::players::{Makes, make_all, meet};
+use crate::handles::players::{MakesCalls, make_all, meet};
 use crate::handles::state::{Call, MEETINGS, Meeting, STATE, WAITS};
 use crate::handles::state_examples::Handles;
 use std::alloc::AllocGlobal;

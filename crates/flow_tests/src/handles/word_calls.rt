@@ -2,7 +2,7 @@
 use crate::compare::{compare, no_such_call};
 use crate::flows::new_word_reader;
 use crate::handles::answers::pause;
-use crate::handles::players::{Ends, Makes};
+use crate::handles::players::{Ends, MakesCalls};
 use crate::handles::state::{Call, End};
 use crate::handles::streams::next_of;
 use flow_word::{WordReader, WordSetter};
@@ -17,7 +17,7 @@ fn one_more(value: i64) -> i64 {
     value.wrapping_add(1)
 }
 
-impl<'a> Makes<Call> for WordSetter<'a, i64> {
+impl<'a> MakesCalls<Call> for WordSetter<'a, i64> {
     fn make<R: Wait + Clock + Abort + RandomSource + AllocGlobal>(
         &mut self,
         rt: &R,
@@ -123,7 +123,7 @@ fn follow<R: Wait>(rt: &R, reader: &mut WordReader<'_, i64>, last: i64) -> bool 
     unreachable!()
 }
 
-impl<'a> Makes<Call> for WordReader<'a, i64> {
+impl<'a> MakesCalls<Call> for WordReader<'a, i64> {
     fn make<R: Wait + Clock + Abort + RandomSource + AllocGlobal>(
         &mut self,
         rt: &R,

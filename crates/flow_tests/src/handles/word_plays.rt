@@ -2,7 +2,7 @@
 ghost use Rattle.std.specs.Prelude.{◌≡◌};
 
 use crate::flows::{new_word_reader, new_word_state};
-use crate::handles::players::{Makes, make_all, meet};
+use crate::handles::players::{MakesCalls, make_all, meet};
 use crate::handles::state::{Call, MEETINGS, Meeting, WAITS};
 use crate::handles::state_examples::Handles;
 use crate::handles::word::WORD;

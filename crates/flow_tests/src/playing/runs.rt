@@ -4,7 +4,7 @@ ghost use Rattle.std.specs.Prelude.{◌≡◌};
 use crate::compare::compare;
 use crate::memory::Refusing;
 use crate::playing::on_flows::{FlowPlayer, Played, take_again};
-use crate::steps::{Example, Kind, Step};
+use crate::steps::{Example, PlayedKind, Step};
 use crate::values::Numbered;
 use flow_law::{Boxed, Config, FlowFault};
 use flow_shared::{Flow, FlowSeat, SharedFlow, StateFlow};
@@ -71,8 +71,8 @@ fn play_once<R: Wait + Abort, A: Allocator + Copy>(
 ) -> Result<(), FlowFault> {
     let steps = example.steps;
     match example.kind {
-        Kind::Shared(config) => play_shared(rt, alloc, memory, config, first, steps, refused),
-        Kind::State(limit) => play_state(rt, alloc, memory, limit, first, steps, refused),
+        PlayedKind::Shared(config) => play_shared(rt, alloc, memory, config, first, steps, refused),
+        PlayedKind::State(limit) => play_state(rt, alloc, memory, limit, first, steps, refused),
     }
 }
 

@@ -2,7 +2,7 @@
 //! run, and no other step is. The values are boxed, so each copy takes memory.
 use crate::compare::compare;
 use crate::playing::refuse_each;
-use crate::steps::Kind::{Shared, State};
+use crate::steps::PlayedKind::{Shared, State};
 use crate::steps::Step::{
     Cache, Count, CountNow, Current, Emit, Next, NextNow, ResetNow, Set, SetNow, Subscribe,
     SubscribeWith, TryEmit,

@@ -20,17 +20,22 @@ impl Guarded for Named {
     ghost stands = { λ _ _ _. ⊤ };
 }
 
-/// Refuses each of the three allocations of a gate. Checks that each refusal hands the state back.
+/// Refuses each of the two allocations of a gate. Checks that each refusal hands the state back.
 fn refuse_each<A: Allocator + Copy>(rt: &impl Abort, memory: A, refusing: &Refusing<Global>) {
-    for number in 1..4 {
+    for number in 1..3 {
         refusing.refuse(number);
         match Gate::new(memory, Named { name: 7 }) {
-            Ok(_made) => panic!(rt; "it is refused"),
+            Ok((_gate, seat)) => {
+                seat.end();
+                panic!(rt; "it is refused")
+            }
             Err(failed) => compare(rt, 0, failed.value.name, 7),
         }
     }
-    let made = Gate::new(memory, Named { name: 7 });
-    compare(rt, 1, made.is_ok(), true);
+    match Gate::new(memory, Named { name: 7 }) {
+        Ok((_gate, seat)) => seat.end(),
+        Err(_failed) => panic!(rt; "it is not refused"),
+    }
 }
 
 #[test]

@@ -4,8 +4,8 @@ ghost use Rattle.std.specs.Fn.{FnReturnsAt};
 ghost use Rattle.futures.specs.Task.{IsArmed, Keeps};
 ghost use Rattle.flow_law.specs.StateFlow.{state_flow};
 ghost use Rattle.flow_word.specs.Handles.{ReaderOfWord};
-ghost use Rattle.flow_word.specs.Receiving.{FindsNone, Receives, ReceivesInTime};
-ghost use Rattle.flow_word.specs.WaitingFor.{Looks, ReceivesIf, ReceivesIfInTime};
+ghost use Rattle.flow_word.specs.Receiving.{FindsNone, WordReceives, ReceivesInTime};
+ghost use Rattle.flow_word.specs.WaitingFor.{WordLooks, WordReceivesIf, ReceivesIfInTime};
 
 use super::reader::WordReader;
 use crate::sleepers::Sleeper;
@@ -87,7 +87,7 @@ impl<'a, T: Packed> WordReader<'a, T> {
     /// `StateFlow.collect`: the next value that it emits.
     pub fn changed<R: Wait>(&mut self, rt: &R) -> T
         ensures flow { self.new.flow ≡ self.old.flow }
-        ensures received { Receives state_flow self.old.flow.first
+        ensures received { WordReceives state_flow self.old.flow.first
             self.old.subscription result self.new.subscription }
     {
         match self.look() {
@@ -138,7 +138,7 @@ impl<'a, T: Packed + Drop> WordReader<'a, T> {
     /// Returns the current value, and takes it if the subscriber has not received it.
     fn current(&mut self) -> T
         ensures flow { self.new.flow ≡ self.old.flow }
-        ensures looked { Looks self.old.flow.first
+        ensures looked { WordLooks self.old.flow.first
             self.old.subscription result self.new.subscription }
     {
         let value = self.flow.value_by(&mut self.subscription);
@@ -157,7 +157,7 @@ impl<'a, T: Packed + Drop> WordReader<'a, T> {
     pub fn wait_for<R: Wait, F: Fn(&T) -> bool>(&mut self, rt: &R, test: F) -> T
         requires callable { F.IsAlwaysCallable test }
         ensures flow { self.new.flow ≡ self.old.flow }
-        ensures received { ReceivesIf self.old.flow.first
+        ensures received { WordReceivesIf self.old.flow.first
             (λ value. FnReturnsAt F.Fn test value true) (λ value. FnReturnsAt F.Fn test value false)
             self.old.subscription result self.new.subscription }
     {

@@ -49,7 +49,7 @@ impl ScriptFault {
 /// Returns whether a part of a script has a fault that takes precedence over every fault found later in that part. Only
 /// `TooLarge` does not.
 pub fn is_final<T>(read: &Result<T, ScriptFault>) -> bool
-    ensures { result ≡ results.is_final read.now }
+    ensures { result ≡ results.is_decisive read.now }
 {
     match read {
         Ok(_) => false,
@@ -60,7 +60,7 @@ pub fn is_final<T>(read: &Result<T, ScriptFault>) -> bool
 /// Returns which of two faults, found one after the other in a part of a script, refuses it: a bad form, or out of
 /// memory, takes precedence over a limit.
 fn first_of(fault: ScriptFault, next: ScriptFault) -> ScriptFault
-    ensures { result ≡ results.first_of fault next }
+    ensures { result ≡ results.refusing_fault fault next }
 {
     let ScriptFault::TooLarge(_) = fault else {
         return fault;

@@ -3,11 +3,11 @@ use Rattle.std.specs.Prelude.{is_some}
 use Rattle.std.proofs.lemmas.Bool.{false≢true}
 use Rattle.flow_law.specs.SharedFlow.{config_fault}
 use Rattle.flow_check.specs.declared.shared_calls.SharedEntry.{SharedEntry}
-use Rattle.flow_check.specs.Records.{Calls, IsWellTimed}
+use Rattle.flow_check.specs.Records.{CallsByCaller, IsWellTimed}
 use Rattle.flow_check.specs.Remaining.{GoesThroughAll}
 use Rattle.flow_check.specs.SharedMachine.{Kept, stepped, may_skip}
 use Rattle.flow_check.specs.Verdicts.{Judges}
-use Rattle.flow_check.specs.SharedLooks.{IsSound}
+use Rattle.flow_check.specs.SharedLooks.{KeepsWhatIsNeeded}
 use Rattle.flow_check.proofs.SharedJudging.{begun, fault_free, judged}
 use Rattle.flow_check.proofs.SharedLooking.{begun_sound, kept, looks}
 use Rattle.flow_check.proofs.shared_checking.check_shared.Goals as goal
@@ -19,9 +19,9 @@ pub check-requires-clause-well : goal.check-requires-clause-well
 check-requires-clause-well c = subst IsWellTimed (sym c.callers-callers.ensures.same) c.callers-callers.ensures.well
 
 pub check-requires-clause-looks : goal.check-requires-clause-looks
-check-requires-clause-looks c = (subst IsSound (sym c.in_ok-machine.ensures) (begun_sound c.callers-callers.result.now c.args.config), kept, looks)
+check-requires-clause-looks c = (subst KeepsWhatIsNeeded (sym c.in_ok-machine.ensures) (begun_sound c.callers-callers.result.now c.args.config), kept, looks)
 
 pub returns : goal.returns
 returns c = judged c.args.calls.now c.args.config c.in_ok-verdict.verdict (fault_free (config_fault c.args.config) (sym c.has_fault.ensures ∙ c.if-has_fault.false)) c.callers-callers.ensures.well (
-    subst (λ (calls : Calls SharedEntry). Judges (GoesThroughAll stepped may_skip calls (begun calls c.args.config)) c.in_ok-verdict.verdict) c.callers-callers.ensures.same (
+    subst (λ (calls : CallsByCaller SharedEntry). Judges (GoesThroughAll stepped may_skip calls (begun calls c.args.config)) c.in_ok-verdict.verdict) c.callers-callers.ensures.same (
     subst (λ (m : Kept). Judges (GoesThroughAll stepped may_skip c.callers-callers.result.now m) c.in_ok-verdict.verdict) c.in_ok-machine.ensures c.in_ok-verdict.ensures))

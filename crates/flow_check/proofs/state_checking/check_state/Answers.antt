@@ -1,9 +1,9 @@
 use Rattle.std.proofs.Common.{sym, subst}
 use Rattle.flow_check.specs.declared.state_calls.StateEntry.{StateEntry}
-use Rattle.flow_check.specs.Records.{Calls, IsWellTimed}
+use Rattle.flow_check.specs.Records.{CallsByCaller, IsWellTimed}
 use Rattle.flow_check.specs.Remaining.{GoesThroughAll}
 use Rattle.flow_check.specs.Subscribed.{none_subscribed}
-use Rattle.flow_check.specs.StateMachine.{Kept, stepped, may_skip}
+use Rattle.flow_check.specs.StateMachine.{StateKept, state_stepped, state_may_skip}
 use Rattle.flow_check.specs.Verdicts.{Judges}
 use Rattle.flow_check.proofs.StateJudging.{judged}
 use Rattle.flow_check.proofs.StateLooking.{kept, looks}
@@ -17,5 +17,5 @@ check-requires-clause-looks c = (tt, kept, looks)
 
 pub returns : goal.returns
 returns c = judged c.args.calls.now c.args.initial c.in_ok-verdict.verdict c.callers-callers.ensures.well (
-    subst (λ (calls : Calls StateEntry). Judges (GoesThroughAll stepped may_skip calls (record { value = c.args.initial; readers = none_subscribed calls })) c.in_ok-verdict.verdict) c.callers-callers.ensures.same (
-    subst (λ (m : Kept). Judges (GoesThroughAll stepped may_skip c.callers-callers.result.now m) c.in_ok-verdict.verdict) c.in_ok-machine.ensures c.in_ok-verdict.ensures))
+    subst (λ (calls : CallsByCaller StateEntry). Judges (GoesThroughAll state_stepped state_may_skip calls (record { value = c.args.initial; readers = none_subscribed calls })) c.in_ok-verdict.verdict) c.callers-callers.ensures.same (
+    subst (λ (m : StateKept). Judges (GoesThroughAll state_stepped state_may_skip c.callers-callers.result.now m) c.in_ok-verdict.verdict) c.in_ok-machine.ensures c.in_ok-verdict.ensures))

@@ -5,9 +5,9 @@ use Rattle.flow_law.specs.declared.call.SharedReply.TheVariants.{Refused}
 use Rattle.flow_law.specs.SharedHistory.{shared_flow}
 use Rattle.flow_law.specs.Standing.{Conforms, StandsFor}
 use Rattle.script_format.specs.declared.script.FlowStep.TheVariants as step
-use Rattle.flow_script.specs.Answers.{answer_of}
+use Rattle.flow_script.specs.Answers.{as_answer}
 use Rattle.flow_script.specs.SharedMeaning.{plays_shared}
-use Rattle.flow_script.specs.Shown.{numbers_of}
+use Rattle.flow_script.specs.Shown.{kept_numbers}
 use Rattle.flow_script.proofs.CallLemmas.{tells, refuses}
 use Rattle.flow_script.proofs.AnswerLemmas.{shared-answers}
 use Rattle.flow_script.proofs.PlayLemmas.{if-ok}
@@ -20,5 +20,5 @@ returns-in_ok-add_emission-in-Err-clause-plays c =
     let fault = c.in-Err.refused.fault in
     let conforms = subst (λ v. Conforms old (Emit v) (Refused fault) new) (to_z-of_z c.ranges.value) c.in-Err.ensures.documented in
     if-ok c.call_refusal.result (λ a is. tells shared_flow plays_shared StandsFor shared-answers (step.Emit c.args.value) _ (Emit c.args.value) (Refused fault)
-    old new (numbers_of c.args.numbers.now) _ (answer_of a) refl conforms.0
+    old new (kept_numbers c.args.numbers.now) _ (as_answer a) refl conforms.0
     (refuses shared_flow plays_shared StandsFor shared-answers (Emit c.args.value) fault a is) c.in_ok-add_emission-in-Err.ensures.added) c.call_refusal.ensures.answer

@@ -8,7 +8,7 @@ use Rattle.flow_script.specs.FlowMeaning.{Turn}
 use Rattle.flow_script.specs.Numbers.{Numbers}
 use Rattle.flow_script.specs.SharingMeaning.{SharingPlay, beside_sharing, sharing_step}
 use Rattle.flow_script.specs.Sharings.{ShowsSharing}
-use Rattle.flow_script.specs.Shown.{Follows}
+use Rattle.flow_script.specs.Shown.{FollowsStep}
 use Rattle.flow_script.proofs.sharing_steps.sharing_step.Goals as goal
 
 other-step : {F : Type 0} (flow : FlowStep → F → Numbers → Turn F) (reply : (c : HubCall ℤ) → F → After (HubAnswer c) F) (s : FlowStep) → ((now : ℕ) → s ≡ step.Turn now → ⊥)
@@ -19,5 +19,5 @@ other-step flow reply _ other = refl
 pub returns-in_default-clause-plays : goal.returns-in_default-clause-plays
 returns-in_default-clause-plays g c =
     let P : (SharingPlay g.row.H-State.Denot → Numbers → Turn (SharingPlay g.row.H-State.Denot)) → Type 0 = λ t.
-    IfOk c.step_on_flow.result (Follows (ShowsSharing g.H.ScriptHub.stands) t c.args.sharing.now c.step_on_flow.new.sharing c.args.numbers.now c.step_on_flow.new.numbers) in
+    IfOk c.step_on_flow.result (FollowsStep (ShowsSharing g.H.ScriptHub.stands) t c.args.sharing.now c.step_on_flow.new.sharing c.args.numbers.now c.step_on_flow.new.numbers) in
     subst P (other-step g.H.ScriptHub.flow g.H.ScriptHub.reply c.args.step c.in_default.not-Turn) c.step_on_flow.ensures.plays

@@ -8,7 +8,7 @@ use Rattle.flow_law.specs.Standing.{StateConforms}
 use Rattle.script_format.specs.declared.script.FlowStep.TheVariants as step
 use Rattle.flow_script.specs.Answers.{tested}
 use Rattle.flow_script.specs.StateMeaning.{IsState, plays_state}
-use Rattle.flow_script.specs.Shown.{numbers_of}
+use Rattle.flow_script.specs.Shown.{kept_numbers}
 use Rattle.flow_script.proofs.CallLemmas.{tells}
 use Rattle.flow_script.proofs.AnswerLemmas.{state-answers}
 use Rattle.flow_script.proofs.state_calls.compare_and_set.Goals as goal
@@ -22,6 +22,6 @@ returns-clause-plays c =
     let answer = Answered c.compare_and_set.result in
     let expected = subst (λ v. StateConforms old (CompareAndSet v (to_z w64 (of_z w64 update))) answer new) (to_z-of_z c.ranges.expect) c.compare_and_set.ensures.documented in
     let conforms = subst (λ v. StateConforms old (CompareAndSet expect v) answer new) (to_z-of_z c.ranges.update) expected in
-    let n = numbers_of c.args.numbers.now in
+    let n = kept_numbers c.args.numbers.now in
     tells state_flow plays_state IsState state-answers (step.CompareAndSet expect update) _ (CompareAndSet expect update) answer
     old new n n (tested c.compare_and_set.result) refl conforms.0 (refl, refl) refl

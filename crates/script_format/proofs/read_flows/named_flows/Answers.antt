@@ -2,7 +2,7 @@ use Rattle.std.proofs.Common.{◌≡◌, rules, string_bytes, sym, ap, subst, �
 use Rattle.serde_json.specs.View.{view, members_view}
 use Rattle.script_format.specs.Actions.{heads_of}
 use Rattle.script_chain_format.specs.Results.{Gives}
-use Rattle.script_format.specs.Flows.{flows_after, named_flow, no_flows_of, with_flow}
+use Rattle.script_format.specs.Flows.{flows_after, named_flow, no_flows_of, with_named_flow}
 use Rattle.script_format.specs.HeadViews.{flows_result, named_flow_result}
 use Rattle.script_format.proofs.FlowsLemmas.{flows-begin, flows-final}
 use Rattle.script_chain_format.proofs.ResultLemmas.{final-whole}
@@ -29,7 +29,7 @@ loop-name-preserved c =
     let name = string_bytes c.in-Some.name.now in
     let d = view c.in-Some.flow.now in
     let read = subst (λ n. Gives (named_flow n d) (named_flow_result c.named_flow.result)) c.as_str.ensures.value c.named_flow.ensures in (
-      with_flow before.0 (named_flow name d),
+      with_named_flow before.0 (named_flow name d),
       c.with_flow-flows.ensures before.0 (named_flow name d) before.1 read,
       ap (λ l. flows_after before.0 (members_view l)) (sym c.in-Some.ensures.steps) ∙ before.2,
     )

@@ -1,6 +1,6 @@
 use Rattle.std.proofs.Common.{◌≡◌, ◌+◌, ◌-◌, length, map, refl, sym, ap, subst, ◌∙◌, arith}
 use Rattle.flow_law.specs.SharedFlow.{stand_at, raise_to}
-use Rattle.flow_containers.specs.Subscribers.{Standing, read, AreSound}
+use Rattle.flow_containers.specs.Subscribers.{Standing, subscribers_read, AreSound}
 use Rattle.flow_containers.specs.PositionCounts.{AreWithin}
 use Rattle.flow_containers.proofs.RaisedLemmas.{raise_to_last, raise_to_first}
 use Rattle.flow_containers.proofs.SubscribersLemmas.{standing_same, shifted, shift_room, gathered, gathered_list, length-shifted}
@@ -26,14 +26,14 @@ returns-then-emitted-gt0 g c =
     let all = gathered_list s.counts.row s.counts.emitted s.floor s.members.last s.members.members c.self.invariant one in
     let window : length c.shift.new.self.row - 1 ≡ length s.counts.row - 1 =
     ap (λ r. length r - 1) c.shift.ensures.row ∙ ap (λ k. k - 1) (length-shifted s.counts.row (c.emitted-emitted.result - 1)) in
-    let list : read c.emitted-emitted.result s.members.members ≡ map (stand_at s.counts.emitted) (read s.floor s.members.members) = ap (λ k. read k s.members.members) c.emitted-emitted.ensures ∙ all in
+    let list : subscribers_read c.emitted-emitted.result s.members.members ≡ map (stand_at s.counts.emitted) (subscribers_read s.floor s.members.members) = ap (λ k. subscribers_read k s.members.members) c.emitted-emitted.ensures ∙ all in
     standing_same _ _ _ _ _ _ _ _ _ _ _ list c.shift.ensures.emitted window c.emitted-emitted.ensures refl
     ∙ ap (λ (v : Standing _). record v { list = map (stand_at v.emitted) v.list; floor = v.emitted }) c.self.view_is
 
 pub returns-else-emitted-gt0 : goal.returns-else-emitted-gt0
 returns-else-emitted-gt0 g c =
     let s = c.self.inside in
-    let us = read s.floor s.members.members in
+    let us = subscribers_read s.floor s.members.members in
     let one = subst (λ (v : Standing _). v.window ≡ 1) (sym c.self.view_is) c.requires in
     let none : s.counts.emitted ≡ 0 = omega (arith, c.emitted-emitted.ensures, c.if-emitted-gt0.false) in
     let floor : s.floor ≡ s.counts.emitted = omega (arith, c.self.invariant.floor, one, none) in

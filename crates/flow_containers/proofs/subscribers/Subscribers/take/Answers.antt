@@ -1,7 +1,7 @@
 use Rattle.std.proofs.Common.{◌≡◌, ◌+◌, ◌-◌, ◌<◌, ◌≤◌, ◌%◌, ◌^◌, ◌++◌, [], length, take, drop, get_or, Some, refl, sym, ap, subst, ◌∙◌, arith}
 use Rattle.std.proofs.lemmas.List.{append-nil, length-set, nil_from_length}
 use Rattle.flow_containers.specs.Members.{row_of, with_row}
-use Rattle.flow_containers.specs.PositionCounts.{entered, left_at}
+use Rattle.flow_containers.specs.PositionCounts.{one_more_at, one_less_at}
 use Rattle.flow_containers.specs.Subscribers.{Standing, standing_of, AreSound}
 use Rattle.flow_containers.specs.Receiving.{TakesSome}
 use Rattle.flow_containers.proofs.ReceivingLemmas.{position_in, stands_at, held_here, near_here, some_here, room_here, untouched, untouched_sound, none_left, gone, goes, goes_sound}
@@ -46,7 +46,7 @@ enter-requires-clause-room g c =
     let s = c.self.inside in let number = c.args.number in let row = c.in-Some.row.now in
     let found : row_of number s.members.members ≡ Some row = sym c.in-Some.ensures.value in
     let q = c.max-position.result + c.copy_to-count.result in
-    let left = c.leave.ensures.row ∙ ap (left_at s.counts.row) c.max-position.ensures in
+    let left = c.leave.ensures.row ∙ ap (one_less_at s.counts.row) c.max-position.ensures in
     subst (λ r. get_or r (q % length r) 0 + 1 < 2 ^ 64) (sym left)
     (room_here s number row found c.self.invariant q)
 
@@ -59,8 +59,8 @@ invariant_of-self-then-count-gt0 g c =
     let more : position_in s number row + count ≤ s.counts.emitted = omega (arith, c.copy_to-count.ensures.within, held.0, held.1, c.max-position.ensures, c.emitted.ensures, c.len-2.ensures.len) in
     let none : row.own ≡ [] = nil_from_length row.own (omega (arith, c.if-len-gt0.false, c.len.ensures)) in
     let next = c.max-position.result + count in
-    let counts : c.enter.new.self.row ≡ entered (left_at s.counts.row (position_in s number row)) (position_in s number row + count) =
-    c.enter.ensures.row ∙ ap (λ r. entered r next) c.leave.ensures.row ∙ ap (λ p. entered (left_at s.counts.row p) (p + count)) c.max-position.ensures in
+    let counts : c.enter.new.self.row ≡ one_more_at (one_less_at s.counts.row (position_in s number row)) (position_in s number row + count) =
+    c.enter.ensures.row ∙ ap (λ r. one_more_at r next) c.leave.ensures.row ∙ ap (λ p. one_more_at (one_less_at s.counts.row p) (p + count)) c.max-position.ensures in
     let emitted : c.enter.new.self.emitted ≡ s.counts.emitted = c.enter.ensures.emitted ∙ c.leave.ensures.emitted in
     subst (λ e. AreSound (length c.enter.new.self.row - 1) c.enter.new.self.row e s.floor (with_row number (record { own = row.own; position = next }) s.members.members) s.members.last) (sym emitted)
     (subst (λ r. AreSound (length r - 1) r s.counts.emitted s.floor (with_row number (record { own = row.own; position = next }) s.members.members) s.members.last) (sym counts)

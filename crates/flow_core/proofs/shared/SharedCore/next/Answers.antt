@@ -11,7 +11,7 @@ use Rattle.flow_law.specs.Covering.{Covers, kept_start}
 use Rattle.flow_law.proofs.CoveringLemmas.{covers-subscribers, least_position-move_to, least_position-with_own}
 use Rattle.flow_law.proofs.HoldingLemmas.{covers, same_value, stands-own}
 use Rattle.std.specs.Prelude.{Ok}
-use Rattle.flow_containers.specs.Receiving.{Receives, was_last_at}
+use Rattle.flow_containers.specs.Receiving.{SubscriberReceives, was_last_at}
 use Rattle.flow_core.specs.SharedCore.{window_of, fields_of, IsSound}
 use Rattle.flow_core.proofs.CallLemmas.{next_own, next_gone, next_value, next_empty, next_wants_memory}
 use Rattle.flow_containers.proofs.ReceivingLemmas.{found_below}
@@ -32,7 +32,7 @@ pub invariant_of-self : goal.invariant_of-self
 invariant_of-self g c =
     let i = c.self.inside in
     let number = c.args.id.number in
-    let given = subst (λ r. Receives number i.values.items i.subscribers (Ok r) c.receive.new.self) c.in-Ok-Own.field-0-is c.in-Ok-Own.ensures.receives in
+    let given = subst (λ r. SubscriberReceives number i.values.items i.subscribers (Ok r) c.receive.new.self) c.in-Ok-Own.field-0-is c.in-Ok-Own.ensures.receives in
     let own = given.0 in
     subst (λ u. IsSound (record i { subscribers = u })) (sym given.2)
     (sound_subscribers i (with_own number own i.subscribers.list) i.subscribers.floor c.self.invariant
@@ -44,7 +44,7 @@ returns-in-Ok-Own-clause-documented g c = (
   λ s stands.
       let i = c.self.inside in
       let number = c.args.id.number in
-      let given = subst (λ r. Receives number i.values.items i.subscribers (Ok r) c.receive.new.self) c.in-Ok-Own.field-0-is c.in-Ok-Own.ensures.receives in
+      let given = subst (λ r. SubscriberReceives number i.values.items i.subscribers (Ok r) c.receive.new.self) c.in-Ok-Own.field-0-is c.in-Ok-Own.ensures.receives in
       let own = given.0 in
       let within : StandsFor (fields_of i) s = subst (λ k. StandsFor k s) (sym c.self.view_is) stands in
       let mine : own_of number s.subscribers ≡ c.in-Ok-Own.value ∷ own = ap (own_of number) (sym within.subscribers) ∙ given.1 in
@@ -61,7 +61,7 @@ returns-in-Ok-Empty-clause-documented g c = (
   λ s stands.
       let i = c.self.inside in
       let number = c.args.id.number in
-      let given = subst (λ r. Receives number i.values.items i.subscribers (Ok r) c.receive.new.self) c.in-Ok-Empty.field-0-is c.in-Ok-Empty.ensures.receives in
+      let given = subst (λ r. SubscriberReceives number i.values.items i.subscribers (Ok r) c.receive.new.self) c.in-Ok-Empty.field-0-is c.in-Ok-Empty.ensures.receives in
       let p = given.0 in
       let at = given.1 in
       let within : StandsFor (fields_of i) s = subst (λ k. StandsFor k s) (sym c.self.view_is) stands in
@@ -80,7 +80,7 @@ pub invariant_of-self-in-Ok-Emitted : goal.invariant_of-self-in-Ok-Emitted
 invariant_of-self-in-Ok-Emitted g c =
     let i = c.self.inside in
     let number = c.args.id.number in
-    let given = subst (λ r. Receives number i.values.items i.subscribers (Ok r) c.receive.new.self) c.in-Ok-Emitted.field-0-is c.in-Ok-Emitted.ensures.receives in
+    let given = subst (λ r. SubscriberReceives number i.values.items i.subscribers (Ok r) c.receive.new.self) c.in-Ok-Emitted.field-0-is c.in-Ok-Emitted.ensures.receives in
     let p = given.0 in
     let at = given.1 in
     let below = found_below (p - (i.subscribers.emitted - length i.values.items)) i.values.items c.in-Ok-Emitted.value at.2 in
@@ -98,7 +98,7 @@ returns-in-Ok-Emitted-clause-documented g c = (
   λ s stands.
       let i = c.self.inside in
       let number = c.args.id.number in
-      let given = subst (λ r. Receives number i.values.items i.subscribers (Ok r) c.receive.new.self) c.in-Ok-Emitted.field-0-is c.in-Ok-Emitted.ensures.receives in
+      let given = subst (λ r. SubscriberReceives number i.values.items i.subscribers (Ok r) c.receive.new.self) c.in-Ok-Emitted.field-0-is c.in-Ok-Emitted.ensures.receives in
       let p = given.0 in
       let at = given.1 in
       let within : StandsFor (fields_of i) s = subst (λ k. StandsFor k s) (sym c.self.view_is) stands in
@@ -149,13 +149,13 @@ receive-requires-clause-held g c = c.self.invariant.held
 pub invariant_of-self-in-Ok-Empty : goal.invariant_of-self-in-Ok-Empty
 invariant_of-self-in-Ok-Empty g c =
     let i = c.self.inside in
-    let given = subst (λ r. Receives c.args.id.number i.values.items i.subscribers (Ok r) c.receive.new.self) c.in-Ok-Empty.field-0-is c.in-Ok-Empty.ensures.receives in
+    let given = subst (λ r. SubscriberReceives c.args.id.number i.values.items i.subscribers (Ok r) c.receive.new.self) c.in-Ok-Empty.field-0-is c.in-Ok-Empty.ensures.receives in
     subst (λ u. IsSound (record i { subscribers = u })) (sym given.2) c.self.invariant
 
 pub invariant_of-self-in-Ok-Gone : goal.invariant_of-self-in-Ok-Gone
 invariant_of-self-in-Ok-Gone g c =
     let i = c.self.inside in
-    let given = subst (λ r. Receives c.args.id.number i.values.items i.subscribers (Ok r) c.receive.new.self) c.in-Ok-Gone.field-0-is c.in-Ok-Gone.ensures.receives in
+    let given = subst (λ r. SubscriberReceives c.args.id.number i.values.items i.subscribers (Ok r) c.receive.new.self) c.in-Ok-Gone.field-0-is c.in-Ok-Gone.ensures.receives in
     subst (λ u. IsSound (record i { subscribers = u })) (sym given.2) c.self.invariant
 
 pub invariant_of-self-in-Err : goal.invariant_of-self-in-Err
@@ -166,7 +166,7 @@ returns-in-Ok-Gone-clause-documented g c = (
   λ s stands.
       let i = c.self.inside in
       let number = c.args.id.number in
-      let given = subst (λ r. Receives number i.values.items i.subscribers (Ok r) c.receive.new.self) c.in-Ok-Gone.field-0-is c.in-Ok-Gone.ensures.receives in
+      let given = subst (λ r. SubscriberReceives number i.values.items i.subscribers (Ok r) c.receive.new.self) c.in-Ok-Gone.field-0-is c.in-Ok-Gone.ensures.receives in
       let within : StandsFor (fields_of i) s = subst (λ k. StandsFor k s) (sym c.self.view_is) stands in
       let none : own_of number s.subscribers ≡ [] = ap (own_of number) (sym within.subscribers) ∙ given.0 in
       let nowhere : position_of number s.subscribers ≡ None = ap (position_of number) (sym within.subscribers) ∙ given.1 in

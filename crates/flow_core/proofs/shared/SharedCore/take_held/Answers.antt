@@ -9,14 +9,14 @@ use Rattle.flow_law.specs.Covering.{Covers, kept_start}
 use Rattle.flow_law.proofs.CoveringLemmas.{least_position-move_to}
 use Rattle.flow_law.proofs.HoldingLemmas.{covers}
 use Rattle.flow_core.specs.SubId.{number_of}
-use Rattle.flow_core.specs.SharedCore.{window_of, fields_of, IsSound, Nexts}
+use Rattle.flow_core.specs.SharedCore.{window_of, fields_of, IsSound, SharedCoreNexts}
 use Rattle.flow_core.proofs.RingLemmas.{least_at, within_at, within-moved}
 use Rattle.flow_core.proofs.SoundLemmas.{sound_subscribers}
 use Rattle.flow_core.proofs.TakingLemmas.{drains_none, taken_at_once}
 use Rattle.flow_core.proofs.shared.SharedCore.take_held.Goals as goal
 
 pub returns-then-len-gt0-clause-taken : goal.returns-then-len-gt0-clause-taken
-returns-then-len-gt0-clause-taken g c = drains_none (Nexts (number_of c.args.id)) c.args.self.now c.args.values.now.items
+returns-then-len-gt0-clause-taken g c = drains_none (SharedCoreNexts (number_of c.args.id)) c.args.self.now c.args.values.now.items
 
 pub take-taken-requires-clause-held : goal.take-taken-requires-clause-held
 take-taken-requires-clause-held g c = c.self.invariant.held
@@ -36,7 +36,7 @@ invariant_of-self g c = subst (λ u. IsSound (record c.self.inside { subscribers
 pub returns-then-taken-eq0-clause-taken : goal.returns-then-taken-eq0-clause-taken
 returns-then-taken-eq0-clause-taken g c =
     let i = c.self.inside in
-    let nexts = Nexts (number_of c.args.id) in
+    let nexts = SharedCoreNexts (number_of c.args.id) in
     let list = c.args.values.now.items in
     let none = c.take-taken.ensures.none c.if-taken-eq0.true in
     let same = ap (λ u. fields_of (record i { subscribers = u })) none.1 ∙ c.self.view_is in
@@ -76,7 +76,7 @@ returns-clause-taken g c =
     let moved = given.5 in
     let idle : i.queue ≡ [] = nil_from_length i.queue (omega (arith, c.if-len-gt0.false, c.len.ensures)) in
     let low : i.subscribers.emitted - length i.values.items ≤ p = omega (arith, least_at (kept_start core) number p i.subscribers.list at, c.self.invariant.enough) in
-    subst (λ k. DrainsBy (Nexts number) count k c.args.values.now.items (Ok Most) c.take-taken.new.list.items c.trim.new.self) c.self.view_is
+    subst (λ k. DrainsBy (SharedCoreNexts number) count k c.args.values.now.items (Ok Most) c.take-taken.new.list.items c.trim.new.self) c.self.view_is
     (taken_at_once core number p c.self.invariant.reset_mark c.self.invariant.held idle none at count c.trim.new.self c.args.values.now.items c.take-taken.new.list.items (covers core) low more some longer
     (λ s covered. c.trim.ensures s (subst (λ u. Covers (fields_of (record i { subscribers = u })) s) (sym moved) covered)))
 

@@ -1,17 +1,13 @@
-use Rattle.std.proofs.Common.{◌≡◌, List, IfSome, Option, Box, ap, sym, ◌∙◌, subst}
-use Rattle.std.specs.ControlFlow.{continue_value}
+use Rattle.std.proofs.Common.{List, subst}
 use Rattle.flow_law.specs.declared.history.HistoryEvent.{HistoryEvent}
 use Rattle.flow_law.specs.Growth.{Fits}
-use Rattle.flow_gate.specs.Tokens.{Token, Origin}
-use Rattle.flow_gate.specs.Steps.{boxed}
+use Rattle.flow_gate.specs.Tokens.{GateOrigin}
 use Rattle.flow_gate.proofs.Closing.{closes}
+use Rattle.flow_gate.proofs.Seats.{idle_view}
 use Rattle.flow_gate.proofs.gate.Gate.close_with.Goals as goal
 
-pub returns-in_ok-state : goal.returns-in_ok-state
-returns-in_ok-state g c =
-    let Home : Option (Box g.row.S.Denot g.row.A.Denot) → Type 0 = λ o. IfSome o (λ x. (history : List (HistoryEvent g.row.S-Said.Denot)) × boxed {A = g.row.A.Denot} g.S.Guarded.stands c.args.self.first x history × Fits history c.args.seat.knows) in
-    let told : Home c.take-state.result =
-    subst (λ (z : Origin g.row.S.Denot × Token g.row.S-Said.Denot). IfSome c.take-state.result (λ x. (history : List (HistoryEvent g.row.S-Said.Denot)) × boxed {A = g.row.A.Denot} g.S.Guarded.stands z.0.first x history × Fits history z.1.knows)) (λ i. (c.self.view_is i, c.seat.view_is i))
-    (closes (boxed {A = g.row.A.Denot} g.S.Guarded.stands c.self.inside.table.shared.key.value) _ _ _ _ _ _ _ (ap (λ m. m.0) c.seat.invariant) c.close_with-closed.ensures.values.2 c.word-is_home.ensures c.if-is_home.true c.take-state.ensures.value) in
-    let home = subst Home (c.branch-state.ensures ∙ ap continue_value c.in_ok-state.is) told in
-    (home.0, subst (λ (x : g.row.S.Denot). g.S.Guarded.stands c.args.self.first x home.0) (sym c.into_inner.ensures) home.1, home.2)
+pub returns-then-is_home : goal.returns-then-is_home
+returns-then-is_home g c =
+    let view = idle_view c.seat.inside.seat c.args.seat c.seat.invariant c.seat.view_is c.requires.idle in
+    subst (λ (gate : GateOrigin g.row.S.Denot). (history : List (HistoryEvent g.row.S-Said.Denot)) × g.S.Guarded.stands gate.first c.take-state.result history × Fits history c.args.seat.token.knows) c.self.view_is
+    (closes (g.S.Guarded.stands c.self.inside.table.shared.key.value) _ _ _ _ _ _ _ view c.close_with-closed.ensures.values.2 c.word-is_home.ensures c.if-is_home.true c.take-state.ensures.value)

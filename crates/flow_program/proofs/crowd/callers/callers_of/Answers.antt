@@ -1,7 +1,7 @@
 use Rattle.std.proofs.Common.{arith, ◌≡◌, ◌+◌, ap, sym, subst, ◌∙◌, get_or, vec_items}
 use Rattle.flow_law.specs.Closed.{nth_child}
 use Rattle.flow_law.specs.Done.{done_by}
-use Rattle.flow_program.specs.Crowds.{IsSubscribed}
+use Rattle.flow_program.specs.Crowds.{IsNewSubscription}
 use Rattle.flow_program.proofs.crowd.callers.callers_of.Goals as goal
 
 pub returns-clause-made : goal.returns-clause-made
@@ -17,6 +17,6 @@ returns-clause-made g c =
       emitter = λ i d l. (ap (λ w. w.flow) (made.made i d l), ap (λ w. w.token.knows) (made.made i d l) ∙ ap (nth_child i) begun);
       subscriber = λ i d l. (
         subscribed.flows i d l ∙ made.flow,
-        subst (λ m. IsSubscribed (done_by now.token.knows) (m + i) (get_or (vec_items c.in_ok-readers.readers) i d).subscription) began (subscribed.subscribed i d l),
+        subst (λ m. IsNewSubscription (done_by now.token.knows) (m + i) (get_or (vec_items c.in_ok-readers.readers) i d).subscription) began (subscribed.subscribed i d l),
       );
     }

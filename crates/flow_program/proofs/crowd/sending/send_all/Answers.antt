@@ -1,5 +1,5 @@
 use Rattle.std.proofs.Common.{[], ◌∷◌, ◌+◌, ◌∙◌, refl, sym, subst}
-use Rattle.flow_program.specs.Callers.{Emits}
+use Rattle.flow_program.specs.Callers.{OnlyEmits}
 use Rattle.flow_program.specs.Numbers.{numbers_from}
 use Rattle.flow_program.proofs.CallerLemmas.{emits_none, emits_more, numbers_more}
 use Rattle.flow_program.proofs.crowd.sending.send_all.Goals as goal
@@ -12,6 +12,6 @@ loop-sent-preserved g c =
     let sent = c.loop-sent.sent in let first = c.args.first in let start = c.args.emitter.now.token.knows in
     let now = c.loop-sent.emitter in let new = c.send.new.emitter in (
       c.send.ensures.flow ∙ c.loop-sent.invariant.0,
-      subst (λ xs. Emits xs start new.token.knows) (sym (numbers_more first sent))
+      subst (λ xs. OnlyEmits xs start new.token.knows) (sym (numbers_more first sent))
           (emits_more (numbers_from first sent) ((first + sent) ∷ []) start now.token.knows new.token.knows c.loop-sent.invariant.1 c.send.ensures.sent),
     )

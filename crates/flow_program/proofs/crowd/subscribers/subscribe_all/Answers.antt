@@ -1,6 +1,6 @@
 use Rattle.std.proofs.Common.{arith, ◌≡◌, ◌+◌, ◌≤◌, ap, sym, subst, ◌∙◌, length, vec_items}
 use Rattle.flow_law.specs.Done.{done_by}
-use Rattle.flow_program.specs.Crowds.{IsSubscribed}
+use Rattle.flow_program.specs.Crowds.{IsNewSubscription}
 use Rattle.flow_program.proofs.PlaceLemmas.{pushed_each}
 use Rattle.flow_program.proofs.SubscribedLemmas.{subscribed_next}
 use Rattle.flow_program.proofs.crowd.subscribers.subscribe_all.Goals as goal
@@ -16,7 +16,7 @@ loop-subscribed-preserved g c =
       next.1 ∙ ap (λ m. m + 1) was.2 ∙ (let z : start.token.knows.made + i + 1 ≡ start.token.knows.made + (i + 1) = omega arith in z),
       c.push_reserved.ensures.len ∙ ap (λ m. m + 1) was.3,
       pushed_each (λ k r. r.flow ≡ start.flow) xs ys reader i len pushed was.4 (sub.0 ∙ was.0),
-      pushed_each (λ k r. IsSubscribed (done_by new.token.knows) (start.token.knows.made + k) r.subscription) xs ys reader i len pushed
-          (λ k d l. next.3 (start.token.knows.made + k) _ (was.5 k d l)) (subst (λ n. IsSubscribed (done_by new.token.knows) n reader.subscription) was.2 next.2),
+      pushed_each (λ k r. IsNewSubscription (done_by new.token.knows) (start.token.knows.made + k) r.subscription) xs ys reader i len pushed
+          (λ k d l. next.3 (start.token.knows.made + k) _ (was.5 k d l)) (subst (λ n. IsNewSubscription (done_by new.token.knows) n reader.subscription) was.2 next.2),
       subst (λ n. c.args.count ≤ n) (sym c.push_reserved.ensures.capacity) was.6,
     )

@@ -19,14 +19,14 @@ use Rattle.flow_script.specs.declared.refusal.Refusal.TheVariants.{Flow, Sharing
 use Rattle.flow_script.specs.Answers as answer
 use Rattle.flow_script.specs.Memory.{IsToldFault, IsToldFlowFault}
 use Rattle.flow_script.specs.declared.player.Player.{Player as Kept}
-use Rattle.flow_script.specs.Players.{Makes, MakesSharing}
+use Rattle.flow_script.specs.Players.{MakesPlayer, MakesSharing}
 use Rattle.flow_script.specs.ScriptMeaning.{player_of, shared, state}
 use Rattle.flow_script.proofs.player.Player.new.Goals as goal
 
 -- a shared flow that is refused
 no-flow : (of : Head) (config : Config) (fault : FlowFault) (refused : Refusal) (result : Result Kept Refusal)
-    → of ≡ head.shared_flow config → NoFlow config fault → result ≡ Err refused → refused ≡ Flow fault → Makes of result
-no-flow of config fault refused result is none answered flow = subst (Makes of) (sym (answered ∙ ap Err flow)) (told none)
+    → of ≡ head.shared_flow config → NoFlow config fault → result ≡ Err refused → refused ≡ Flow fault → MakesPlayer of result
+no-flow of config fault refused result is none answered flow = subst (MakesPlayer of) (sym (answered ∙ ap Err flow)) (told none)
   where
     told : NoFlow config fault → IsToldFlowFault fault → player_of of ≡ Err (answer.refused fault)
     told (inl faulty) _ = ap player_of is ∙ ap (λ o. option_map_or (λ f. Err (answer.refused f)) o (Ok (shared (first_state config)))) faulty
@@ -34,8 +34,8 @@ no-flow of config fault refused result is none answered flow = subst (Makes of) 
 
 -- a sharing that is refused
 no-sharing : (of : Head) (fault : ShareFault) (refused : Refusal) (result : Result Kept Refusal)
-    → MakesSharing of (Err fault) → result ≡ Err refused → refused ≡ Sharing fault → Makes of result
-no-sharing of fault refused result makes answered sharing = subst (Makes of) (sym (answered ∙ ap Err sharing)) (told makes)
+    → MakesSharing of (Err fault) → result ≡ Err refused → refused ≡ Sharing fault → MakesPlayer of result
+no-sharing of fault refused result makes answered sharing = subst (MakesPlayer of) (sym (answered ∙ ap Err sharing)) (told makes)
   where
     told : (player_of of ≡ Err (answer.turn_refused fault)) ⊎ (fault ≡ share_fault.Flow OutOfMemory) → IsToldFault fault → player_of of ≡ Err (answer.turn_refused fault)
     told (inl line) _ = line

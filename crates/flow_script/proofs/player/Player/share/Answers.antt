@@ -7,7 +7,7 @@ use Rattle.flow_cold.specs.ScriptChain.{node_rest}
 use Rattle.flow_law.specs.declared.report.ShareFault.TheVariants.{Flow}
 use Rattle.flow_turns.specs.ShareIn.{share_config}
 use Rattle.flow_turns.specs.CoreHub.{emission_of}
-use Rattle.flow_turns.specs.OverCores.{Emits}
+use Rattle.flow_turns.specs.OverCores.{StandsForEmitting}
 use Rattle.script_format.specs.Heads.{shared_chain}
 use Rattle.flow_script.specs.Answers.{turn_refused}
 use Rattle.flow_script.specs.ScriptMeaning.{player_of, share}
@@ -28,5 +28,5 @@ returns c =
       share play,
       ap (λ b. player_of (shared_chain b started c.args.replay c.args.limit)) c.in_ok-chain.ensures.1
           ∙ ap (λ o. option_map_or (λ fault. Err (turn_refused (Flow fault))) o (Ok (share play))) made.flow.0,
-      begun Emits sharing started built.run flow made.nothing made.state is (made.flow.1, waits),
+      begun StandsForEmitting sharing started built.run flow made.nothing made.state is (made.flow.1, waits),
     )

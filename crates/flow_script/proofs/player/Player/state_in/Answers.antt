@@ -4,7 +4,7 @@ use Rattle.flow_law.specs.declared.states.StateAndInitial.{StateAndInitial}
 use Rattle.flow_law.specs.declared.states.StateFlowState.{StateFlowState}
 use Rattle.flow_law.specs.StateFlow.{first_state_flow}
 use Rattle.flow_cold.specs.ScriptChain.{node_rest}
-use Rattle.flow_turns.specs.StateHub.{state_core_of, initial_of, state_flow_of}
+use Rattle.flow_turns.specs.StateHub.{state_core_of, reset_value, state_flow_of}
 use Rattle.script_format.specs.Heads.{state_chain}
 use Rattle.flow_script.specs.ScriptMeaning.{player_of, state_in}
 use Rattle.flow_script.specs.SharingMeaning.{first_sharing}
@@ -21,7 +21,7 @@ returns c =
     let made = c.in_ok-sharing.ensures in
     let is = made.chain tt ∙ ap (λ r. chained r (node_rest c.in_ok-chain.chain.node) sharing.hub) c.in_ok-chain.ensures.2 ∙ ap (λ r. chained built.run r sharing.hub) c.in_ok-chain.ensures.3 in
     let core = subst (λ v. state_core_of sharing.hub ≡ first_state_flow c.args.limit v) (to_z-of_z c.ranges.initial) made.flow in
-    let initial = subst (λ v. initial_of sharing.hub ≡ v) (to_z-of_z c.ranges.initial) made.initial in
+    let initial = subst (λ v. reset_value sharing.hub ≡ v) (to_z-of_z c.ranges.initial) made.initial in
     let shown : state_flow_of sharing.hub ≡ flow =
     ap (λ (f : StateFlowState ℤ). record { flow = f; initial = sharing.hub.initial }) core ∙ ap (λ (x : ℤ). record { flow = first; initial = x }) initial in (
       state_in (first_sharing built.run started flow),

@@ -1,11 +1,10 @@
-use Rattle.std.proofs.Common.{inl, ◌≡◌, true}
+use Rattle.std.proofs.Common.{inl, ◌≡◌, true, refl}
 use Rattle.flow_core.specs.SubId.{number_of}
 use Rattle.flow_core.proofs.TakingLemmas.{drains_none, drains_lifted}
 use Rattle.flow_law.specs.History.{replied}
-use Rattle.flow_law.specs.Sleeping.{FindsNothing}
 use Rattle.flow_shared.specs.Attended.{AttendedAs}
 use Rattle.flow_shared.specs.Drains.{CoreNexts}
-use Rattle.flow_shared.proofs.Attending.{none_sleeps}
+use Rattle.flow_shared.proofs.Attending.{alone_after}
 use Rattle.flow_shared.proofs.attended.Attended.take_held.Goals as goal
 
 pub returns-clause-taken : goal.returns-clause-taken
@@ -18,18 +17,7 @@ returns-then-is_alone-clause-taken g c =
     let sleeping = g.S.FlowCore.sleeping in
     let StandsAs = g.S.FlowCore.stands_as in
     let n = number_of c.args.id in
-    let said = kind.take_next n in
     drains_lifted (CoreNexts kind n StandsAs) (CoreNexts kind n (AttendedAs sleeping StandsAs)) (λ core. record c.args.self.now { core = core })
     (λ before answer after documented s at.
-    let reply = replied kind kind.received answer in
-    let now = documented s at.core in (
-      now.0,
-      record {
-        core = now.1;
-        sound = sleeping.keeps s said reply at.sound;
-        readers = none_sleeps (λ u. FindsNothing kind u (kind.after s said reply)) c.args.self.now.readers c.if-is_alone.ensures.0;
-        emitters = none_sleeps (λ e. sleeping.waits e (kind.after s said reply) ≡ true) c.args.self.now.emitters c.if-is_alone.ensures.1;
-        watchers = inl c.if-is_alone.ensures.2;
-      },
-    ))
+    alone_after sleeping StandsAs (record c.args.self.now { core = before }) (record c.args.self.now { core = after }) (kind.take_next n) (replied kind kind.received answer) s c.if-is_alone.ensures refl documented refl refl refl at)
     c.take_held.result c.args.self.now.core c.take_held.new.self c.args.values.now.items c.take_held.new.values.items c.take_held.ensures.taken

@@ -6,7 +6,7 @@ use Rattle.flow_law.specs.declared.outcome.Next.{Next}
 use Rattle.flow_law.specs.declared.outcome.Drained.{Drained}
 use Rattle.flow_law.specs.declared.outcome.Drained.TheVariants as drained
 use Rattle.flow_law.specs.Draining.{DrainsBy}
-use Rattle.flow_law.specs.Tokens.{numbered}
+use Rattle.flow_law.specs.Tokens.{numbered_token}
 use Rattle.flow_law.proofs.DrainingLemmas.{HasTaken}
 use Rattle.flow_core.specs.SubId.{number_of}
 use Rattle.flow_shared.specs.Calls.{NextsOf}
@@ -34,7 +34,7 @@ loop-left-preserved g c =
     let n = number_of c.args.id in
     record {
       within = omega (arith, c.loop-left.invariant.within);
-      taken = takes_on (NextsOf g.S.FlowCore.kind c.args.self.now) c.args.most c.loop-left.left c.min-room.result (numbered c.args.seat.now n) (numbered c.loop-left.seat n) (numbered c.take.new.seat n)
+      taken = takes_on (NextsOf g.S.FlowCore.kind c.args.self.now) c.args.most c.loop-left.left c.min-room.result (numbered_token c.args.seat.now n) (numbered_token c.loop-left.seat n) (numbered_token c.take.new.seat n)
           c.args.values.now.items c.loop-left.values.items c.reserve.new.self.items c.take.new.values.items c.loop-left.invariant.taken c.loop-left.invariant.within (omega (arith, c.min-room.ensures))
           c.reserve.ensures.items c.take.result c.take.ensures.drained (c.in_ok-ended.was ∙ ap Ok c.in-Most.is);
       subscribed = c.take.ensures.subscribed;
@@ -44,7 +44,7 @@ loop-left-preserved g c =
 pub returns-in_default : goal.returns-in_default
 returns-in_default g c =
     let n = number_of c.args.id in
-    let drained = ends_with (NextsOf g.S.FlowCore.kind c.args.self.now) c.args.most c.loop-left.left c.min-room.result (numbered c.args.seat.now n) (numbered c.loop-left.seat n) (numbered c.take.new.seat n)
+    let drained = ends_with (NextsOf g.S.FlowCore.kind c.args.self.now) c.args.most c.loop-left.left c.min-room.result (numbered_token c.args.seat.now n) (numbered_token c.loop-left.seat n) (numbered_token c.take.new.seat n)
     c.args.values.now.items c.loop-left.values.items c.reserve.new.self.items c.take.new.values.items c.loop-left.invariant.taken c.loop-left.invariant.within (omega (arith, c.min-room.ensures))
     c.reserve.ensures.items c.take.result c.take.ensures.drained (Ok c.in_ok-ended.ended) c.in_ok-ended.was (λ e. c.in_default.not-Most (cc e)) in
     record { drained = drained; subscribed = c.take.ensures.subscribed; flow = c.take.ensures.flow ∙ c.loop-left.invariant.flow ∙ sym c.requires.flow; full = λ _. tt }
@@ -53,7 +53,7 @@ pub returns-in_err-ended-clause-drained : goal.returns-in_err-ended-clause-drain
 returns-in_err-ended-clause-drained g c =
     let n = number_of c.args.id in
     let given = err_from_is_err_and c.from_residual.result c.from_residual.ensures.1 in
-    subst (λ (r : Result Drained FlowFault). DrainsBy (NextsOf g.S.FlowCore.kind c.args.self.now) c.args.most (numbered c.args.seat.now n) c.args.values.now.items r c.take.new.values.items (numbered c.take.new.seat n)) (sym given.1)
-    (ends_with (NextsOf g.S.FlowCore.kind c.args.self.now) c.args.most c.loop-left.left c.min-room.result (numbered c.args.seat.now n) (numbered c.loop-left.seat n) (numbered c.take.new.seat n)
+    subst (λ (r : Result Drained FlowFault). DrainsBy (NextsOf g.S.FlowCore.kind c.args.self.now) c.args.most (numbered_token c.args.seat.now n) c.args.values.now.items r c.take.new.values.items (numbered_token c.take.new.seat n)) (sym given.1)
+    (ends_with (NextsOf g.S.FlowCore.kind c.args.self.now) c.args.most c.loop-left.left c.min-room.result (numbered_token c.args.seat.now n) (numbered_token c.loop-left.seat n) (numbered_token c.take.new.seat n)
     c.args.values.now.items c.loop-left.values.items c.reserve.new.self.items c.take.new.values.items c.loop-left.invariant.taken c.loop-left.invariant.within (omega (arith, c.min-room.ensures))
     c.reserve.ensures.items c.take.result c.take.ensures.drained (Err given.0) (c.in_err-ended.was ∙ ap Err (sym given.2)) (λ e. cc))

@@ -5,4 +5,4 @@ use Rattle.flow_shared.proofs.flow.Flow.look.Goals as goal
 pub returns-clause-history : goal.returns-clause-history
 returns-clause-history g c =
     has_seen g.S.FlowCore.kind (λ w. g.S.FlowCore.first w.core) (AttendedAs g.S.FlowCore.sleeping g.S.FlowCore.stands_as)
-    c.args.self.now c.self.inside.gate c.look.new.seat c.self.view_is c.look.ensures.stood
+    c.args.self.now c.self.inside.gate c.look.new.seat.token c.self.view_is c.look.ensures.stood

@@ -2,30 +2,30 @@ use Rattle.std.proofs.Common.{true, false, Ok, Err, refl, sym, ap, ◌∙◌, su
 use Rattle.flow_law.specs.declared.report.Event.TheVariants.{Idle, Waiting, Completed}
 use Rattle.flow_law.specs.Steps.{Takes}
 use Rattle.flow_law.specs.SharingTurn.{SharingState, reported, send}
-use Rattle.flow_turns.specs.SharingViews.{state_of}
+use Rattle.flow_turns.specs.SharingViews.{sharing_state}
 use Rattle.flow_turns.specs.TurnClauses.{ended_after}
-use Rattle.flow_turns.specs.TurnParts.{parts_of, ActsBy}
+use Rattle.flow_turns.specs.TurnParts.{sharing_parts, ActsBy}
 use Rattle.flow_turns.proofs.StepLemmas.{same-end, event-is-no-end, goes-on, polls-hub, refused-answered}
 use Rattle.flow_turns.proofs.sharing.Sharing.collect.Goals as goal
 
 pub returns-in-Err-clause-steps : goal.returns-in-Err-clause-steps
 returns-in-Err-clause-steps g c = λ command seen.
-    polls-hub _ _ _ _ command seen (state_of c.args.self.now) (parts_of c.is_waiting.new.self) (Err c.in-Err.fault)
+    polls-hub _ _ _ _ command seen (sharing_state c.args.self.now) (sharing_parts c.is_waiting.new.self) (Err c.in-Err.fault)
     (sym c.is_running.ensures ∙ c.if-not-is_running.false) c.if-self.false (c.in-Err.ensures.polls)
     (same-end seen _ _ _ _ (ap (reported command) c.refusal_of.ensures) c.in-Err.ensures.state, refl)
 
 pub returns-then-waiting-clause-steps : goal.returns-then-waiting-clause-steps
 returns-then-waiting-clause-steps g c = λ command seen.
-    polls-hub _ _ _ _ command seen (state_of c.args.self.now) (parts_of c.is_waiting.new.self) (Ok true)
+    polls-hub _ _ _ _ command seen (sharing_state c.args.self.now) (sharing_parts c.is_waiting.new.self) (Ok true)
     (sym c.is_running.ensures ∙ c.if-not-is_running.false) c.if-self.false (rw c.if-waiting.true at (c.in-Ok.ensures.polls))
     (same-end seen _ _ _ _ refl c.in-Ok.ensures.state, refl)
 
 pub returns-clause-steps : goal.returns-clause-steps
 returns-clause-steps g c = λ command seen.
     let P : SharingState g.row.C-Item.Denot → Type 0 = λ s.
-    Takes (ActsBy g.C.Cold.Reads g.C.Cold.whole g.C.Cold.rest g.H.Hub.does g.H.Hub.waits) (send command seen s.kept s) (parts_of c.is_waiting.new.self)
-    (record { answer = reported command c.send.result; seen = seen; state = state_of c.send.new.self }) (parts_of c.send.new.self) in
-    polls-hub _ _ _ _ command seen (state_of c.args.self.now) (parts_of c.is_waiting.new.self) (Ok false)
+    Takes (ActsBy g.C.Cold.Reads g.C.Cold.whole g.C.Cold.rest g.H.Hub.does g.H.Hub.waits) (send command seen s.kept s) (sharing_parts c.is_waiting.new.self)
+    (record { answer = reported command c.send.result; seen = seen; state = sharing_state c.send.new.self }) (sharing_parts c.send.new.self) in
+    polls-hub _ _ _ _ command seen (sharing_state c.args.self.now) (sharing_parts c.is_waiting.new.self) (Ok false)
     (sym c.is_running.ensures ∙ c.if-not-is_running.false) c.if-self.false (rw c.if-waiting.false at (c.in-Ok.ensures.polls))
     (subst P c.in-Ok.ensures.state (c.send.ensures.steps command seen))
 

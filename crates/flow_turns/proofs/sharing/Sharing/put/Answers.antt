@@ -1,13 +1,13 @@
 use Rattle.std.proofs.Common.{true, false, Ok, Err, refl, sym}
 use Rattle.flow_law.specs.declared.report.Event.TheVariants.{Put, Queued}
-use Rattle.flow_turns.specs.TurnParts.{parts_of}
+use Rattle.flow_turns.specs.TurnParts.{sharing_parts}
 use Rattle.flow_turns.proofs.StepLemmas.{event-is-no-end, goes-on, refused-answered}
 use Rattle.flow_turns.proofs.sharing.Sharing.put.Goals as goal
 
 pub returns-then-waits-clause-steps : goal.returns-then-waits-clause-steps
 returns-then-waits-clause-steps g c = λ command seen. (
   Ok true,
-  record (parts_of c.args.self.now) { hub = c.put.new.self },
+  record (sharing_parts c.args.self.now) { hub = c.put.new.self },
   (rw c.if-waits.true at c.in-Ok.ensures.puts, refl),
   (rw c.requires.empty refl, refl),
 )
@@ -15,7 +15,7 @@ returns-then-waits-clause-steps g c = λ command seen. (
 pub returns-else-waits-clause-steps : goal.returns-else-waits-clause-steps
 returns-else-waits-clause-steps g c = λ command seen. (
   Ok false,
-  record (parts_of c.args.self.now) { hub = c.put.new.self },
+  record (sharing_parts c.args.self.now) { hub = c.put.new.self },
   (rw c.if-waits.false at c.in-Ok.ensures.puts, refl),
   (rw c.requires.empty refl, refl),
 )
@@ -23,7 +23,7 @@ returns-else-waits-clause-steps g c = λ command seen. (
 pub returns-in-Err-clause-steps : goal.returns-in-Err-clause-steps
 returns-in-Err-clause-steps g c = λ command seen. (
   Err c.in-Err.refused.fault,
-  record (parts_of c.args.self.now) { hub = c.put.new.self },
+  record (sharing_parts c.args.self.now) { hub = c.put.new.self },
   (c.in-Err.ensures.puts, refl),
   (rw (c.refusal_of.ensures, c.in-Err.ensures.handed_back) refl, refl),
 )

@@ -1,8 +1,8 @@
 use Rattle.std.proofs.Common.{◌≡◌, false, Ok, Err, refl, sym, ap, ◌∙◌, subst}
 use Rattle.std.proofs.lemmas.Result.{err_from_is_err_and}
 use Rattle.flow_law.specs.SharingTurn.{collect_while_running, reset_if_due}
-use Rattle.flow_turns.specs.SharingViews.{state_of}
-use Rattle.flow_turns.specs.TurnParts.{parts_of, ActsBy, GoesOn}
+use Rattle.flow_turns.specs.SharingViews.{sharing_state}
+use Rattle.flow_turns.specs.TurnParts.{sharing_parts, ActsBy, GoesOn}
 use Rattle.flow_turns.proofs.StepLemmas.{resets-hub}
 use Rattle.flow_turns.proofs.sharing.Sharing.reset_if_due.Goals as goal
 
@@ -12,11 +12,11 @@ returns-in_err-reset-clause-steps g c =
     let given = err_from_is_err_and c.from_residual.result c.from_residual.ensures.1 in
     let same : c.from_residual.result ≡ Err c.in_err-reset.field-0.0 = given.1 ∙ ap Err given.2 in
     subst (λ r. GoesOn (ActsBy g.C.Cold.Reads g.C.Cold.whole g.C.Cold.rest g.H.Hub.does g.H.Hub.waits) reset_if_due collect_while_running c.args.self.now r new) (sym same)
-    (λ command seen. resets-hub _ _ _ _ command seen (state_of c.args.self.now) (parts_of new) (Err c.in_err-reset.field-0.0)
+    (λ command seen. resets-hub _ _ _ _ command seen (sharing_state c.args.self.now) (sharing_parts new) (Err c.in_err-reset.field-0.0)
     c.if-not-self.false (c.in_err-reset.ensures.resets, refl) (refl, refl))
 
 pub returns-clause-steps : goal.returns-clause-steps
 returns-clause-steps g c = λ command seen turned last h.
     let new = record c.args.self.now { hub = c.reset.new.self; reset_due = false } in
-    resets-hub _ _ _ _ command seen (state_of c.args.self.now) (parts_of new) (Ok tt)
+    resets-hub _ _ _ _ command seen (sharing_state c.args.self.now) (sharing_parts new) (Ok tt)
     c.if-not-self.false (c.in_ok-reset.ensures.resets, refl) h

@@ -1,5 +1,5 @@
 use Rattle.std.proofs.Common.{sym, subst}
-use Rattle.flow_turns.specs.SharingViews.{chain_of, CanRun}
+use Rattle.flow_turns.specs.SharingViews.{sharing_chain, CanRun}
 use Rattle.flow_turns.specs.Runs.{TakesTurns}
 use Rattle.flow_turns.specs.TurnClauses.{TakesTurn, TakesSomeTurn}
 use Rattle.flow_turns.proofs.RunLemmas.{run-begins, run-goes_on, run-refused, run-refused-some}
@@ -18,7 +18,7 @@ pub returns-then-is_asked-clause-callable : goal.returns-then-is_asked-clause-ca
 returns-then-is_asked-clause-callable g c = subst (CanRun g.C.Cold.CanAsk) (sym c.unwatch.ensures) c.loop.invariant.2.callable
 
 pub returns-then-is_asked-clause-reads : goal.returns-then-is_asked-clause-reads
-returns-then-is_asked-clause-reads g c = λ m r. subst (λ s. g.C.Cold.Reads (chain_of s) m) (sym c.unwatch.ensures) (c.loop.invariant.2.kept m r)
+returns-then-is_asked-clause-reads g c = λ m r. subst (λ s. g.C.Cold.Reads (sharing_chain s) m) (sym c.unwatch.ensures) (c.loop.invariant.2.kept m r)
 
 pub returns-then-is_asked-clause-turns : goal.returns-then-is_asked-clause-turns
 returns-then-is_asked-clause-turns g c = λ m r.

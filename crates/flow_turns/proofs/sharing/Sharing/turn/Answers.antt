@@ -12,9 +12,9 @@ use Rattle.flow_law.proofs.TurnMeaningLemmas.{turn-means}
 use Rattle.flow_law.proofs.TurnResetLemmas.{uncounted-resets, uncalled-resets, unobserved-resets, begun-resets}
 use Rattle.flow_law.proofs.TurnQuietLemmas.{turn-quiet}
 use Rattle.flow_turns.specs.Policy.{HasSeen}
-use Rattle.flow_turns.specs.SharingViews.{state_of}
+use Rattle.flow_turns.specs.SharingViews.{sharing_state}
 use Rattle.flow_turns.specs.TurnClauses.{WasCommanded}
-use Rattle.flow_turns.specs.TurnParts.{parts_of}
+use Rattle.flow_turns.specs.TurnParts.{sharing_parts}
 use Rattle.flow_turns.proofs.StepLemmas.{ended-turn, uncounted-turn, backwards-turn, observed-turn, refused-answered, report-answered}
 use Rattle.flow_turns.proofs.ReadLemmas.{read-turn, unread-turn, unread-begin}
 use Rattle.flow_turns.proofs.sharing.Sharing.turn.Goals as goal
@@ -76,9 +76,9 @@ returns-clause-quiet g c = λ m r started seen stands quiet.
 pub returns-clause-any_resets : goal.returns-clause-any_resets
 returns-clause-any_resets g c =
     let D = HubStep g.H.Hub.does g.H.Hub.waits in
-    let turned : Turned g.row.C-Item.Denot = record { answer = reported c.in-Ok-observe.command c.carry_out-outcome.result; seen = []; state = state_of c.carry_out-outcome.new.self } in
-    let over = unread-begin g.C.Cold.Reads g.C.Cold.whole g.C.Cold.rest g.H.Hub.does g.H.Hub.waits [] c.in-Ok-observe.command (state_of c.counted.new.self)
-    (parts_of c.counted.new.self) (parts_of c.carry_out-outcome.new.self) turned (c.carry_out-outcome.ensures.steps [] c.counted.new.self.policy.running c.in-Ok-observe.ensures.runs) in
+    let turned : Turned g.row.C-Item.Denot = record { answer = reported c.in-Ok-observe.command c.carry_out-outcome.result; seen = []; state = sharing_state c.carry_out-outcome.new.self } in
+    let over = unread-begin g.C.Cold.Reads g.C.Cold.whole g.C.Cold.rest g.H.Hub.does g.H.Hub.waits [] c.in-Ok-observe.command (sharing_state c.counted.new.self)
+    (sharing_parts c.counted.new.self) (sharing_parts c.carry_out-outcome.new.self) turned (c.carry_out-outcome.ensures.steps [] c.counted.new.self.policy.running c.in-Ok-observe.ensures.runs) in
     let Is : Command → Type 0 = WasCommanded c.args.self.now c.carry_out-outcome.new.self in
     let is : Is c.in-Ok-observe.command = λ started seen stands.
     let held : HasSeen started c.counted.new.self.policy seen = rw c.counted.ensures.policy stands in
@@ -86,11 +86,11 @@ returns-clause-any_resets g c =
     let o : SharingObservation = record { moment = c.args.now; count = c.in-Ok.count } in
     (o ∷ seen, rw c.carry_out-outcome.ensures.policy told.2, inr (o, refl, told.1)) in
     let P : SharingState g.row.C-Item.Denot → Type 0 = λ s.
-    TurnResets D Is s c.args.self.now.hub (reported c.in-Ok-observe.command c.carry_out-outcome.result) (state_of c.carry_out-outcome.new.self) c.carry_out-outcome.new.self.hub in
+    TurnResets D Is s c.args.self.now.hub (reported c.in-Ok-observe.command c.carry_out-outcome.result) (sharing_state c.carry_out-outcome.new.self) c.carry_out-outcome.new.self.hub in
     let Q : Result Report ShareFault → Type 0 = λ answer.
-    TurnResets D Is (state_of c.args.self.now) c.args.self.now.hub answer (state_of c.carry_out-outcome.new.self) c.carry_out-outcome.new.self.hub in
+    TurnResets D Is (sharing_state c.args.self.now) c.args.self.now.hub answer (sharing_state c.carry_out-outcome.new.self) c.carry_out-outcome.new.self.hub in
     subst Q (sym c.report_of-2.ensures) (subst P c.in-Ok.ensures.state
-    (begun-resets D c.args.self.now.hub (state_of c.counted.new.self) Is [] c.in-Ok-observe.command
+    (begun-resets D c.args.self.now.hub (sharing_state c.counted.new.self) Is [] c.in-Ok-observe.command
     (record { whole = over.whole; rest = over.before; hub = c.counted.new.self.hub })
     (record { whole = over.whole; rest = over.after; hub = c.carry_out-outcome.new.self.hub })
     turned is (c.in-Ok.count, c.in-Ok.ensures.counts.0) over.takes))
@@ -135,7 +135,7 @@ returns-in-Err-observe-clause-quiet g c = λ m r started seen stands quiet.
 
 pub returns-then-self-clause-any_resets : goal.returns-then-self-clause-any_resets
 returns-then-self-clause-any_resets g c =
-    uncalled-resets (HubStep g.H.Hub.does g.H.Hub.waits) c.args.self.now.hub (state_of c.args.self.now) (WasCommanded c.args.self.now c.args.self.now) (Err Ended)
+    uncalled-resets (HubStep g.H.Hub.does g.H.Hub.waits) c.args.self.now.hub (sharing_state c.args.self.now) (WasCommanded c.args.self.now c.args.self.now) (Err Ended)
     (λ started seen stands. (seen, stands, inl (refl, refl))) tt tt
 
 pub returns-in-Err-clause-any_resets : goal.returns-in-Err-clause-any_resets
@@ -144,12 +144,12 @@ returns-in-Err-clause-any_resets g c =
     let Is : Command → Type 0 = WasCommanded c.args.self.now c.counted.new.self in
     let keeps : Is Keep = λ started seen stands. (seen, rw c.counted.ensures.policy stands, inl (refl, refl)) in
     let P : SharingState g.row.C-Item.Denot → Type 0 = λ s.
-    TurnResets D Is (state_of c.args.self.now) c.args.self.now.hub (reported Keep (refusal c.in-Err.fault)) s c.counted.new.self.hub in
+    TurnResets D Is (sharing_state c.args.self.now) c.args.self.now.hub (reported Keep (refusal c.in-Err.fault)) s c.counted.new.self.hub in
     let Q : Result Report ShareFault → Type 0 = λ answer.
-    TurnResets D Is (state_of c.args.self.now) c.args.self.now.hub answer (state_of c.counted.new.self) c.counted.new.self.hub in
+    TurnResets D Is (sharing_state c.args.self.now) c.args.self.now.hub answer (sharing_state c.counted.new.self) c.counted.new.self.hub in
     subst Q (sym (c.report_of.ensures ∙ ap (reported Keep) c.refusal_of.ensures))
     (subst P (sym c.in-Err.ensures.state)
-    (uncounted-resets D c.args.self.now.hub (state_of c.args.self.now) Is c.in-Err.fault c.counted.new.self.hub keeps c.in-Err.ensures.counts.0))
+    (uncounted-resets D c.args.self.now.hub (sharing_state c.args.self.now) Is c.in-Err.fault c.counted.new.self.hub keeps c.in-Err.ensures.counts.0))
 
 pub returns-in-Err-observe-clause-any_resets : goal.returns-in-Err-observe-clause-any_resets
 returns-in-Err-observe-clause-any_resets g c =
@@ -159,11 +159,11 @@ returns-in-Err-observe-clause-any_resets g c =
     let keeps : Is Keep = λ started seen stands.
     let held : HasSeen started c.counted.new.self.policy seen = rw c.counted.ensures.policy stands in
     (seen, rw c.in-Err-observe.ensures.unchanged held, inl (refl, refl)) in
-    let same : state_of new ≡ state_of c.args.self.now = rw c.in-Err-observe.ensures.unchanged c.in-Ok.ensures.state in
+    let same : sharing_state new ≡ sharing_state c.args.self.now = rw c.in-Err-observe.ensures.unchanged c.in-Ok.ensures.state in
     let P : SharingState g.row.C-Item.Denot → Type 0 = λ s.
-    TurnResets D Is (state_of c.args.self.now) c.args.self.now.hub (Err (Backwards c.in-Err-observe.backwards.last)) s c.counted.new.self.hub in
+    TurnResets D Is (sharing_state c.args.self.now) c.args.self.now.hub (Err (Backwards c.in-Err-observe.backwards.last)) s c.counted.new.self.hub in
     subst P (sym same)
-    (unobserved-resets D c.args.self.now.hub (state_of c.args.self.now) Is (Err (Backwards c.in-Err-observe.backwards.last)) c.in-Ok.count c.counted.new.self.hub keeps c.in-Ok.ensures.counts.0 tt tt)
+    (unobserved-resets D c.args.self.now.hub (sharing_state c.args.self.now) Is (Err (Backwards c.in-Err-observe.backwards.last)) c.in-Ok.count c.counted.new.self.hub keeps c.in-Ok.ensures.counts.0 tt tt)
 
 pub returns-in-Err-clause-answered : goal.returns-in-Err-clause-answered
 returns-in-Err-clause-answered g c = report-answered _ Keep c.refusal_of.result _ c.report_of.ensures (refused-answered _ c.refusal_of.result c.in-Err.fault c.refusal_of.ensures)

@@ -1,6 +1,6 @@
 use Rattle.std.proofs.Common.{Err, sym, subst}
 use Rattle.flow_turns.specs.Runs.{TurnsByClock}
-use Rattle.flow_turns.specs.SharingViews.{chain_of, CanRun}
+use Rattle.flow_turns.specs.SharingViews.{sharing_chain, CanRun}
 use Rattle.flow_turns.proofs.sharing.Sharing.turn_by_clock.Goals as goal
 
 pub returns-in-Ok-clause-turn : goal.returns-in-Ok-clause-turn
@@ -11,7 +11,7 @@ pub returns-in-Err-clause-callable : goal.returns-in-Err-clause-callable
 returns-in-Err-clause-callable g c = subst (CanRun g.C.Cold.CanAsk) (sym c.unwatch.ensures) c.in-Err.ensures.callable
 
 pub returns-in-Err-clause-reads : goal.returns-in-Err-clause-reads
-returns-in-Err-clause-reads g c = λ m r. subst (λ s. g.C.Cold.Reads (chain_of s) m) (sym c.unwatch.ensures) (c.in-Err.ensures.reads m r)
+returns-in-Err-clause-reads g c = λ m r. subst (λ s. g.C.Cold.Reads (sharing_chain s) m) (sym c.unwatch.ensures) (c.in-Err.ensures.reads m r)
 
 pub returns-in-Err-clause-turn : goal.returns-in-Err-clause-turn
 returns-in-Err-clause-turn g c =

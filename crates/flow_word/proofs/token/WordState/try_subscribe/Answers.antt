@@ -6,7 +6,7 @@ use Rattle.flow_law.specs.Growth.{makes, child}
 use Rattle.flow_law.specs.OneHistory.{AddsOne}
 use Rattle.flow_law.specs.StateFlow.{IsStateHistory}
 use Rattle.flow_law.specs.Tokens.{token, subscription_name}
-use Rattle.flow_word.specs.View.{StateKnowledge, begun, only, with_knows}
+use Rattle.flow_word.specs.View.{StateKnowledge, begun, only_in_view, with_knows}
 use Rattle.flow_word.specs.Tokens.{word_id, token_of}
 use Rattle.flow_word.proofs.SeatSteps.{making}
 use Rattle.flow_word.proofs.Subscribing.{finding, entering}
@@ -21,10 +21,10 @@ load-word-requires g c = (search rules, search rules, finding _ _ _ _ _ _ _ (ap 
 
 pub compare_exchange-found-requires : goal.compare_exchange-found-requires
 compare_exchange-found-requires g c =
-    let limit : (only c.seat.inside.seat.me.0).start.limit ≡ c.self.inside.limit = ap (λ z. z.table_id.start.limit) c.seat.view_is ∙ (ap (λ z. z.start.limit) c.requires ∙ (ap (λ z. z.table_id.start.limit) (sym c.self.view_is) ∙ c.self.invariant.1)) in
+    let limit : (only_in_view c.seat.inside.seat.me.0).start.limit ≡ c.self.inside.limit = ap (λ z. z.table_id.start.limit) c.seat.view_is ∙ (ap (λ z. z.start.limit) c.requires ∙ (ap (λ z. z.table_id.start.limit) (sym c.self.view_is) ∙ c.self.invariant.1)) in
     let told = c.load-word.ensures.2.1 (omega arith) in
-    let same : (only c.load-word.new.seat.me.0).start.limit ≡ (only c.seat.inside.seat.me.0).start.limit = ap (λ m. (only m.0).start.limit) told.0 in
-    (search rules, search rules, entering _ _ _ _ _ _ _ _ _ (subst (λ m. m.0 ≡ only m.0 ∷ []) (sym told.0) (ap (λ m. m.0) c.seat.invariant)) (omega arith) (omega arith))
+    let same : (only_in_view c.load-word.new.seat.me.0).start.limit ≡ (only_in_view c.seat.inside.seat.me.0).start.limit = ap (λ m. (only_in_view m.0).start.limit) told.0 in
+    (search rules, search rules, entering _ _ _ _ _ _ _ _ _ (subst (λ m. m.0 ≡ only_in_view m.0 ∷ []) (sym told.0) (ap (λ m. m.0) c.seat.invariant)) (omega arith) (omega arith))
 
 pub split_seat-requires : goal.split_seat-requires
 split_seat-requires g c =
@@ -34,10 +34,10 @@ split_seat-requires g c =
 pub returns-clause-subscribed : goal.returns-clause-subscribed
 returns-clause-subscribed g c =
     let value_of = g.T.Packed.value_of in let e = c.compare_exchange-found in let l = c.load-word.new.seat in let p = c.split_seat in
-    let limit : (only c.seat.inside.seat.me.0).start.limit ≡ c.self.inside.limit = ap (λ z. z.table_id.start.limit) c.seat.view_is ∙ (ap (λ z. z.start.limit) c.requires ∙ (ap (λ z. z.table_id.start.limit) (sym c.self.view_is) ∙ c.self.invariant.1)) in
+    let limit : (only_in_view c.seat.inside.seat.me.0).start.limit ≡ c.self.inside.limit = ap (λ z. z.table_id.start.limit) c.seat.view_is ∙ (ap (λ z. z.start.limit) c.requires ∙ (ap (λ z. z.table_id.start.limit) (sym c.self.view_is) ∙ c.self.invariant.1)) in
     let told = c.load-word.ensures.2.1 (omega arith) in let won = e.ensures.2.0 c.if-found-word.false in let alone = ap (λ m. m.0) won.0.2 in
-    let before : token_of l ≡ c.args.seat.now = (λ i. token (word_id (c.load-word.ensures.0 i) (only (told.0 i).0).start) (only (told.0 i).0).knows) ∙ c.seat.view_is in
-    let first : begun value_of (only l.me.0).start ≡ c.args.self.now.first =
+    let before : token_of l ≡ c.args.seat.now = (λ i. token (word_id (c.load-word.ensures.0 i) (only_in_view (told.0 i).0).start) (only_in_view (told.0 i).0).knows) ∙ c.seat.view_is in
+    let first : begun value_of (only_in_view l.me.0).start ≡ c.args.self.now.first =
     ap (λ z. begun value_of z.table_id.start) before ∙ (ap (λ z. begun value_of z.start) c.requires ∙ (ap (λ z. begun value_of z.table_id.start) (sym c.self.view_is) ∙ ap (λ z. z.first) c.self.view_is)) in
     let now = token_of e.new.seat in (
       now,
@@ -45,10 +45,10 @@ returns-clause-subscribed g c =
         (λ i. word_id (e.ensures.0 i) (won.0.1 i)) ∙ ap (λ z. z.table_id) before,
         subst (λ (z : StateFlowState g.row.T.Denot × StateKnowledge g.row.T.Denot). AddsOne (IsStateHistory z.0) z.1 (Subscribe (subscription_name z.1)) (Subscribed (c.load-word.result / 4294967296 + 1)) now.knows) (λ i. (first i, (before i).knows)) won.0.0,
       ),
-      (λ i. token (word_id (p.ensures.0 i) (only (p.ensures.2 i).0).start) (only (p.ensures.2 i).0).knows)
-          ∙ (λ i. token (word_id e.new.seat.table_id (only (map (with_knows makes) (alone i))).start) (only (map (with_knows makes) (alone i))).knows),
-      (λ i. token (word_id (p.ensures.3 i) (only (p.ensures.4 i).0).start) (only (p.ensures.4 i).0).knows)
-          ∙ (λ i. token (word_id e.new.seat.table_id (only (map (with_knows child) (alone i))).start) (only (map (with_knows child) (alone i))).knows),
+      (λ i. token (word_id (p.ensures.0 i) (only_in_view (p.ensures.2 i).0).start) (only_in_view (p.ensures.2 i).0).knows)
+          ∙ (λ i. token (word_id e.new.seat.table_id (only_in_view (map (with_knows makes) (alone i))).start) (only_in_view (map (with_knows makes) (alone i))).knows),
+      (λ i. token (word_id (p.ensures.3 i) (only_in_view (p.ensures.4 i).0).start) (only_in_view (p.ensures.4 i).0).knows)
+          ∙ (λ i. token (word_id e.new.seat.table_id (only_in_view (map (with_knows child) (alone i))).start) (only_in_view (map (with_knows child) (alone i))).knows),
     )
 
 pub returns-then-issued-from-clause-lost : goal.returns-then-issued-from-clause-lost

@@ -1,7 +1,7 @@
 use Rattle.std.proofs.Common.{◌≡◌, true, not, inl, refl, sym, ap, ◌∙◌, arith}
 use Rattle.std.proofs.lemmas.Grind.{common_steps}
 use Rattle.flow_law.specs.OperatorRuns.{drop_while_run}
-use Rattle.flow_operators.specs.Behind.{after_ask}
+use Rattle.flow_operators.specs.Behind.{rest_after_ask}
 use Rattle.flow_operators.specs.Passing.{from_passing}
 use Rattle.flow_operators.specs.Upstreams.{chain_of, left_of}
 use Rattle.flow_operators.proofs.PassingLemmas.{drop_while-from, drop_while-item, dropping-after, passed-leaves, passed-on}
@@ -16,7 +16,7 @@ pub returns-in-Ok-next_where-clause-behind : goal.returns-in-Ok-next_where-claus
 returns-in-Ok-next_where-clause-behind g c = λ running m r.
     let dropping : c.args.self.now.dropping ≡ true = grind (arith, common_steps) in
     let gives = c.in-Ok-next_where.ensures.behind running m.0 m.1 r.0 r.1 in
-    rw dropping (inl (sym (dropping-after m.1 (g.C.Cold.rest (chain_of c.args.self.now.upstream) m.0) ∙ ap after_ask gives)))
+    rw dropping (inl (sym (dropping-after m.1 (g.C.Cold.rest (chain_of c.args.self.now.upstream) m.0) ∙ ap rest_after_ask gives)))
 
 pub returns-in-Err-next_where-clause-gives : goal.returns-in-Err-next_where-clause-gives
 returns-in-Err-next_where-clause-gives g c = λ m r.

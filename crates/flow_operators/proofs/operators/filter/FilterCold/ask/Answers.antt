@@ -1,7 +1,7 @@
 use Rattle.std.proofs.Common.{arith, inl, refl, sym, ap, ◌∙◌}
 use Rattle.std.proofs.lemmas.Grind.{common_steps}
 use Rattle.flow_law.specs.OperatorRuns.{filter_run}
-use Rattle.flow_operators.specs.Behind.{after_ask}
+use Rattle.flow_operators.specs.Behind.{rest_after_ask}
 use Rattle.flow_operators.specs.Passing.{from_passing}
 use Rattle.flow_operators.specs.Upstreams.{chain_of, left_of}
 use Rattle.flow_operators.proofs.PassingLemmas.{filter-after, filter-from, filter-item, passed-leaves, passed-on}
@@ -18,7 +18,7 @@ returns-in-Ok g c = record {
   answered = grind (arith, common_steps);
   behind = λ running m r.
       let gives = c.in-Ok.ensures.behind running m.0 m.1 r.0 r.1 in
-      inl (sym (filter-after m.1 (g.C.Cold.rest (chain_of c.args.self.now.upstream) m.0) ∙ ap after_ask gives));
+      inl (sym (filter-after m.1 (g.C.Cold.rest (chain_of c.args.self.now.upstream) m.0) ∙ ap rest_after_ask gives));
   given = grind (arith, common_steps);
   lasting = grind (arith, common_steps);
   end = grind (arith, common_steps);

@@ -9,7 +9,7 @@ use Rattle.flow_law.proofs.SharedLawful.{shared_lawful, shared_subscribing}
 use Rattle.flow_law.proofs.TokenLemmas.{subscription_made}
 use Rattle.flow_core.specs.SharedCore.{subscribe_reply}
 use Rattle.flow_core.specs.SubId.{number_of}
-use Rattle.flow_shared.specs.SharedReplies.{Calls}
+use Rattle.flow_shared.specs.SharedReplies.{SharedCalls}
 use Rattle.flow_shared.proofs.Refusals.{subscribe_fault}
 use Rattle.flow_shared.proofs.shared.subscribe.Flow+SharedCore+T+A+A.subscribe_with.Goals as goal
 
@@ -24,5 +24,5 @@ pub returns-in_err-id-clause-refused : goal.returns-in_err-id-clause-refused
 returns-in_err-id-clause-refused g c =
     let before = c.args.seat.now in let name = subscription_name before.knows in let first = c.args.first.items in
     let given = err_from_is_err_and c.from_residual.result c.from_residual.ensures.1 in
-    let called = subst (λ r. Calls c.args.self.now before (call.Subscribe name first) (subscribe_reply (fault_alone r)) c.call.new.seat) (c.in_err-id.was ∙ ap Err (sym given.2)) c.call.ensures.called in
+    let called = subst (λ r. SharedCalls c.args.self.now before (call.Subscribe name first) (subscribe_reply (fault_alone r)) c.call.new.seat) (c.in_err-id.was ∙ ap Err (sym given.2)) c.call.ensures.called in
     subst (λ r. IfErr r (λ refused. (refused.fault ≡ OutOfMemory) ⊎ (refused.fault ≡ Exhausted))) (sym given.1) (subscribe_fault c.args.self.now before c.call.new.seat name first given.0.fault called)

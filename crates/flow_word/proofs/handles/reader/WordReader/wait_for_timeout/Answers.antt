@@ -1,7 +1,7 @@
 use Rattle.std.proofs.Common.{refl, sym, ◌∙◌, subst, Option, true, false}
 use Rattle.std.specs.Fn.{FnReturnsAt}
 use Rattle.flow_law.specs.StateFlow.{state_flow}
-use Rattle.flow_word.specs.Receiving.{Receives, FindsNone}
+use Rattle.flow_word.specs.Receiving.{WordReceives, FindsNone}
 use Rattle.flow_word.specs.WaitingFor.{looked, passed_over, ReceivesIfInTime}
 use Rattle.flow_word.proofs.handles.reader.WordReader.wait_for_timeout.Goals as goal
 
@@ -11,7 +11,7 @@ loop-init g c = (tt, tt, c.current-newest.ensures.flow, looked c.current-newest.
 pub loop-preserved : goal.loop-preserved
 loop-preserved g c =
     let now = c.loop.self.subscription in let new = c.changed_within.new.self.subscription in
-    let given = subst (λ f. Receives state_flow f.first now c.in_ok-newest.newest new) c.loop.invariant.2 c.in_ok-newest.ensures.received in
+    let given = subst (λ f. WordReceives state_flow f.first now c.in_ok-newest.newest new) c.loop.invariant.2 c.in_ok-newest.ensures.received in
     (tt, tt, c.in_ok-newest.ensures.flow ∙ c.loop.invariant.2, passed_over c.loop.invariant.3 (record { shown = _; shows = refl; says = record { met = c.if-test.ensures } }) given)
 
 pub returns-then-test-clause-received : goal.returns-then-test-clause-received

@@ -1,7 +1,0 @@
-use Rattle.std.proofs.Common.{rules, Some, ap, sym, ◌∙◌}
-use Rattle.flow_gate.specs.Steps.{boxed}
-use Rattle.flow_gate.proofs.Keeps.{looks_from}
-use Rattle.flow_gate.proofs.gate.Gate.look_at.Goals as goal
-
-pub load-requires : goal.load-requires
-load-requires g c = (search rules, search rules, looks_from (boxed {A = g.row.A.Denot} g.S.Guarded.stands) c.self.inside.table.shared.key.value g.B.StartsFrom.first (c.requires.first ∙ ap (λ z. Some z.first) (sym c.self.view_is)) _ _ _)

@@ -1,4 +1,0 @@
-use Rattle.flow_gate.proofs.held.Held.leave.Given as goal
-
-abbrev pub ghosts-leave_adding : goal.ghosts-leave_adding
-ghosts-leave_adding g a = record { adds = g.X.NamesEvents.events a._evidence.now a.self.token.knows }

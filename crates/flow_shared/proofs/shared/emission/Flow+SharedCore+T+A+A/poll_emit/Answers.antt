@@ -1,8 +1,0 @@
-use Rattle.flow_law.specs.History.{emission}
-use Rattle.flow_law.specs.SharedHistory.{shared_flow}
-use Rattle.flow_law.proofs.SharedLawful.{shared_lawful}
-use Rattle.flow_law.proofs.TokenLemmas.{given_after}
-use Rattle.flow_shared.proofs.shared.emission.Flow+SharedCore+T+A+A.poll_emit.Goals as goal
-
-pub invariant_of-result : goal.invariant_of-result
-invariant_of-result g c = given_after shared_flow shared_lawful c.args.self.now.first c.emission.inside.seat.knows c.call_by-seat.result.0.knows _ _ c.call_by-seat.ensures.called.1 (emission c.emission.inside.number) c.emission.invariant
