@@ -6,7 +6,7 @@ use Rattle.flow_law.specs.declared.history.HistoryEvent.{HistoryEvent}
 use Rattle.flow_law.specs.declared.history.Said.{Said}
 use Rattle.flow_law.specs.declared.call.SharedCall.{SharedCall}
 use Rattle.flow_law.specs.Growth.{event}
-use Rattle.flow_law.specs.OneHistory.{said}
+use Rattle.flow_law.specs.Promise.{said}
 use Rattle.flow_law.specs.History.{Owner, with_owner, owners_all, MaySpeak}
 use Rattle.flow_law.specs.declared.states.SharedFlowState.{SharedFlowState}
 use Rattle.flow_law.specs.SharedFlow.{first_state}

@@ -10,7 +10,7 @@ use Rattle.flow_law.specs.declared.call.StateCall.{StateCall}
 use Rattle.flow_law.specs.declared.call.StateReply.{StateReply}
 use Rattle.flow_law.specs.declared.states.StateFlowState.{StateFlowState}
 use Rattle.flow_law.specs.Growth.{event}
-use Rattle.flow_law.specs.OneHistory.{said}
+use Rattle.flow_law.specs.Promise.{said}
 use Rattle.flow_law.specs.History.{Owner, with_owner, owners_all, IsHistory}
 use Rattle.flow_law.specs.StateFlow.{StateHistory, state_flow, first_state_flow, state_after_all, state_flow_after, state_flow_gives}
 use Rattle.flow_law.proofs.HistoryLemmas.{after_all-snoc, IsHistory-snoc}

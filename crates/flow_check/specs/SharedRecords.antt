@@ -9,7 +9,7 @@ use Rattle.flow_law.specs.declared.call.SharedReply.{SharedReply}
 use Rattle.flow_law.specs.declared.call.SharedReply.TheVariants as reply
 use Rattle.flow_law.specs.declared.states.SharedFlowState.{SharedFlowState}
 use Rattle.flow_law.specs.Growth.{event}
-use Rattle.flow_law.specs.OneHistory.{said}
+use Rattle.flow_law.specs.Promise.{said}
 use Rattle.flow_law.specs.History.{subscriber, emission, Owner, owner_of, owners_all}
 use Rattle.flow_law.specs.SharedFlow.{first_state, position_of}
 use Rattle.flow_law.specs.SharedStep.{is_waiting}

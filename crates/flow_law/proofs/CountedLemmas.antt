@@ -8,7 +8,7 @@ use Rattle.flow_law.specs.declared.call.StateCall.{StateCall}
 use Rattle.flow_law.specs.declared.call.StateReply.{StateReply}
 use Rattle.flow_law.specs.declared.states.StateFlowState.{StateFlowState}
 use Rattle.flow_law.specs.Growth.{child_name, first_knowledge}
-use Rattle.flow_law.specs.Tokens.{Token}
+use Rattle.flow_law.specs.Promise.{Token}
 use Rattle.flow_law.specs.Updates.{StateTokenOf}
 use Rattle.flow_law.specs.Done.{total, done_by}
 use Rattle.flow_law.specs.Closed.{AreAll, AreNumbered, makes_many, nth_child}

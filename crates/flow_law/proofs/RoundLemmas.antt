@@ -12,12 +12,12 @@ use Rattle.flow_law.specs.declared.call.StateCall.TheVariants as call
 use Rattle.flow_law.specs.declared.call.StateReply.TheVariants as reply
 use Rattle.flow_law.specs.declared.states.StateFlowState.{StateFlowState}
 use Rattle.flow_law.specs.History.{Kind, IsHistory, after_all}
-use Rattle.flow_law.specs.OneHistory.{said}
+use Rattle.flow_law.specs.Promise.{said, Token, CallsIn}
 use Rattle.flow_law.specs.StateFlow.{state_flow, state_after_all}
 use Rattle.flow_law.specs.Updates.{StateTokenOf}
 use Rattle.flow_law.proofs.Names.{every_append}
 use Rattle.flow_law.proofs.Owners.{history_left, legal_right}
-use Rattle.flow_law.specs.Tokens.{Token, MeetsIn, CallsIn}
+use Rattle.flow_law.specs.Tokens.{MeetsIn}
 use Rattle.flow_law.specs.Done.{Extends}
 use Rattle.flow_law.specs.Closed.{Accounts, IsClosed}
 use Rattle.flow_law.specs.Rounds.{HasClosedHistory, OnlyMeets, MeetsInTurn, IsFinalValue}

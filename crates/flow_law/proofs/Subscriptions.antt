@@ -3,7 +3,7 @@ use Rattle.std.proofs.Common.{ℕ, List, [], ◌∷◌, ◌++◌, sym, subst}
 use Rattle.flow_law.specs.declared.history.HistoryEvent.{HistoryEvent}
 use Rattle.flow_law.specs.declared.history.Said.{Said}
 use Rattle.flow_law.specs.Growth.{event, GrowsByOthers}
-use Rattle.flow_law.specs.OneHistory.{said}
+use Rattle.flow_law.specs.Promise.{said}
 use Rattle.flow_law.specs.History.{Kind, Number, subscriber, after_all, IsLegal, IsHistory, IsGiven, IsSubscribed}
 use Rattle.flow_law.specs.Lawful.{Lawful, Subscribing}
 use Rattle.flow_law.proofs.HistoryLemmas.{after_all-snoc}

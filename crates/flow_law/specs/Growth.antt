@@ -1,6 +1,5 @@
--- Names of seats, and how the history that a token has seen grows. They are the same for every kind of flow.
+-- Names of seats, histories that grow, and what a token knows. They are the same for every kind of flow.
 -- The first seat's name is empty; the j-th seat made through a seat has that seat's name followed by j.
--- Begin with `Grows`: what one call adds to the history that its token has seen.
 use Rattle.std.specs.Prelude.{◌≡◌, ◌≢◌, ℕ, ◌+◌, ◌≤◌, List, [], ◌∷◌, ◌++◌, map}
 use Rattle.std.specs.List.{AllByRecursion}
 use Rattle.flow_law.specs.declared.history.HistoryEvent.{HistoryEvent}
@@ -38,10 +37,6 @@ module _ {E : Type 0} where
   -- the later history is the earlier one, then events of others
   abbrev pub GrowsByOthers : List ℕ → List (HistoryEvent E) → List (HistoryEvent E) → Type 0
   GrowsByOthers name earlier later = (between : List (HistoryEvent E)) × (later ≡ earlier ++ between) × IsSilent name between
-
-  -- the later history is the earlier one, then events of others, then the token's own event
-  abbrev pub Grows : List ℕ → List (HistoryEvent E) → E → List (HistoryEvent E) → Type 0
-  Grows name earlier what later = (between : List (HistoryEvent E)) × (later ≡ (earlier ++ between) ++ event name what ∷ []) × IsSilent name between
 
   -- ---- what a token knows
 

@@ -5,7 +5,8 @@ use Rattle.flow_law.specs.declared.history.Said.{Said}
 use Rattle.flow_law.specs.declared.outcome.Next.{Next}
 use Rattle.flow_law.specs.declared.outcome.Next.TheVariants.{Value, Empty}
 use Rattle.flow_law.specs.History.{Kind}
-use Rattle.flow_law.specs.Tokens.{Token, Origin, NumberedToken, SubscribesIn}
+use Rattle.flow_law.specs.Tokens.{Origin, NumberedToken, SubscribesIn}
+use Rattle.flow_law.specs.Promise.{Token}
 
 -- a seat and its flow
 pub record CallerOf (Id S E : Type 0) : Type 0 where

@@ -13,7 +13,7 @@ pub mod StateFlow
 pub mod Conflation
 pub mod Current
 pub mod Growth
-pub mod OneHistory
+pub mod Promise
 pub mod Tokens
 pub mod Standing
 pub mod Covering

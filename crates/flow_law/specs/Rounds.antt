@@ -11,7 +11,7 @@ use Rattle.flow_law.specs.declared.states.StateFlowState.{StateFlowState}
 use Rattle.flow_law.specs.Growth.{NamesOnlyMade}
 use Rattle.flow_law.specs.History.{Kind, IsHistory}
 use Rattle.flow_law.specs.StateFlow.{StateHistory, state_flow, state_after_all}
-use Rattle.flow_law.specs.Tokens.{Token}
+use Rattle.flow_law.specs.Promise.{Token}
 use Rattle.flow_law.specs.Done.{Extends, Made}
 use Rattle.flow_law.specs.Closed.{IsClosed}
 

@@ -1,5 +1,5 @@
--- The tokens of any flow for several threads, and what a call adds to what its token knows.
--- Begin with `CallsIn`: one word for every call that is an event. `Id` identifies a flow.
+-- The tokens of any flow for several threads, and the calls that every kind of flow has. Begin with `Promise`: it says what a
+-- call that is an event adds to what its token knows. `Id` identifies a flow.
 use Rattle.std.specs.Prelude.{◌≡◌, ◌≢◌, ℕ, ◌+◌, true, List, ◌++◌, Result, Ok, Err}
 use Rattle.flow_law.specs.declared.fault.FlowFault.{FlowFault}
 use Rattle.flow_law.specs.declared.fault.FlowFault.TheVariants.{Busy}
@@ -10,12 +10,7 @@ use Rattle.flow_law.specs.declared.outcome.Next.{Next}
 use Rattle.flow_law.specs.declared.outcome.Next.TheVariants.{Gone}
 use Rattle.flow_law.specs.Growth.{Fits, child_name, first_knowledge, sees, loses, makes, child}
 use Rattle.flow_law.specs.History.{Kind, IsHistory, replied}
-use Rattle.flow_law.specs.OneHistory.{AddsOne}
-
--- a token: its flow, and what it knows
-pub record Token (Id E : Type 0) : Type 0 where
-  pub table_id : Id
-  pub knows : Knowledge E
+use Rattle.flow_law.specs.Promise.{Token, CallsIn, CallsAtOnceIn}
 
 -- a flow: which one it is, and its first state
 pub record Origin (Id S : Type 0) : Type 0 where
@@ -64,14 +59,6 @@ abbrev pub subscription_name : {E : Type 0} → Knowledge E → List ℕ
 subscription_name k = child_name k.name (k.made + 1)
 
 module _ {Id T S C R : Type 0} (kind : Kind T S C R) (first : S) where
-  -- the token made this call and got this reply: both are the last event of a history that begins with all that it had seen
-  abbrev pub CallsIn : Token Id (Said C R) → C → R → Token Id (Said C R) → Type 0
-  CallsIn before call reply after = (after.table_id ≡ before.table_id) × AddsOne (IsHistory kind first) before.knows call reply after.knows
-
-  -- the token made this call and got this reply, as in `CallsIn`, without a failed attempt
-  abbrev pub CallsAtOnceIn : Token Id (Said C R) → C → R → Token Id (Said C R) → Type 0
-  CallsAtOnceIn before call reply after = CallsIn before call reply after × (after.knows.lost ≡ before.knows.lost)
-
   -- ---- the calls that every kind of flow has
 
   -- the subscription called `next`

@@ -9,7 +9,7 @@ use Rattle.flow_law.specs.declared.call.StateReply.{StateReply}
 use Rattle.flow_law.specs.declared.call.StateReply.TheVariants.{Got, Answered, Refused}
 use Rattle.flow_law.specs.declared.states.StateFlowState.{StateFlowState}
 use Rattle.flow_law.specs.StateFlow.{state_flow}
-use Rattle.flow_law.specs.Tokens.{Token, CallsIn}
+use Rattle.flow_law.specs.Promise.{Token, CallsIn}
 
 -- a token of a state flow
 abbrev pub StateTokenOf : Type 0 → Type 0 → Type 0

@@ -4,9 +4,9 @@ use Rattle.flow_law.specs.declared.call.StateCall.TheVariants.{GetValue}
 use Rattle.flow_law.specs.declared.call.StateReply.TheVariants.{Got}
 use Rattle.flow_law.specs.declared.states.StateFlowState.{StateFlowState}
 use Rattle.flow_law.specs.Growth.{event}
-use Rattle.flow_law.specs.OneHistory.{said}
+use Rattle.flow_law.specs.Promise.{said, Token, CallsIn}
 use Rattle.flow_law.specs.StateFlow.{state_flow}
-use Rattle.flow_law.specs.Tokens.{Token, CallsIn, MeetsIn}
+use Rattle.flow_law.specs.Tokens.{MeetsIn}
 use Rattle.flow_messages.specs.Before.{SaysNumber, set_by, IsSetByMaker, ReadsAfterSet}
 
 module _ {Id : Type 0} (first : StateFlowState ℕ) where

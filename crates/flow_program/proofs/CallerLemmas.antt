@@ -16,7 +16,7 @@ use Rattle.flow_law.specs.Accepted.{accepted_by, accepted}
 use Rattle.flow_law.specs.Done.{done_by}
 use Rattle.flow_law.specs.Mailbox.{received_by}
 use Rattle.flow_law.specs.Growth.{IsMadeBy, NamesOnlyMade, child, child_name}
-use Rattle.flow_law.specs.OneHistory.{AddsOne, said}
+use Rattle.flow_law.specs.Promise.{said, AddsOne}
 use Rattle.flow_law.proofs.DoneLemmas.{every_append, made_nothing, made_more, made_one, said_by_silent}
 use Rattle.flow_law.proofs.Names.{every_weaker}
 use Rattle.flow_program.specs.Callers.{Says, IsEmitting, taken_by, OnlyEmits, Reads}

@@ -7,7 +7,8 @@ use Rattle.flow_law.specs.declared.states.SharedFlowState.{SharedFlowState}
 use Rattle.flow_law.specs.Done.{done_by}
 use Rattle.flow_law.specs.Rounds.{HasClosedHistory}
 use Rattle.flow_law.specs.SharedHistory.{shared_flow}
-use Rattle.flow_law.specs.Tokens.{Token, NumberedToken}
+use Rattle.flow_law.specs.Tokens.{NumberedToken}
+use Rattle.flow_law.specs.Promise.{Token}
 use Rattle.flow_gate.specs.Tokens.{GateOrigin}
 use Rattle.flow_program.specs.declared.crowd.emitters.EmitsAll.{EmitsAll}
 use Rattle.flow_program.specs.declared.crowd.size.CrowdSize.{CrowdSize}

@@ -8,7 +8,7 @@ use Rattle.flow_law.specs.declared.call.SharedReply.TheVariants as reply
 use Rattle.flow_law.specs.declared.states.SharedFlowState.{SharedFlowState}
 use Rattle.flow_law.specs.Growth.{first_knowledge, child_name, makes, child}
 use Rattle.flow_law.specs.History.{IsHistory}
-use Rattle.flow_law.specs.OneHistory.{AddsOne, said}
+use Rattle.flow_law.specs.Promise.{said, AddsOne}
 use Rattle.flow_law.specs.SharedHistory.{shared_flow}
 use Rattle.flow_law.specs.Accepted.{accepted_by, accepted}
 use Rattle.flow_law.specs.Done.{done_by}

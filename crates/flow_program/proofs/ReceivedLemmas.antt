@@ -16,7 +16,7 @@ use Rattle.flow_law.specs.declared.call.SharedReply.{SharedReply}
 use Rattle.flow_law.specs.declared.call.SharedReply.TheVariants as reply
 use Rattle.flow_law.specs.History.{Owner, owner_of, subscriber, owners_all, owners_after, IsHistory, IsOwned, IsGiven, MaySpeak}
 use Rattle.flow_law.specs.Growth.{event}
-use Rattle.flow_law.specs.OneHistory.{said}
+use Rattle.flow_law.specs.Promise.{said}
 use Rattle.flow_law.specs.declared.states.SharedFlowState.{SharedFlowState}
 use Rattle.flow_law.specs.SharedFlow.{first_state, entry, values, position_of}
 use Rattle.flow_law.specs.SharedHistory.{History, IsLegalFrom, shared_flow, after, shared_after_all, state_after}

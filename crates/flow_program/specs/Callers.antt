@@ -10,7 +10,7 @@ use Rattle.flow_law.specs.declared.call.SharedReply.TheVariants as reply
 use Rattle.flow_law.specs.Accepted.{accepted}
 use Rattle.flow_law.specs.Done.{Made}
 use Rattle.flow_law.specs.Mailbox.{received_by}
-use Rattle.flow_law.specs.OneHistory.{said}
+use Rattle.flow_law.specs.Promise.{said}
 
 -- one call with its reply
 abbrev pub Says : Type 0 → Type 0

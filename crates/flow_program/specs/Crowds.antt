@@ -10,7 +10,8 @@ use Rattle.flow_law.specs.declared.call.SharedCall.{SharedCall}
 use Rattle.flow_law.specs.declared.call.SharedCall.TheVariants as call
 use Rattle.flow_law.specs.Growth.{child_name, first_knowledge}
 use Rattle.flow_law.specs.Handles.{CallerOf, ReaderOf}
-use Rattle.flow_law.specs.Tokens.{Token, NumberedToken}
+use Rattle.flow_law.specs.Tokens.{NumberedToken}
+use Rattle.flow_law.specs.Promise.{Token}
 use Rattle.flow_law.specs.Closed.{nth_child}
 use Rattle.flow_law.specs.Done.{done_by}
 use Rattle.flow_program.specs.declared.crowd.emitters.EmitsAll.{EmitsAll}

@@ -15,9 +15,9 @@ use Rattle.flow_law.specs.Draining.{NextsGive, DrainsBy, TakesBy, EndsBy, EndsBy
 use Rattle.flow_law.specs.Growth.{Fits, NamesOnlyMade, adds, event, events_of, knowledge}
 use Rattle.flow_law.specs.History.{Kind, MayCall, IsSubscription, subscriber, replied}
 use Rattle.flow_law.specs.Lawful.{Lawful}
-use Rattle.flow_law.specs.OneHistory.{said}
+use Rattle.flow_law.specs.Promise.{said, CallsIn}
 use Rattle.flow_law.specs.Standing.{Documents, StandsForHistory}
-use Rattle.flow_law.specs.Tokens.{knowing, numbered_token, origin, CallsIn}
+use Rattle.flow_law.specs.Tokens.{knowing, numbered_token, origin}
 use Rattle.flow_law.proofs.DrainingLemmas.{HasTaken}
 use Rattle.flow_law.proofs.Names.{fits_own, grew_refl}
 use Rattle.flow_law.proofs.TokenLemmas.{stands_next, may_grows, may_speak, never_gone, subscription_after_next, subscription_met}

@@ -10,7 +10,7 @@ use Rattle.flow_law.specs.declared.call.SharedReply.TheVariants as reply
 use Rattle.flow_law.specs.declared.states.SharedFlowState.{SharedFlowState}
 use Rattle.flow_law.specs.Done.{is_same_name}
 use Rattle.flow_law.specs.Growth.{event, IsSilent}
-use Rattle.flow_law.specs.OneHistory.{said}
+use Rattle.flow_law.specs.Promise.{said}
 use Rattle.flow_law.specs.SharedHistory.{History}
 use Rattle.flow_law.specs.Tokens.{IsBusy}
 use Rattle.flow_law.specs.Values.{numbers_exact}

@@ -5,9 +5,9 @@ use Rattle.flow_law.specs.declared.history.Said.{Said}
 use Rattle.flow_law.specs.Growth.{event, knowledge, adds, GrowsByOthers}
 use Rattle.flow_law.specs.History.{Kind, IsHistory, MayCall}
 use Rattle.flow_law.specs.Lawful.{Lawful}
-use Rattle.flow_law.specs.OneHistory.{AddsOne, said}
+use Rattle.flow_law.specs.Promise.{said, AddsOne, CallsIn}
 use Rattle.flow_law.specs.Standing.{Documents, StandsForHistory}
-use Rattle.flow_law.specs.Tokens.{knowing, origin, subscription_name, CallsIn}
+use Rattle.flow_law.specs.Tokens.{knowing, origin, subscription_name}
 use Rattle.flow_law.proofs.Names.{fits_own}
 use Rattle.flow_law.proofs.Owners.{history_left}
 use Rattle.flow_law.proofs.TokenLemmas.{stands_next, may_grows}

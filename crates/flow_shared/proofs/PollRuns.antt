@@ -13,7 +13,8 @@ use Rattle.flow_law.specs.HandleFaults.{answer_by, memory_fault}
 use Rattle.flow_law.specs.Handles.{ReaderOf}
 use Rattle.flow_law.specs.History.{Kind, replied}
 use Rattle.flow_law.specs.Lawful.{Lawful}
-use Rattle.flow_law.specs.Tokens.{IsBusy, CallsIn, CallsAtOnceIn}
+use Rattle.flow_law.specs.Tokens.{IsBusy}
+use Rattle.flow_law.specs.Promise.{CallsIn, CallsAtOnceIn}
 use Rattle.flow_law.proofs.TokenLemmas.{next_fault}
 use Rattle.flow_gate.specs.Tokens.{GateOrigin}
 use Rattle.flow_shared.specs.Calls.{GateNumbered, NextsOf, NextsNow}

@@ -12,7 +12,7 @@ use Rattle.flow_law.specs.declared.states.StateFlowState.{StateFlowState}
 use Rattle.flow_law.specs.declared.history.Said.{Said}
 use Rattle.flow_law.specs.History.{Kind}
 use Rattle.flow_law.specs.Lawful.{Lawful}
-use Rattle.flow_law.specs.Tokens.{CallsAtOnceIn}
+use Rattle.flow_law.specs.Promise.{CallsAtOnceIn}
 use Rattle.flow_law.specs.SharedHistory.{shared_flow}
 use Rattle.flow_law.specs.StateFlow.{state_flow}
 use Rattle.flow_law.proofs.RefusalLemmas.{emit_refused, try_emit_refused, cache_refused, next_refused, subscribe_refused, value_refused, state_cache_refused}

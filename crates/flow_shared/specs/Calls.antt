@@ -10,9 +10,9 @@ use Rattle.flow_law.specs.declared.outcome.Next.{Next}
 use Rattle.flow_law.specs.declared.outcome.Next.TheVariants.{Gone}
 use Rattle.flow_law.specs.Growth.{Fits, adds, event}
 use Rattle.flow_law.specs.History.{Kind, IsHistory}
-use Rattle.flow_law.specs.OneHistory.{said}
+use Rattle.flow_law.specs.Promise.{said, CallsIn, CallsAtOnceIn}
 use Rattle.flow_law.specs.Standing.{StandsForHistory}
-use Rattle.flow_law.specs.Tokens.{CallsIn, CallsAtOnceIn, NextsIn, UnsubscribesIn, CountsIn, MeetsIn, SubscribesIn, NextsNowIn, CountsNowIn, IsBusy}
+use Rattle.flow_law.specs.Tokens.{NextsIn, UnsubscribesIn, CountsIn, MeetsIn, SubscribesIn, NextsNowIn, CountsNowIn, IsBusy}
 use Rattle.flow_law.specs.Tokens as flows
 use Rattle.flow_gate.specs.Tokens.{GateToken, GateOrigin, SeatState, idle_seat}
 

@@ -9,7 +9,7 @@ use Rattle.flow_law.specs.declared.outcome.Drained.TheVariants as drained
 use Rattle.flow_law.specs.Draining.{TakesBy}
 use Rattle.flow_law.specs.Growth.{adds}
 use Rattle.flow_law.specs.History.{Kind, replied}
-use Rattle.flow_law.specs.OneHistory.{said}
+use Rattle.flow_law.specs.Promise.{said}
 use Rattle.flow_law.specs.Standing.{Documents}
 use Rattle.flow_law.specs.Tokens.{knowing}
 use Rattle.flow_gate.specs.Tokens.{SeatState, idle_seat}

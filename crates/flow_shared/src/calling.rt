@@ -2,7 +2,7 @@
 ghost use Rattle.std.specs.Prelude.{◌≡◌, ◌≤◌, ◌∷◌, [], IfOk, IfErr, MatchResult, true, false};
 ghost use Rattle.flow_law.specs.Growth.{loses};
 ghost use Rattle.flow_law.specs.History.{MayCall};
-ghost use Rattle.flow_law.specs.OneHistory.{said};
+ghost use Rattle.flow_law.specs.Promise.{said};
 ghost use Rattle.flow_law.specs.Tokens.{subscription_name, knowing, IsBusy};
 ghost use Rattle.flow_gate.specs.Tokens.{idle_seat, IsIdle, Finds};
 ghost use Rattle.flow_shared.specs.Attended.{AttendedAs};

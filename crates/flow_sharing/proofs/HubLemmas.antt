@@ -18,7 +18,8 @@ use Rattle.flow_law.specs.Steps.{Takes}
 use Rattle.flow_law.specs.declared.sharing.Started.{Started}
 use Rattle.flow_law.specs.declared.sharing.SharingObservation.{SharingObservation}
 use Rattle.std.specs.Result.{is_ok}
-use Rattle.flow_law.specs.Tokens.{Token, IsBusy, HasSeenMore, CallsAtOnceIn}
+use Rattle.flow_law.specs.Tokens.{IsBusy, HasSeenMore}
+use Rattle.flow_law.specs.Promise.{Token, CallsAtOnceIn}
 use Rattle.flow_shared.specs.SharedReplies.{SharedToken}
 use Rattle.flow_sharing.specs.SeatedHub.{SeatedHub, has_emission, OnlySends, CountDoes}
 use Rattle.flow_sharing.specs.SharedFlowHub.{SharedSeats, PutBy, PollBy, CancelBy, ResetBy, SharedFlowHubDoes, SharedSays}

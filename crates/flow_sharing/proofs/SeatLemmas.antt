@@ -3,8 +3,8 @@ use Rattle.std.proofs.Common.{[], ◌∷◌, ◌++◌, sym, refl, ap, ◌∙◌,
 use Rattle.flow_law.specs.declared.history.Said.{Said}
 use Rattle.flow_law.specs.Growth.{event}
 use Rattle.flow_law.specs.History.{Kind}
-use Rattle.flow_law.specs.OneHistory.{said}
-use Rattle.flow_law.specs.Tokens.{Token, IsBusy, HasSeenMore, CallsAtOnceIn}
+use Rattle.flow_law.specs.Promise.{said, Token, CallsAtOnceIn}
+use Rattle.flow_law.specs.Tokens.{IsBusy, HasSeenMore}
 use Rattle.flow_sharing.specs.SeatedHub.{SeatedHub}
 use Rattle.flow_sharing.specs.OverThreads.{FollowsInTurn}
 

@@ -15,7 +15,8 @@ use Rattle.flow_law.specs.Sharing.{newest_command, last_moment}
 use Rattle.flow_law.specs.Steps.{Takes}
 use Rattle.flow_law.specs.SharingCalls.{HubCall, HubAnswer, ChainAnswer, counts, puts, polls, cancels, resets, item, pending, end, AskDoes, ChainAndHub, with_hub, CallDoes}
 use Rattle.flow_law.specs.SharingTurn.{SharingState, Turned, refusal, reported, after_put, after_ask, send, after_poll, collect_while_running, after_reset, reset_if_due, after_cancel, work, begin, after_count, turn_steps}
-use Rattle.flow_law.specs.Tokens.{CallsAtOnceIn, CountsNowIn}
+use Rattle.flow_law.specs.Tokens.{CountsNowIn}
+use Rattle.flow_law.specs.Promise.{CallsAtOnceIn}
 use Rattle.flow_law.specs.TurnMeaning.{resets_at}
 use Rattle.flow_law.proofs.TurnLemmas.{by-if, Leads, leads-takes, leads-so, turn-along}
 use Rattle.flow_law.proofs.TurnMeaningLemmas.{turn-means}

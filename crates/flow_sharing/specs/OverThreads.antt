@@ -11,7 +11,7 @@ use Rattle.flow_law.specs.declared.report.Event.{Event}
 use Rattle.flow_law.specs.declared.report.Event.TheVariants.{Busy}
 use Rattle.flow_law.specs.declared.report.Report.{Report}
 use Rattle.flow_law.specs.declared.report.ShareFault.{ShareFault}
-use Rattle.flow_law.specs.Growth.{Grows}
+use Rattle.flow_law.specs.Promise.{Grows, Token, CallsAtOnceIn}
 use Rattle.flow_law.specs.History.{Kind}
 use Rattle.flow_law.specs.Sharing.{is_running}
 use Rattle.flow_law.specs.SharedHistory.{shared_flow}
@@ -20,7 +20,7 @@ use Rattle.flow_law.specs.SharingFlows.{IsNotBusy}
 use Rattle.flow_law.specs.SharingTurn.{SharingState, Turned, turn_steps}
 use Rattle.flow_law.specs.StateFlow.{state_flow}
 use Rattle.flow_law.specs.Steps.{Takes}
-use Rattle.flow_law.specs.Tokens.{Token, HasSeenMore, CallsAtOnceIn}
+use Rattle.flow_law.specs.Tokens.{HasSeenMore}
 use Rattle.flow_law.specs.TurnMeaning.{HasAccount, BetweenTurns, resets_at, HadCommand, IsCommand, TurnMeans, TurnResets}
 use Rattle.flow_sharing.specs.SeatedHub.{SeatedHub, has_emission}
 use Rattle.flow_sharing.specs.SharedFlowHub.{SharedSeats, SharedFlowHubDoes, SharedSays}

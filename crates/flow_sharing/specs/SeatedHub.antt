@@ -4,7 +4,8 @@ use Rattle.flow_law.specs.declared.fault.FlowFault.{FlowFault}
 use Rattle.flow_law.specs.declared.history.Said.{Said}
 use Rattle.flow_law.specs.Growth.{makes, child}
 use Rattle.flow_law.specs.History.{Kind}
-use Rattle.flow_law.specs.Tokens.{Token, Origin, knowing, CountsNowIn}
+use Rattle.flow_law.specs.Tokens.{Origin, knowing, CountsNowIn}
+use Rattle.flow_law.specs.Promise.{Token}
 
 -- The borrowed flow, and the hub's two seats at it. One counts the subscribers. The other emits; while an emission of the hub waits, the
 -- emission holds it.

@@ -11,8 +11,8 @@ use Rattle.flow_law.specs.declared.outcome.Emit.TheVariants.{Done, Queued}
 use Rattle.flow_law.specs.declared.states.SharedFlowState.{SharedFlowState}
 use Rattle.flow_law.specs.SharedHistory.{shared_flow}
 use Rattle.flow_law.specs.SharingCalls.{HubCall, HubAnswer, counts, puts, polls, cancels, resets}
-use Rattle.flow_law.specs.OneHistory.{said}
-use Rattle.flow_law.specs.Tokens.{IsBusy, CallsAtOnceIn}
+use Rattle.flow_law.specs.Promise.{said, CallsAtOnceIn}
+use Rattle.flow_law.specs.Tokens.{IsBusy}
 use Rattle.flow_shared.specs.SharedReplies.{SharedToken}
 use Rattle.atomic_table.specs.Seated.{TableId}
 use Rattle.flow_turns.specs.CoreHub.{still}

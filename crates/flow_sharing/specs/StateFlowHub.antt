@@ -10,8 +10,8 @@ use Rattle.flow_law.specs.declared.call.StateReply.TheVariants as reply
 use Rattle.flow_law.specs.declared.states.StateFlowState.{StateFlowState}
 use Rattle.flow_law.specs.SharingCalls.{HubCall, HubAnswer, counts, puts, polls, cancels, resets}
 use Rattle.flow_law.specs.StateFlow.{state_flow}
-use Rattle.flow_law.specs.OneHistory.{said}
-use Rattle.flow_law.specs.Tokens.{Token, Origin, IsBusy, CallsAtOnceIn}
+use Rattle.flow_law.specs.Promise.{said, Token, CallsAtOnceIn}
+use Rattle.flow_law.specs.Tokens.{Origin, IsBusy}
 use Rattle.flow_sharing.specs.SeatedHub.{SeatedHub, OnlySends, CountDoes}
 
 -- nothing waits in a state flow

@@ -26,12 +26,11 @@ use Rattle.flow_law.specs.Lagging.{IsSubsequence, Lags}
 use Rattle.flow_law.specs.Laws.{Delivers}
 use Rattle.flow_law.specs.declared.config.Config.{Config}
 use Rattle.flow_law.specs.Mailbox.{taken, own, box, received}
-use Rattle.flow_law.specs.OneHistory.{AddsOne, said}
+use Rattle.flow_law.specs.Promise.{said, AddsOne, CallsAtOnceIn}
 use Rattle.flow_law.specs.SharedFlow.{Replied, answer, values, cache, position_of, own_of}
 use Rattle.flow_law.specs.SharedHistory.{History, Replies, after, shared_after_all, state_after, reply_by, shared_flow}
 use Rattle.flow_law.specs.SharedStep.{settle, advance, read, next_from, next}
 use Rattle.flow_law.specs.StateFlow.{StateHistory, IsStateHistory, state_flow}
-use Rattle.flow_law.specs.Tokens.{CallsAtOnceIn}
 use Rattle.flow_law.proofs.HistoryLemmas.{after_all-snoc}
 use Rattle.flow_law.proofs.Owners.{legal_right}
 use Rattle.flow_law.proofs.Steps.{past_here}

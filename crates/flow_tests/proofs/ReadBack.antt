@@ -9,7 +9,7 @@ use Rattle.flow_law.specs.declared.call.StateReply.{StateReply}
 use Rattle.flow_law.specs.declared.call.StateReply.TheVariants as reply
 use Rattle.flow_law.specs.declared.outcome.Next.TheVariants.{Value, Empty, Gone}
 use Rattle.flow_law.specs.Growth.{event, IsSilent}
-use Rattle.flow_law.specs.OneHistory.{said}
+use Rattle.flow_law.specs.Promise.{said}
 use Rattle.flow_law.specs.declared.states.StateFlowState.{StateFlowState}
 use Rattle.flow_law.specs.StateFlow.{StateHistory, state_flow_after, state_after_all, state_flow, IsStateHistory}
 use Rattle.flow_law.proofs.HistoryLemmas.{after_all-snoc}

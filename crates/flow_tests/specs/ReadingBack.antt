@@ -7,7 +7,7 @@ use Rattle.flow_law.specs.declared.call.StateCall.TheVariants.{GetValue, Set, Tr
 use Rattle.flow_law.specs.declared.call.StateReply.{StateReply}
 use Rattle.flow_law.specs.declared.call.StateReply.TheVariants.{Done, Got, Answered}
 use Rattle.flow_law.specs.Growth.{event, IsSilent}
-use Rattle.flow_law.specs.OneHistory.{said}
+use Rattle.flow_law.specs.Promise.{said}
 use Rattle.flow_law.specs.StateFlow.{StateHistory}
 
 module _ {T : Type 0} where

@@ -17,7 +17,7 @@ use Rattle.flow_law.specs.declared.call.StateReply.TheVariants as reply
 use Rattle.flow_law.specs.declared.states.StateFlowState.{StateFlowState}
 use Rattle.flow_law.specs.Growth.{Fits, IsApartFrom, event}
 use Rattle.flow_law.specs.History.{MayCall}
-use Rattle.flow_law.specs.OneHistory.{said}
+use Rattle.flow_law.specs.Promise.{said}
 use Rattle.flow_law.specs.Seats.{SeatAt}
 use Rattle.flow_law.specs.StateFlow.{StateHistory, state_flow_after, StateFlowReplies, state_flow, state_after_all, IsStateHistory}
 use Rattle.flow_law.proofs.HistoryLemmas.{after_all-snoc, IsHistory-snoc}

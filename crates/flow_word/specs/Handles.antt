@@ -8,7 +8,8 @@ use Rattle.flow_law.specs.Closed.{makes_many, nth_child}
 use Rattle.flow_law.specs.Current.{IsThere}
 use Rattle.flow_law.specs.Handles.{CallerOf, ReaderOf, called_by}
 use Rattle.flow_law.specs.StateFlow.{StateHistory, state_after_all}
-use Rattle.flow_law.specs.Tokens.{Token, Origin, knowing}
+use Rattle.flow_law.specs.Tokens.{Origin, knowing}
+use Rattle.flow_law.specs.Promise.{Token}
 use Rattle.flow_word.specs.Tokens.{WordId}
 
 -- a seat and its word state

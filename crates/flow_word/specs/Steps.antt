@@ -12,7 +12,7 @@ use Rattle.flow_law.specs.declared.outcome.Next.TheVariants.{Value, Empty}
 use Rattle.flow_law.specs.declared.states.StateFlowState.{StateFlowState}
 use Rattle.flow_law.specs.Growth.{Fits, sees, child}
 use Rattle.flow_law.specs.History.{subscriber, IsGiven}
-use Rattle.flow_law.specs.OneHistory.{AddsOne}
+use Rattle.flow_law.specs.Promise.{AddsOne}
 use Rattle.flow_law.specs.StateFlow.{StateHistory, last_got_by, state_flow, state_after_all, IsStateHistory}
 use Rattle.flow_law.specs.Tokens.{subscription_name}
 use Rattle.flow_word.specs.declared.view.Known.{Known}

@@ -5,7 +5,8 @@ ghost use Rattle.flow_law.specs.declared.call.StateReply.TheVariants as reply;
 ghost use Rattle.flow_law.specs.declared.fault.FlowFault.TheVariants.{Exhausted};
 ghost use Rattle.flow_law.specs.declared.outcome.Next.TheVariants.{Gone};
 ghost use Rattle.flow_law.specs.StateFlow.{state_flow};
-ghost use Rattle.flow_law.specs.Tokens.{SubscribesIn, NextsIn, UnsubscribesIn, CallsAtOnceIn};
+ghost use Rattle.flow_law.specs.Tokens.{SubscribesIn, NextsIn, UnsubscribesIn};
+ghost use Rattle.flow_law.specs.Promise.{CallsAtOnceIn};
 
 use crate::plays::{Count, Enter, FindRoom, Leave, Make, ReadBy, Receive};
 use crate::token::{WordSeat, WordState, WordSubscription};

@@ -2,7 +2,7 @@
 ghost use Rattle.std.specs.Prelude.{◌≡◌, Ok, IfOk, IfErr, MatchResult};
 ghost use Rattle.std.specs.Fn.{FnReturnsAt};
 ghost use Rattle.flow_law.specs.StateFlow.{state_flow};
-ghost use Rattle.flow_law.specs.Tokens.{CallsIn};
+ghost use Rattle.flow_law.specs.Promise.{CallsIn};
 ghost use Rattle.flow_law.specs.Updates.{Accepts, ReadsInVain, Refuses, RefusesOrKeepsNone, StopsAt, Updates};
 ghost use Rattle.flow_law.specs.declared.call.StateCall.TheVariants as call;
 ghost use Rattle.flow_law.specs.declared.call.StateReply.TheVariants as reply;

@@ -6,7 +6,8 @@ ghost use Rattle.flow_law.specs.Growth.{makes, child};
 ghost use Rattle.flow_law.specs.HandleFaults.{answer_by, limit_fault};
 ghost use Rattle.flow_law.specs.Handles.{called_by, SubscribesBound};
 ghost use Rattle.flow_law.specs.StateFlow.{IsStateHistory, state_flow};
-ghost use Rattle.flow_law.specs.Tokens.{CallsAtOnceIn, MeetsIn, knowing};
+ghost use Rattle.flow_law.specs.Tokens.{MeetsIn, knowing};
+ghost use Rattle.flow_law.specs.Promise.{CallsAtOnceIn};
 ghost use Rattle.flow_law.specs.declared.call.StateCall.TheVariants as call;
 ghost use Rattle.flow_law.specs.declared.call.StateReply.TheVariants as reply;
 

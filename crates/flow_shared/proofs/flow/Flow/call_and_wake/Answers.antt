@@ -1,6 +1,6 @@
 use Rattle.std.proofs.Common.{◌++◌, ◌∷◌, [], refl, sym, ap, subst}
 use Rattle.flow_law.specs.Growth.{event}
-use Rattle.flow_law.specs.OneHistory.{said}
+use Rattle.flow_law.specs.Promise.{said}
 use Rattle.flow_law.specs.Standing.{StandsForHistory}
 use Rattle.flow_law.specs.Tokens.{subscription_name}
 use Rattle.flow_shared.specs.Attended.{AttendedAs}

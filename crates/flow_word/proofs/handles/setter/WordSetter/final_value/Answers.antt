@@ -3,7 +3,7 @@ use Rattle.flow_law.specs.declared.call.StateCall.TheVariants as call
 use Rattle.flow_law.specs.declared.call.StateReply.TheVariants as reply
 use Rattle.flow_law.specs.Rounds.{MeetsInTurn}
 use Rattle.flow_law.specs.StateFlow.{state_flow}
-use Rattle.flow_law.specs.Tokens.{CallsIn}
+use Rattle.flow_law.specs.Promise.{CallsIn}
 use Rattle.flow_law.proofs.RoundLemmas.{final_value}
 use Rattle.flow_word.proofs.handles.setter.WordSetter.final_value.Goals as goal
 
