@@ -24,7 +24,7 @@ said call reply = record { call = call; reply = reply }
 pub record AddsOne {C R : Type 0} (IsHistory : List (HistoryEvent (Said C R)) → Type 0) (before : Knowledge (Said C R)) (call : C) (reply : R) (after : Knowledge (Said C R)) : Type 0 where
   pub name : after.name ≡ before.name
   pub made : after.made ≡ before.made
-  pub lost : before.lost ≤ after.lost -- a call that waits may fail to enter at first
+  pub lost : before.lost ≤ after.lost  -- a call that waits may fail to enter at first
   pub history : IsHistory after.seen
   pub grows : Grows before.name before.seen (said call reply) after.seen
   -- no other caller has its name, or the name of a token that is yet to be made through it
