@@ -63,15 +63,15 @@ module _ {Id T S C R : Type 0} (kind : Kind T S C R) (first : S) where
 
   -- the subscription called `next`
   abbrev pub NextsIn : NumberedToken Id (Said C R) → Result (Next T) FlowFault → NumberedToken Id (Said C R) → Type 0
-  NextsIn old result new = CallsIn old.token (kind.take_next old.number) (replied kind kind.received result) new.token
+  NextsIn old result new = CallsIn kind first old.token (kind.take_next old.number) (replied kind kind.received result) new.token
 
   -- the subscription unsubscribed. Its token serves other calls
   abbrev pub UnsubscribesIn : NumberedToken Id (Said C R) → Token Id (Said C R) → Type 0
-  UnsubscribesIn old after = CallsIn old.token (kind.unsubscribe old.number) (kind.tested true) after
+  UnsubscribesIn old after = CallsIn kind first old.token (kind.unsubscribe old.number) (kind.tested true) after
 
   -- the call counts the subscribers
   abbrev pub CountsIn : Token Id (Said C R) → ℕ → Token Id (Said C R) → Type 0
-  CountsIn before count after = CallsIn before kind.count (kind.counted count) after
+  CountsIn before count after = CallsIn kind first before kind.count (kind.counted count) after
 
   -- both tokens have then seen one history of the flow, which fits what each had seen
   pub record MeetsIn (one other one_after other_after : Token Id (Said C R)) : Type 0 where
@@ -86,19 +86,19 @@ module _ {Id T S C R : Type 0} (kind : Kind T S C R) (first : S) where
   -- through the caller's after the event, so both have seen it.
   abbrev pub SubscribesIn : (List ℕ → C) → Token Id (Said C R) → Result (NumberedToken Id (Said C R)) FlowFault → Token Id (Said C R) → Type 0
   SubscribesIn subscribe before (Ok s) after =
-      (between : Token Id (Said C R)) × CallsIn before (subscribe (subscription_name before.knows)) (kind.subscribed s.number) between
+      (between : Token Id (Said C R)) × CallsIn kind first before (subscribe (subscription_name before.knows)) (kind.subscribed s.number) between
       × (after ≡ knowing between (makes between.knows)) × (s.token ≡ knowing between (child between.knows))
-  SubscribesIn subscribe before (Err fault) after = CallsIn before (subscribe (subscription_name before.knows)) (kind.refused fault) after
+  SubscribesIn subscribe before (Err fault) after = CallsIn kind first before (subscribe (subscription_name before.knows)) (kind.refused fault) after
 
   -- ---- calls that do not wait: Busy exactly if one attempt failed
 
   -- a `next` that does not wait
   abbrev pub NextsNowIn : NumberedToken Id (Said C R) → Result (Next T) FlowFault → NumberedToken Id (Said C R) → Type 0
-  NextsNowIn old (Ok next) new = (next ≢ Gone) × (new.number ≡ old.number) × CallsAtOnceIn old.token (kind.take_next old.number) (kind.received next) new.token
+  NextsNowIn old (Ok next) new = (next ≢ Gone) × (new.number ≡ old.number) × CallsAtOnceIn kind first old.token (kind.take_next old.number) (kind.received next) new.token
   NextsNowIn old (Err Busy) new = (new.number ≡ old.number) × IsBusy old.token new.token
-  NextsNowIn old (Err fault) new = (new.number ≡ old.number) × CallsAtOnceIn old.token (kind.take_next old.number) (kind.refused fault) new.token
+  NextsNowIn old (Err fault) new = (new.number ≡ old.number) × CallsAtOnceIn kind first old.token (kind.take_next old.number) (kind.refused fault) new.token
 
   -- a count that does not wait
   abbrev pub CountsNowIn : Token Id (Said C R) → Result ℕ FlowFault → Token Id (Said C R) → Type 0
-  CountsNowIn before (Ok count) after = CallsAtOnceIn before kind.count (kind.counted count) after
+  CountsNowIn before (Ok count) after = CallsAtOnceIn kind first before kind.count (kind.counted count) after
   CountsNowIn before (Err fault) after = (fault ≡ Busy) × IsBusy before after

@@ -14,8 +14,8 @@ use Rattle.flow_law.proofs.TokenLemmas.{next_fault}
 use Rattle.flow_gate.specs.Tokens.{GateOrigin}
 use Rattle.flow_shared.specs.Calls.{GateNumbered, NextsOf}
 use Rattle.flow_shared.specs.BoundReplies.{drained_by}
-use Rattle.flow_shared.specs.declared.handles.reader.DrainEnd.{DrainEnd}
-use Rattle.flow_shared.specs.declared.handles.reader.DrainEnd.TheVariants as drain_end
+use Rattle.flow_shared.specs.declared.drain.DrainEnd.{DrainEnd}
+use Rattle.flow_shared.specs.declared.drain.DrainEnd.TheVariants as drain_end
 
 module _ {T S C R : Type 0} (kind : Kind T S C R) (law : Lawful kind) (flow : GateOrigin S) where
   ended_fault : (s u : GateNumbered (Said C R)) (fault : FlowFault) → EndsBy (NextsOf kind flow) s (Err fault) u → fault ≡ why.OutOfMemory

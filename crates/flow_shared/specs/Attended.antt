@@ -57,6 +57,10 @@ abbrev pub without_emitter : Touch → List ℕ → List ℕ
 without_emitter (touch.Emission e) emitters = filter (λ k. not (k == e)) emitters
 without_emitter _ emitters = emitters
 
+-- the watchers but those of this number
+abbrev pub without_watcher : ℕ → List ℕ → List ℕ
+without_watcher number watchers = filter (λ k. not (k == number)) watchers
+
 module _ {K T S C R : Type 0} {kind : Kind T S C R} (sleeping : Sleeping kind) (StandsAs : K → S → Type 0) where
   -- The readers that sleep after a call: none, or the earlier ones if subscribers have nothing new: the mark is this one
   -- in each state for which the core stands.

@@ -23,8 +23,8 @@ use Rattle.flow_shared.specs.declared.handles.emission.EmitAnswer.{EmitAnswer}
 use Rattle.flow_shared.specs.declared.handles.emission.EmitAnswer.TheVariants as emit_answer
 use Rattle.flow_shared.specs.declared.handles.emission.PollAnswer.{PollAnswer}
 use Rattle.flow_shared.specs.declared.handles.emission.PollAnswer.TheVariants as poll_answer
-use Rattle.flow_shared.specs.declared.handles.reader.DrainEnd.{DrainEnd}
-use Rattle.flow_shared.specs.declared.handles.reader.DrainEnd.TheVariants as drain_end
+use Rattle.flow_shared.specs.declared.drain.DrainEnd.{DrainEnd}
+use Rattle.flow_shared.specs.declared.drain.DrainEnd.TheVariants as drain_end
 
 -- the flow's own answer to a drain through a reader
 abbrev pub drained_by : Result DrainEnd FlowFault → Result Drained FlowFault

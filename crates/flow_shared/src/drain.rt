@@ -1,14 +1,16 @@
 //! Taking all values that a subscriber can receive now.
-ghost use Rattle.std.specs.Prelude.{◌≡◌, ◌≢◌, ◌+◌, ◌≤◌, Ok, IsOk};
+ghost use Rattle.std.specs.Prelude.{◌≡◌, ◌≢◌, ◌+◌, ◌≤◌, Ok, IsOk, IfErr};
 ghost use Rattle.std.specs.Result.{OnErr};
 ghost use Rattle.std.specs.Vec.{vec_len, vec_capacity};
 ghost use Rattle.flow_law.specs.Draining.{DrainsBy, TakesBy, IsFull};
 ghost use Rattle.flow_law.specs.Growth.{NamesOnlyMade};
+ghost use Rattle.flow_law.specs.HandleFaults.{answer_by, memory_fault};
 ghost use Rattle.flow_law.specs.History.{IsSubscription};
 ghost use Rattle.flow_law.specs.Tokens.{numbered_token};
 ghost use Rattle.flow_law.specs.declared.outcome.Drained.TheVariants.{Gone, Most};
 ghost use Rattle.flow_core.specs.SubId.{number_of};
 ghost use Rattle.flow_shared.specs.Attended.{AttendedAs};
+ghost use Rattle.flow_shared.specs.BoundReplies.{drained_by};
 ghost use Rattle.flow_shared.specs.Calls.{HoldsFor, NextsOf};
 ghost use Rattle.flow_shared.specs.Drains.{CoreNexts, TakesInside, said_since};
 
@@ -21,10 +23,32 @@ use crate::to_wake::ToWake;
 use crate::token::{FlowSeat, FlowSubscription};
 use flow_core::{FlowCore, SubId, SubscriberCalls};
 use flow_gate::NamesEvents;
-use flow_law::{Drained, FlowFault, Next, Said};
+use flow_law::{Drained, FlowFault, Next, OutOfMemory, Said};
 use std::alloc::Allocator;
 use std::snapshot::Snapshot;
 use std::sync::Wait;
+
+/// How a `drain` ended.
+#[derive(Clone, Copy, Debug, PartialEq, Eq)]
+pub enum DrainEnd {
+    /// As many values were taken as the call asked for. The flow may have more.
+    Most,
+    /// The subscriber has received all values.
+    Empty,
+}
+
+/// Returns how a drain ended, for a subscriber that is not gone.
+fn drain_end(ended: Result<Drained, FlowFault>) -> Result<DrainEnd, OutOfMemory>
+    requires live { ended ≢ Ok Gone }
+    requires memory { IfErr ended (λ fault. fault ≡ FlowFault.OutOfMemory) }
+    ensures { drained_by (answer_by memory_fault result) ≡ ended }
+{
+    match ended {
+        Ok(Drained::Most) => Ok(DrainEnd::Most),
+        Ok(_) => Ok(DrainEnd::Empty),
+        Err(_fault) => Err(OutOfMemory),
+    }
+}
 
 impl<S: SubscriberCalls, A: Allocator + Copy> Attended<S, A> {
     /// Appends values that a subscriber can receive, at most `most`, to the list, if no caller sleeps. Returns how
@@ -197,18 +221,18 @@ impl<S: SubscriberCalls + Drop, A: Allocator + Copy> Flow<S, A> {
         subscription: &mut FlowSubscription<S, A>,
         most: usize,
         values: &mut Vec<S::Item, B>,
-    ) -> Result<Drained, FlowFault>
+    ) -> Result<DrainEnd, OutOfMemory>
         requires { subscription.old.token.table_id ≡ self.now.table_id }
         // Each value is one event of the history that the subscription has seen.
-        ensures drained { DrainsBy (NextsOf S.kind self.now) most
-            subscription.old values.old.items result values.new.items subscription.new }
+        ensures drained { DrainsBy (NextsOf S.kind self.now) most subscription.old values.old.items
+            (drained_by (answer_by memory_fault result)) values.new.items subscription.new }
         ensures flow { subscription.new.token.table_id ≡ subscription.old.token.table_id }
         ensures number { subscription.new.number ≡ subscription.old.number }
-        ensures live { result ≢ Ok Gone }
         // If copies are never refused, it fails only with a list that is full and cannot grow.
         ensures full { S.Item.IsAlwaysCopied → OnErr result (IsFull values.new) }
     {
         let id = subscription.id;
-        self.drain_by(rt, &mut subscription.seat, id, most, values)
+        let ended = self.drain_by(rt, &mut subscription.seat, id, most, values);
+        drain_end(ended)
     }
 }

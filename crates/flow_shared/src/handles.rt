@@ -28,6 +28,6 @@ pub use caller::FlowCaller;
 pub use changing::StateChangedFuture;
 pub use emission::{BoundEmission, EmitAnswer, PollAnswer};
 pub use emitter::Emitter;
-pub use reader::{DrainEnd, FlowReader, Reader, StateReader};
+pub use reader::{FlowReader, Reader, StateReader};
 pub use setter::Setter;
 pub use values::FlowValues;

@@ -50,10 +50,11 @@ mod token;
 mod watcher;
 
 pub use answers::{Emission, Emitted, Polled, PolledNow, SendEnd};
+pub use drain::DrainEnd;
 pub use emit_future::{EmitFuture, EmitStage, Sent};
 pub use flow::Flow;
 pub use handles::{
-    BoundEmission, DrainEnd, EmitAnswer, Emitter, FlowCaller, FlowReader, FlowValues, PollAnswer,
+    BoundEmission, EmitAnswer, Emitter, FlowCaller, FlowReader, FlowValues, PollAnswer,
     Reader, Setter, StateChangedFuture, StateReader,
 };
 pub use next_future::{NextFuture, Received};

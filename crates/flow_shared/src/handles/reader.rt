@@ -11,7 +11,8 @@ ghost use Rattle.flow_shared.specs.Calls.{NextsOf, NextsNow, Unsubscribes, Unsub
 ghost use Rattle.flow_shared.specs.BoundReplies.{drained_by, left_by, left_flow};
 
 use super::caller::FlowCaller;
-use super::errors::{drain_end, try_next_error};
+use super::errors::try_next_error;
+use crate::drain::DrainEnd;
 use crate::dropping::TRIES;
 use crate::flow::Flow;
 use crate::sleepless::Sleepless;
@@ -37,15 +38,6 @@ pub type Reader<'a, T, A = Global> = FlowReader<'a, SharedCore<T, A>, A>;
 
 /// A subscription to a state flow.
 pub type StateReader<'a, T, A = Global> = FlowReader<'a, StateCore<T, A>, A>;
-
-/// How a `drain` of a reader ended.
-#[derive(Clone, Copy, Debug, PartialEq, Eq)]
-pub enum DrainEnd {
-    /// As many values were taken as the call asked for. The flow may have more.
-    Most,
-    /// The subscriber has received all values.
-    Empty,
-}
 
 impl<S: ReaderCalls + Drop, A: Allocator + Copy> Drop for FlowReader<'_, S, A> {
     fn drop(self) {
@@ -186,8 +178,7 @@ impl<'a, S: SubscriberCalls + Drop, A: Allocator + Copy> FlowReader<'a, S, A> {
         ensures number { self.new.subscription.number ≡ self.old.subscription.number }
         ensures full { S.Item.IsAlwaysCopied → OnErr result (IsFull values.new) }
     {
-        let ended = self.flow.drain(rt, &mut self.subscription, most, values);
-        drain_end(ended)
+        self.flow.drain(rt, &mut self.subscription, most, values)
     }
 }
 
