@@ -4,16 +4,16 @@ use Rattle.std.specs.Prelude.{◌≡◌, List, ◌++◌, Option, Some, None}
 use Rattle.atomic_table.specs.Seated.{TableId}
 use Rattle.flow_law.specs.declared.history.HistoryEvent.{HistoryEvent}
 use Rattle.flow_law.specs.Growth.{Fits, events_of, knowledge, sees}
-use Rattle.flow_law.specs.Tokens as flows
-use Rattle.flow_law.specs.Tokens.{knowing, Begins}
+use Rattle.flow_law.specs.Promise.{Token}
+use Rattle.flow_law.specs.Tokens.{Origin, knowing, Begins}
 
 -- the token of a seat: its gate, and what it knows
 abbrev pub GateToken : Type 0 → Type 0
-GateToken = flows.Token TableId
+GateToken = Token TableId
 
 -- a gate: which one it is, and the state that it began with
 abbrev pub GateOrigin : Type 0 → Type 0
-GateOrigin = flows.Origin TableId
+GateOrigin = Origin TableId
 
 -- a seat: its token and, while its caller is inside, the state that it holds
 pub record SeatState (S E : Type 0) : Type 0 where
