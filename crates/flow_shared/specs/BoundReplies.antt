@@ -19,10 +19,10 @@ use Rattle.flow_shared.specs.declared.answers.Polled.{Polled}
 use Rattle.flow_shared.specs.declared.answers.Polled.TheVariants as polled
 use Rattle.flow_shared.specs.declared.answers.PolledNow.{PolledNow}
 use Rattle.flow_shared.specs.declared.answers.PolledNow.TheVariants as polled_now
-use Rattle.flow_shared.specs.declared.handles.emission.EmitAnswer.{EmitAnswer}
-use Rattle.flow_shared.specs.declared.handles.emission.EmitAnswer.TheVariants as emit_answer
-use Rattle.flow_shared.specs.declared.handles.emission.PollAnswer.{PollAnswer}
-use Rattle.flow_shared.specs.declared.handles.emission.PollAnswer.TheVariants as poll_answer
+use Rattle.flow_shared.specs.declared.handles.bound_emission.EmitAnswer.{EmitAnswer}
+use Rattle.flow_shared.specs.declared.handles.bound_emission.EmitAnswer.TheVariants as emit_answer
+use Rattle.flow_shared.specs.declared.handles.bound_emission.PollAnswer.{PollAnswer}
+use Rattle.flow_shared.specs.declared.handles.bound_emission.PollAnswer.TheVariants as poll_answer
 use Rattle.flow_shared.specs.declared.drain.DrainEnd.{DrainEnd}
 use Rattle.flow_shared.specs.declared.drain.DrainEnd.TheVariants as drain_end
 

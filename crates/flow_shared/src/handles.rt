@@ -7,27 +7,27 @@
 //! does not wait for room. `emit_now` waits for nothing.
 //!
 //! `receive`, `changed` and `send` wait for a value and for room: the thread sleeps until another call wakes it.
-mod awaiting;
+mod bound_emission;
 mod caller;
-mod changing;
-mod emission;
 mod emitter;
 mod errors;
-mod many;
+mod into_futures;
+mod meet_all;
 mod reader;
 mod reader_laws;
-mod receiving;
-mod sending;
+mod receive;
+mod receive_timeout;
+mod send;
 mod setter;
-mod timeouts;
+mod state_changed;
 mod updates;
 mod values;
 mod wait_for;
 
+pub use bound_emission::{BoundEmission, EmitAnswer, PollAnswer};
 pub use caller::FlowCaller;
-pub use changing::StateChangedFuture;
-pub use emission::{BoundEmission, EmitAnswer, PollAnswer};
 pub use emitter::Emitter;
 pub use reader::{FlowReader, Reader, StateReader};
 pub use setter::Setter;
+pub use state_changed::StateChangedFuture;
 pub use values::FlowValues;

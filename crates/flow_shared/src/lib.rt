@@ -54,8 +54,8 @@ pub use drain::DrainEnd;
 pub use emit_future::{EmitFuture, EmitStage, Sent};
 pub use flow::Flow;
 pub use handles::{
-    BoundEmission, EmitAnswer, Emitter, FlowCaller, FlowReader, FlowValues, PollAnswer,
-    Reader, Setter, StateChangedFuture, StateReader,
+    BoundEmission, EmitAnswer, Emitter, FlowCaller, FlowReader, FlowValues, PollAnswer, Reader,
+    Setter, StateChangedFuture, StateReader,
 };
 pub use next_future::{NextFuture, Received};
 pub use receive_future::ReceiveFuture;

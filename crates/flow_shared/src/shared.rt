@@ -17,14 +17,14 @@ use flow_law::{Config, FlowFault, FlowValue};
 use std::alloc::{Allocator, Global};
 use std::sync::Wait;
 
-mod calls;
+mod emit_and_wait;
+mod emit_in_time;
 mod emitting;
-mod seen;
-mod sending;
-mod sending_in_time;
+mod shared_calls;
+mod shared_seen;
 mod subscribe;
 
-use calls::{ReplayCache, ResetReplayCache};
+use shared_calls::{ReplayCache, ResetReplayCache};
 
 /// A shared flow (`MutableSharedFlow`) for callers on several threads. Each subscriber receives what is emitted, and a
 /// new one receives the replay cache first.

@@ -15,11 +15,11 @@ use flow_law::{FlowFault, FlowValue};
 use std::alloc::{Allocator, Global};
 use std::sync::Wait;
 
-mod calls;
-mod seen;
-mod value;
+mod get_and_set;
+mod state_calls;
+mod state_seen;
 
-use calls::{ReplayCache, ResetReplayCache};
+use state_calls::{ReplayCache, ResetReplayCache};
 
 /// A state flow (`MutableStateFlow`) for callers on several threads. It has one current value, which every caller may
 /// read and set; a subscriber receives the most recent value that it has not received.

@@ -1,5 +1,6 @@
 //! Worked examples of flows: steps, each with what it must return. Another module takes the steps.
-use flow_law::{Config, Drained, FlowFault, Next, Overflow};
+use flow_law::{Config, FlowFault, Next, Overflow};
+use flow_shared::DrainEnd;
 
 /// The configuration of a flow without a buffer (`MutableSharedFlow()`).
 pub const UNBUFFERED: Config = Config {
@@ -68,5 +69,5 @@ pub enum Step {
     Count(u64),
     CountNow(u64),
     /// A subscriber, the most values that it takes, why the drain stopped, and the values.
-    Drain(usize, usize, Drained, &'static [i64]),
+    Drain(usize, usize, DrainEnd, &'static [i64]),
 }

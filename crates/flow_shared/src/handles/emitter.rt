@@ -14,8 +14,8 @@ ghost use Rattle.flow_core.specs.SharedCore.{try_emit_reply, cache_reply};
 ghost use Rattle.flow_shared.specs.SharedReplies.{SharedCalls, Emits, EmitsNow, ResetsNow};
 ghost use Rattle.flow_shared.specs.BoundReplies.{emitted_by, emitted_flow};
 
+use super::bound_emission::{BoundEmission, EmitAnswer};
 use super::caller::FlowCaller;
-use super::emission::{BoundEmission, EmitAnswer};
 use super::errors::{emit_now_error, number_error};
 use super::reader::{FlowReader, Reader};
 use crate::answers::Emitted;

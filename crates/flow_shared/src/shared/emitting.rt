@@ -7,7 +7,7 @@ ghost use Rattle.flow_core.specs.SharedCore.{try_emit_reply};
 ghost use Rattle.flow_shared.specs.SharedReplies.{SharedCalls, Emits, EmitsNow, EmitsBy, Polls, PollsNow, PollsBy, CancelsNow, EmitRefusedIfDue, EmitIsWait, PollIsWait};
 
 use super::Seat;
-use super::calls::{Cancel, Emit as EmitCall, Poll, TryEmit};
+use super::shared_calls::{Cancel, Emit as EmitCall, Poll, TryEmit};
 use crate::answers::{Emission, Emitted, Polled, PolledNow};
 use crate::calling::{AtOnce, Entry, Waiting};
 use crate::flow::Flow;

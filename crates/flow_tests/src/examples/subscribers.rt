@@ -10,7 +10,8 @@ use crate::steps::Step::{
 use crate::steps::{DONE, Example, UNBUFFERED, WAITS};
 use flow_law::FlowFault::{Exhausted, Unsupported};
 use flow_law::Next::{Empty, Value};
-use flow_law::{Config, Drained, Overflow};
+use flow_law::{Config, Overflow};
+use flow_shared::DrainEnd;
 
 static EXAMPLES: &[Example] = &[
     // Without a replay cache, a new subscriber receives nothing that was emitted before.
@@ -129,14 +130,14 @@ static EXAMPLES: &[Example] = &[
             Subscribe,
             TryEmit(1, Ok(true)),
             TryEmit(2, Ok(true)),
-            Drain(0, 1, Drained::Most, &[1]),
-            Drain(0, 9, Drained::Empty, &[2]),
+            Drain(0, 1, DrainEnd::Most, &[1]),
+            Drain(0, 9, DrainEnd::Empty, &[2]),
         ],
     },
     // A state flow gives its value once.
     Example {
         kind: State(u64::MAX),
-        steps: &[Subscribe, Set(5), Drain(0, 9, Drained::Empty, &[5])],
+        steps: &[Subscribe, Set(5), Drain(0, 9, DrainEnd::Empty, &[5])],
     },
     // A subscriber receives no value twice in a row.
     Example {

@@ -4,8 +4,8 @@ ghost use Rattle.std.specs.Prelude.{◌≡◌};
 use crate::compare::compare;
 use crate::values::{Numbered, are, by_number};
 use flow_core::{FlowCore, SharedCore, SubscriberCalls};
-use flow_law::{Drained, FlowFault, Next, Refused};
-use flow_shared::{Emission, Emitted, Flow, FlowSubscription, Polled, Seat, SharedFlow};
+use flow_law::{FlowFault, Next, OutOfMemory, Refused};
+use flow_shared::{DrainEnd, Emission, Emitted, Flow, FlowSubscription, Polled, Seat, SharedFlow};
 use std::alloc::{Allocator, Global};
 use std::process::Abort;
 use std::sync::Wait;
@@ -52,7 +52,7 @@ impl<'a, T: Numbered, S: FlowCore<Item = T> + SubscriberCalls + Drop, A: Allocat
         memory: A,
         place: usize,
         most: usize,
-        wanted: (Drained, &[i64]),
+        wanted: (DrainEnd, &[i64]),
     ) -> Result<(), FlowFault> {
         let mut drained = Vec::new(memory);
         let answer = self
@@ -64,7 +64,7 @@ impl<'a, T: Numbered, S: FlowCore<Item = T> + SubscriberCalls + Drop, A: Allocat
                 are(rt, place, drained.as_slice(), wanted.1);
                 Ok(())
             }
-            Err(fault) => Err(fault),
+            Err(OutOfMemory) => Err(FlowFault::OutOfMemory),
         }
     }
 
