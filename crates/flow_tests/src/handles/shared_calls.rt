@@ -4,7 +4,7 @@ use crate::flows::new_reader;
 use crate::handle_calls::{send, try_emit};
 use crate::handles::answers::{length, pause};
 use crate::handles::emissions::{cancel, cancel_late, emission_of, queued, try_cancel};
-use crate::handles::players::Makes;
+use crate::handles::players::MakesCalls;
 use crate::handles::shared::Call;
 use crate::handles::tasks::{lose_select, poll_receive, poll_send};
 use flow_law::{Exhausted, NumberError, Rejected};

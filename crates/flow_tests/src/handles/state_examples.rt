@@ -1,5 +1,5 @@
 //! A setter and a reader of a state flow or a word state.
-use crate::handles::players::Makes;
+use crate::handles::players::MakesCalls;
 use crate::handles::state::Call;
 use std::alloc::AllocGlobal;
 use std::process::Abort;
