@@ -74,7 +74,7 @@ pub(crate) struct Made<X> {
 }
 
 impl<X> Made<X> {
-    /// Returns this answer of a call that touches nobody, and whose caller leaves.
+    /// Returns this answer of a call that wakes no sleeper, and whose caller leaves.
     #[inline(always)]
     pub(crate) fn quiet(answer: X) -> Made<X>
         ensures { result ≡ made answer Nobody Leave }
@@ -94,7 +94,7 @@ impl<X> Made<X> {
         }
     }
 
-    /// Returns this answer of a call that touches nobody.
+    /// Returns this answer of a call that wakes no sleeper.
     #[inline(always)]
     pub(crate) fn before(answer: X, then: Then) -> Made<X>
         ensures { result ≡ made answer Nobody then }
