@@ -88,11 +88,15 @@ def features():
     return sorted(found), missing if has_cargo else ["cargo", *missing]
 
 
-def build_with_cargo(found):
-    """Builds the peers with cargo, only from Debian's packages."""
+def cargo_build(folder, *words):
+    """Builds the crate in a folder with cargo, only from Debian's packages."""
     config = ['source.crates-io.replace-with="debian"', f'source.debian.directory="{REGISTRY}"']
-    words = [word for line in config for word in ("--config", line)]
-    call(peers_work, "cargo", "build", "--release", "--offline", "--features", ",".join(found), *words)
+    call(folder, "cargo", "build", "--offline", *words, *(word for line in config for word in ("--config", line)))
+
+
+def build_with_cargo(found):
+    """Builds the peers with cargo."""
+    cargo_build(peers_work, "--release", "--features", ",".join(found))
     return peers_work / "target" / "release" / "peers"
 
 

@@ -1,4 +1,5 @@
 """The programs as they were built last."""
+import fcntl
 import pathlib
 import subprocess
 import sys
@@ -20,18 +21,26 @@ def sources(name):
     return [file for file in files if "tests" not in file.parts and file.stem != "tests"]
 
 
+def run(crate):
+    """Proves and builds a program, and runs it as the gate does."""
+    given, args = crate / "stdin", crate / "args"
+    script = given.read_bytes() if given.exists() else b""
+    words = args.read_text().splitlines() if args.exists() else []
+    said = subprocess.run(["rt", "run", "--", *words], cwd=crate, input=script, capture_output=True)
+    if said.returncode != 0:
+        sys.exit((said.stdout + said.stderr).decode(errors="replace"))
+
+
 def programs(name):
     """The programs that `rt ci` built last, by each of its two compilers; otherwise the one that `rt run` proves and builds."""
     crate = top / "crates" / name
     built = [crate / "out" / name, crate / "out" / f"{name}.by-rattle"]
     newest = max(file.stat().st_mtime for file in sources(name))
-    fresh = [file for file in built if file.exists() and file.stat().st_mtime >= newest]
-    if not fresh:
-        given, args = crate / "stdin", crate / "args"
-        script = given.read_bytes() if given.exists() else b""
-        words = args.read_text().splitlines() if args.exists() else []
-        said = subprocess.run(["rt", "run", "--", *words], cwd=crate, input=script, capture_output=True)
-        if said.returncode != 0:
-            sys.exit((said.stdout + said.stderr).decode(errors="replace"))
-        fresh = built[:1]
+    with open(crate / "src" / "main.rt") as lock:
+        # One process builds the program, and the others wait for it.
+        fcntl.flock(lock, fcntl.LOCK_EX)
+        fresh = [file for file in built if file.exists() and file.stat().st_mtime >= newest]
+        if not fresh:
+            run(crate)
+            fresh = built[:1]
     return fresh

@@ -1,5 +1,5 @@
 //! Tests of the checker of recorded histories: records with verdicts that are worked out by hand from
-//! kotlinx.coroutines' documentation. `.ci/random_records` compares the checker with a plain search.
+//! kotlinx.coroutines' documentation. `tests/programs/test_random_records.py` compares the checker with a plain search.
 mod records;
 mod shared;
 mod shared_records;

@@ -1,19 +1,8 @@
-#!/usr/bin/env python3
-"""Runs the program on hostile scripts, and with hostile inputs and outputs: .ci/hostile
-
-Each case has the output and the status that are wanted, both from docs/SCRIPTS.md. The program is the one that `rt ci` or
-`rt run` built last, by each of the two compilers; if it is older than the code, `rt run` proves and builds it first."""
-import concurrent.futures
+"""Hostile scripts: what each one is, its bytes, and the outcome that is wanted, from docs/SCRIPTS.md."""
 import itertools
 import json
-import os
-import pathlib
-import subprocess
-import sys
-import tempfile
 
-sys.dont_write_bytecode = True
-from built import programs
+from running import ended
 
 MOST = 1_048_576
 SHARED = {"kind": "shared", "replay": 2, "extra": 0, "overflow": "suspend"}
@@ -25,30 +14,26 @@ SCRIPT = (
     b'{"do":"try_emit","value":1},{"do":"try_emit","value":2},{"do":"try_emit","value":3},{"do":"cache"},'
     b'{"do":"subscribe","name":"a"},{"do":"next","name":"a"},{"do":"next","name":"a"},{"do":"next","name":"a"}]}'
 )
-LINES = b"true\ntrue\ntrue\n[2, 3]\nsubscribed\nvalue 2\nvalue 3\nempty\n"
+WHOLE = ended(0, "true", "true", "true", "[2, 3]", "subscribed", "value 2", "value 3", "empty")
 SEVERAL = (
     b'{"version":2,"flows":{"p":{"kind":"shared","replay":1,"extra":0,"overflow":"drop_oldest"},'
     b'"q":{"kind":"state","initial":0},"r":{"kind":"shared","replay":0,"extra":0,"overflow":"drop_latest"}},"steps":['
     b'{"do":"subscribe","flow":"p","name":"a","first":[8]},{"do":"emit","flow":"p","name":"e","value":1},'
     b'{"do":"next","flow":"p","name":"a"},{"do":"next","flow":"p","name":"a"},{"do":"value","flow":"q"},{"do":"count","flow":"r"}]}'
 )
-SEVERAL_LINES = b"r refused 3 NeedsBuffer\nsubscribed\ndone\nvalue 8\nvalue 1\n0\nno flow\n"
-PLAYED = ((SCRIPT, LINES), (SEVERAL, SEVERAL_LINES))
-NOT_JSON = 2, b"script refused 3 NotJson\n"
-BAD_VERSION = 2, b"script refused 4 BadVersion\n"
-READ_FAILED = 3, b"read failed\n"
-WRITE_FAILED = 3, b""
-OUT_OF_MEMORY = 4, b"out of memory\n"
-USAGE = 2, b"usage: flow_play [crowd E S N | count T N]\n"
+SEVERAL_WHOLE = ended(0, "r refused 3 NeedsBuffer", "subscribed", "done", "value 8", "value 1", "0", "no flow")
+PLAYED = {"one_flow": (SCRIPT, WHOLE), "several_flows": (SEVERAL, SEVERAL_WHOLE)}
+NOT_JSON = ended(2, "script refused 3 NotJson")
+BAD_VERSION = ended(2, "script refused 4 BadVersion")
 
 
 def refused(fault, step):
     number = {"BadShape": 5, "UnknownName": 6, "DuplicateName": 7, "TooLarge": 8}[fault]
-    return 2, f"script refused {number} {fault} at step {step}\n".encode()
+    return ended(2, f"script refused {number} {fault} at step {step}")
 
 
 def played(*lines):
-    return 0, "".join(f"{line}\n" for line in lines).encode()
+    return ended(0, *lines)
 
 
 def script(*steps, flow=SHARED, version=1):
@@ -80,15 +65,17 @@ def zipped(with_chain):
     return {"op": "zip", "with": with_chain, "by": "left"}
 
 
-# Scripts: what each one is, its bytes, and the status and output that are wanted.
-def texts_that_are_no_json():
-    for text, lines in PLAYED:
-        yield "a whole script", text, (0, lines)
-        for length in range(len(text)):
-            yield f"the first {length} bytes", text[:length], NOT_JSON
-        for at in range(len(text)):
-            yield f"byte {at} is 0", text[:at] + b"\0" + text[at + 1 :], NOT_JSON
-            yield f"byte {at} is 255", text[:at] + b"\xff" + text[at + 1 :], NOT_JSON
+def damaged(text):
+    """The ways to damage a text, and the damaged texts of each, by what they are. None of them is JSON."""
+    places = range(len(text))
+    return {
+        "cut": {f"the first {length} bytes": text[:length] for length in places},
+        "zero": {f"byte {at} is 0": text[:at] + b"\0" + text[at + 1 :] for at in places},
+        "no_utf8": {f"byte {at} is 255": text[:at] + b"\xff" + text[at + 1 :] for at in places},
+    }
+
+
+def texts():
     yield "one byte 255", b"\xff", NOT_JSON
     yield "a text and a half", SCRIPT + b"{", NOT_JSON
     yield "a name cut inside a letter", SCRIPT.replace(b'"a"', b'"\xc3"'), NOT_JSON
@@ -99,8 +86,8 @@ def texts_that_are_no_json():
 
 
 def sizes():
-    for size, (text, lines) in itertools.product((MOST - 1, MOST), PLAYED):
-        yield f"{size} bytes", text.ljust(size), (0, lines)
+    for (text, wanted), size in itertools.product(PLAYED.values(), (None, MOST - 1, MOST)):
+        yield f"{size or len(text)} bytes", text.ljust(size or 0), wanted
     for size in (MOST + 1, MOST + 2, 2 * MOST):
         yield f"{size} bytes", SCRIPT.ljust(size), refused("TooLarge", 0)
         yield f"{size} brackets", b"[" * size, refused("TooLarge", 0)
@@ -174,7 +161,7 @@ def depths():
 def limits_of_several_flows():
     for count in (63, 64):
         yield f"{count} flows", several({**COUNT_P, "flow": "f0"}, **states(count)), played(0)
-        yield f"{count} flows, one of them twice", twice(several(**states(count))), (0, b"")
+        yield f"{count} flows, one of them twice", twice(several(**states(count))), played()
         last = several({"do": "value", "flow": "f5"}, **states(count), g5={"kind": "state", "initial": 9})
         yield f"{count} flows, one of them twice, once by an escape", last.replace(b'"g5"', b'"\\u00665"'), played(9)
     for count in (65, 66, 10_000):
@@ -238,7 +225,7 @@ def orders():
     yield "a version before the flow", script(shape, flow=None, version=3), BAD_VERSION
     yield "the flow before the steps", script(shape, flow={"kind": "none", "at": 1}), refused("BadShape", 0)
     yield "no object", b"[]", refused("BadShape", 0)
-    yield "the last of two keys", SCRIPT.replace(b'"version":1', b'"version":2,"version":1'), (0, LINES)
+    yield "the last of two keys", SCRIPT.replace(b'"version":1', b'"version":2,"version":1'), WHOLE
 
 
 def orders_of_several_flows():
@@ -269,150 +256,10 @@ def orders_of_several_flows():
     yield "the form of a later name before a limit", several(a=over, B=STATE), refused("BadShape", 0)
     yield "a version before the flows", SEVERAL.replace(b'"version":2,"flows":{"p":{', b'"version":3,"flows":{"P":{'), BAD_VERSION
     yield "the flows before the steps", several({"do": "fly"}, p={"kind": "none"}), refused("BadShape", 0)
-    yield "the last of two flows", SEVERAL.replace(b'"q":{', b'"q":{"kind":"none"},"q":{'), (0, SEVERAL_LINES)
+    yield "the last of two flows", SEVERAL.replace(b'"q":{', b'"q":{"kind":"none"},"q":{'), SEVERAL_WHOLE
 
 
-SCRIPTS = (
-    texts_that_are_no_json,
-    sizes,
-    numbers,
-    limits,
-    depths,
-    limits_of_several_flows,
-    names,
-    orders,
-    orders_of_several_flows,
-)
-
-
-def run(program, text, words=()):
-    ran = subprocess.run([*program, *words], input=text, stdout=subprocess.PIPE, timeout=60)
-    return ran.returncode, ran.stdout
-
-
-def scripts(program):
-    cases = [case for each in SCRIPTS for case in each()]
-    with concurrent.futures.ThreadPoolExecutor() as pool:
-        played = pool.map(lambda case: run(program, case[1]), cases)
-        for (what, _, wanted), came in zip(cases, played):
-            yield what, came, wanted
-
-
-def run_between(program, source, sink=subprocess.PIPE, words=()):
-    """Runs the program from one file to another one; the first may be a folder. Returns the status and what was printed."""
-    input = os.open(source, os.O_RDONLY)
-    ran = subprocess.run([*program, *words], stdin=input, stdout=sink, timeout=60)
-    os.close(input)
-    return ran.returncode, ran.stdout or b""
-
-
-def in_single_bytes(program, text):
-    """Runs the program on a script from a pipe that gives one byte to each read."""
-    reading, writing = os.pipe2(os.O_DIRECT | os.O_CLOEXEC)
-    with subprocess.Popen(program, stdin=reading, stdout=subprocess.PIPE) as running:
-        os.close(reading)
-        try:
-            for at in range(len(text)):
-                os.write(writing, text[at : at + 1])
-        except BrokenPipeError:
-            pass
-        os.close(writing)
-        return running.wait(60), running.stdout.read()
-
-
-def to_a_reader_that_is_gone(program, source):
-    reading, writing = os.pipe()
-    os.close(reading)
-    ran = run_between(program, source, writing)
-    os.close(writing)
-    return ran
-
-
-def taken_by(program, words=()):
-    """The number of bytes that the program reads of a file that has far more."""
-    with tempfile.TemporaryFile() as input:
-        input.truncate(1 << 40)
-        subprocess.run([*program, *words], stdin=input, stdout=subprocess.DEVNULL, timeout=60)
-        return os.lseek(input.fileno(), 0, os.SEEK_CUR)
-
-
-def streams(program):
-    with tempfile.TemporaryDirectory() as folder:
-        good, bad = pathlib.Path(folder, "good"), pathlib.Path(folder, "bad")
-        good.write_bytes(SCRIPT)
-        bad.write_bytes(b"{")
-        yield "input without end", run_between(program, "/dev/zero"), refused("TooLarge", 0)
-        yield "bytes taken of input without end", taken_by(program), MOST + 1
-        yield "bytes taken where the arguments are wrong", taken_by(program, ["play"]), 0
-        yield "a folder as input", run_between(program, folder), READ_FAILED
-        yield "a script in single bytes", in_single_bytes(program, SCRIPT), (0, LINES)
-        yield "too many single bytes", in_single_bytes(program, b" " * (MOST + 1)), refused("TooLarge", 0)
-        with open("/dev/full", "wb", buffering=0) as full:
-            for source, words in ((good, ()), (bad, ()), (folder, ()), (good, ["play"]), (good, ["crowd", "1", "1", "1"])):
-                yield f"a full device, {source} {words}", run_between(program, source, full, words), WRITE_FAILED
-        for source in (good, bad, folder):
-            yield f"a reader that is gone, {source}", to_a_reader_that_is_gone(program, source), WRITE_FAILED
-
-
-def arguments(program):
-    crowd = ["crowd", "1", "1", "1"]
-    lines = played("subscriber 1 got 1 in order", "emitted 1")
-    yield "a crowd beside a script that is refused", run(program, b"{", crowd), lines
-    for at, wrong in itertools.product((1, 2, 3), ("", "-1", "+1", " 1", "1e0", "0x1", "000001", "100000", "\u0661")):
-        words = [*crowd[:at], wrong, *crowd[at + 1 :]]
-        yield f"the arguments {words}", run(program, SCRIPT, words), USAGE
-    for words in ([""], ["play"], ["Crowd", *crowd[1:]], crowd[:3], [*crowd, "1"], ["crowd", "0", "1", "1"], ["crowd", "9", "1", "1"]):
-        yield f"the arguments {words}", run(program, SCRIPT, words), USAGE
-    for threads, times in ((1, 0), (4, 100), (8, 10_000)):
-        counted = run(program, SCRIPT, ["count", str(threads), str(times)])
-        yield f"{threads} threads that count to {times}", counted, played(f"value {threads * times}")
-    for words in (["count", "9", "1"], ["count", "0", "1"], ["count", "1", "10001"], ["count", "1"], ["count", "1", "1", "1"], ["Count", "1", "1"]):
-        yield f"the arguments {words}", run(program, SCRIPT, words), USAGE
-
-
-def within(memory, program):
-    """The command that runs the program with at most this many bytes of memory for its data."""
-    return ["sh", "-c", f'ulimit -d {memory // 1024} && exec "$0"', *program]
-
-
-def memory(program):
-    """A script that is played must be played whole or end out of memory; a refused one must need little more than its bytes."""
-    text, lines = script(*[COUNT] * 10_000), played(*[0] * 10_000)
-    enough = False
-    for size in range(MOST // 2, 20 * MOST, MOST // 2):
-        came = run(within(size, program), text)
-        enough = enough or came == lines
-        yield f"{size} bytes of memory", came, lines if enough else OUT_OF_MEMORY
-    yield "enough memory", enough, True
-    for what, text, wanted in (
-        ("1000000 brackets", b"[" * 1_000_000, NOT_JSON),
-        ("a name of a megabyte", script({"do": "subscribe", "name": "a" * 1_000_000}), refused("BadShape", 1)),
-        ("a key of a megabyte", script({"do": "count", "a" * 1_000_000: 1}), refused("BadShape", 1)),
-        ("a number of a megabyte", b"1" * 1_000_000, NOT_JSON),
-        ("spaces alone", b" " * MOST, NOT_JSON),
-    ):
-        yield f"{what} in little memory", run(within(4 * MOST, program), text), wanted
-        yield f"{what} in little time", seconds(program, text) < 0.25, True
-
-
-def seconds(program, text):
-    """The processor time that the program takes for a script, in seconds."""
-    before = os.times()
-    run(program, text)
-    after = os.times()
-    return after.children_user + after.children_system - before.children_user - before.children_system
-
-
-def main():
-    tried = wrong = 0
-    for program in programs("flow_play"):
-        for what, came, wanted in itertools.chain(*(each([program]) for each in (scripts, streams, arguments, memory))):
-            tried += 1
-            if came != wanted:
-                wrong += 1
-                print(f"{program.name}: {what[:200]}: {str(came)[:200]}, and not {str(wanted)[:200]}")
-    print(f"hostile: {tried} cases, {wrong} of them wrong")
-    return 1 if wrong else 0
-
-
-sys.exit(main())
+def cases():
+    """All scripts, each with what it is and the outcome that is wanted."""
+    kinds = (texts, sizes, numbers, limits, depths, limits_of_several_flows, names, orders, orders_of_several_flows)
+    return [case for kind in kinds for case in kind()]

@@ -1,18 +1,5 @@
-#!/usr/bin/env python3
-"""Judges hostile records, and records with each request for memory refused in turn: .ci/hostile_records
-
-Each case has the status and the first line that are wanted, from docs/RECORDS.md. The programs are those that `rt ci` or `rt run`
-built last, by each of the two compilers."""
-import concurrent.futures
+"""Hostile records: what each one is, its bytes, and the status that is wanted, from docs/RECORDS.md."""
 import json
-import os
-import subprocess
-import sys
-import tempfile
-
-sys.dont_write_bytecode = True
-from built import programs, top
-from refusing import build, refuse_each
 
 MOST = 2**64 - 1
 STATE = {"kind": "state", "initial": 0}
@@ -20,9 +7,6 @@ SHARED = {"kind": "shared", "replay": 1, "extra": 0, "overflow": "suspend"}
 SET = {"by": "t1", "call": "set", "value": 3, "begin": 10, "end": 20, "answer": "done"}
 VALUE = {"by": "t2", "call": "value", "begin": 21, "end": 30, "answer": {"value": 3}}
 LEGAL, ILLEGAL, REFUSED, GAVE_UP, FAILED = range(5)
-# The first line of what is printed.
-WORDS = {LEGAL: b"legal", ILLEGAL: b"illegal", REFUSED: b"refused: ", GAVE_UP: b"gave up", FAILED: b""}
-RECORDS = sorted((top / "examples" / "records").glob("*.json*"))
 
 
 def whole(*calls, flow=STATE):
@@ -38,19 +22,25 @@ def one(flow=STATE, **changes):
     return whole({key: value for key, value in {**SET, **changes}.items() if value is not None}, flow=flow)
 
 
+def damaged():
+    """The ways to damage a record, and for each the texts by what they are, and the status that is wanted of each text."""
+    record, in_lines = whole(SET, VALUE), lines(SET, VALUE)
+    places, ends = range(len(record)), [at for at, byte in enumerate(in_lines) if byte == ord("\n")]
+    return {
+        "cut": {f"the first {length} bytes": (record[:length], REFUSED) for length in places},
+        "zero": {f"byte {at} is 0": (record[:at] + b"\0" + record[at + 1 :], REFUSED) for at in places},
+        "no_utf8": {f"byte {at} is 255": (record[:at] + b"\xff" + record[at + 1 :], REFUSED) for at in places},
+        # A record in lines may end after each line.
+        "cut_lines": {
+            f"the first {length} bytes": (in_lines[:length], LEGAL if {length, length - 1} & set(ends) else REFUSED)
+            for length in range(1, len(in_lines))
+        },
+    }
+
+
 def texts():
-    record = whole(SET, VALUE)
+    record, in_lines = whole(SET, VALUE), lines(SET, VALUE)
     yield "a whole record", record, LEGAL
-    for length in range(len(record)):
-        yield f"the first {length} bytes", record[:length], REFUSED
-    for at in range(len(record)):
-        yield f"byte {at} is 0", record[:at] + b"\0" + record[at + 1 :], REFUSED
-        yield f"byte {at} is 255", record[:at] + b"\xff" + record[at + 1 :], REFUSED
-    in_lines = lines(SET, VALUE)
-    ends = [at + 1 for at, byte in enumerate(in_lines) if byte == ord("\n")]
-    for length in range(1, len(in_lines)):
-        at_end = length in ends or length + 1 in ends
-        yield f"the first {length} bytes of lines", in_lines[:length], LEGAL if at_end else REFUSED
     yield "blank lines", in_lines.replace(b"\n", b"\r\n \t\n\n"), LEGAL
     yield "a record twice", record + record, REFUSED
     yield "a second flow", in_lines + in_lines, REFUSED
@@ -117,59 +107,6 @@ def many():
     yield "a list for no answer", whole({**VALUE, "call": "replay_cache", "answer": [1] * 20_000}), ILLEGAL
 
 
-def judged(program, text, *words):
-    """The status and the first line of what is printed."""
-    ran = subprocess.run([program, *words], input=text, stdout=subprocess.PIPE, timeout=60)
-    return ran.returncode, ran.stdout.partition(b"\n")[0]
-
-
-def as_wanted(came, status):
-    return came[0] == status and (came[1].startswith(WORDS[status]) if status == REFUSED else came[1] == WORDS[status])
-
-
-def streams(program):
-    record = whole(SET, VALUE)
-    with tempfile.TemporaryDirectory() as folder:
-        source = os.open(folder, os.O_RDONLY)
-        yield "a folder", subprocess.run([program], stdin=source, stdout=subprocess.PIPE).returncode, FAILED
-        os.close(source)
-    with open("/dev/full", "wb", buffering=0) as full:
-        for words in ([], ["--order"], ["--draw"], ["--draw", "--text"]):
-            yield f"a full device {words}", subprocess.run([program, *words], input=record, stdout=full).returncode, FAILED
-    for words in (["--Order"], ["--draw", "--order"], ["--text"], ["--draw", "--draw"], [""], ["--draw", "--text", "--text"]):
-        ran = subprocess.run([program, *words], input=record, capture_output=True)
-        yield f"the arguments {words}", (ran.returncode, ran.stdout), (REFUSED, b"usage: flow_judge [--order | --draw [--text]]\n")
-
-
-def refusals(shim, program):
-    """Has each record judged with the first request for memory refused, then with the second one, and so on."""
-    for path in RECORDS:
-        text = path.read_bytes()
-        for words in ([], ["--order"], ["--draw"], ["--draw", "--text"]):
-            _, _, said = refuse_each(shim, program, words, text, lambda _: True, is_told)
-            yield f"{path.name} {words}", said, None
-
-
-def is_told(came, wanted):
-    """Whether a run with a refused request says so, and nothing else."""
-    return came == (FAILED, b"out of memory\n")
-
-
-def main():
-    cases = [case for each in (texts, numbers, keys, moments, many) for case in each()]
-    wrong, tried = [], 0
-    with tempfile.TemporaryDirectory() as folder, concurrent.futures.ThreadPoolExecutor() as pool:
-        shim = build(folder)
-        for program in programs("flow_judge"):
-            found = pool.map(lambda case: judged(program, case[1]), cases)
-            told = [(what, came) for (what, _, status), came in zip(cases, found) if not as_wanted(came, status)]
-            others = [*streams(program), *refusals(shim, program)]
-            told += [(what, came) for what, came, wanted in others if came != wanted]
-            tried += len(cases) + len(others)
-            wrong += [f"{program.name}: {what[:100]}: {str(came)[:200]}" for what, came in told]
-    print("\n".join(wrong[:20]))
-    print(f"hostile records: {tried} cases, {len(wrong)} of them wrong")
-    return 1 if wrong else 0
-
-
-sys.exit(main())
+def cases():
+    """All records, each with what it is and the status that is wanted."""
+    return [case for kind in (texts, numbers, keys, moments, many) for case in kind()]

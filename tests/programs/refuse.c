@@ -2,7 +2,7 @@
  * then with its second one, and so on, until a run makes no further request. A request is an allocation or the growth of a block, which
  * returns NULL if it is refused, or the creation of a thread, which returns EAGAIN. Each run is a copy of the process, which reads its
  * standard input from the beginning. The results are written to standard output: for each run a line with its status, whether its
- * request was made and refused (0 or 1) and the number of bytes that it printed, and then these bytes. .ci/refusing.py loads this before
+ * request was made and refused (0 or 1) and the number of bytes that it printed, and then these bytes. refusing.py loads this before
  * the C library (LD_PRELOAD). */
 #define _GNU_SOURCE
 #include <dlfcn.h>

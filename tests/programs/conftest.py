@@ -1,0 +1,56 @@
+"""What the tests of the built programs share: the programs, the shim that refuses memory, and the options of .ci/programs."""
+import pathlib
+import sys
+
+import hypothesis
+import pytest
+
+sys.path.insert(0, str(pathlib.Path(__file__).resolve().parents[2] / ".ci"))
+from refusing import build_shim
+from running import program
+
+# The ends of the names of the programs that `rt ci` builds by each of its two compilers.
+COMPILERS = {"by_llvm": "", "by_rattle": ".by-rattle"}
+# The gate tries the same examples each time; `--hypothesis-profile=search` tries ten times as many, and others each time. Tests take
+# a multiple of `max_examples`.
+STEADY = {"deadline": None, "database": None, "print_blob": False, "report_multiple_bugs": False}
+UNEXPLAINED = tuple(phase for phase in hypothesis.Phase if phase is not hypothesis.Phase.explain)
+hypothesis.settings.register_profile("gate", max_examples=50, derandomize=True, phases=UNEXPLAINED, **STEADY)
+hypothesis.settings.register_profile("search", max_examples=500, phases=UNEXPLAINED, **STEADY)
+hypothesis.settings.load_profile("gate")
+
+
+def pytest_addoption(parser):
+    parser.addoption("--write", action="store_true", help="draw the picture of docs/RECORDS.md again")
+    parser.addoption("--page", help="the folder in which page/build put the page; without it page/out")
+
+
+def pytest_collection_modifyitems(items):
+    """Spreads the tests that take longest over the first half, since a process takes many tests at a time that follow each other."""
+    random = [item for item in items if item.name.startswith("test_random")]
+    items[:] = [item for item in items if item not in random]
+    for number, item in enumerate(random):
+        items.insert(number * (len(items) // 2) // len(random), item)
+
+
+def program_fixture(name):
+    """A fixture that gives a program by each of the compilers in turn."""
+
+    @pytest.fixture(params=COMPILERS, name=name)
+    def by_each_compiler(request):
+        return program(name + COMPILERS[request.param])
+
+    return by_each_compiler
+
+
+flow_play = program_fixture("flow_play")
+flow_draw = program_fixture("flow_draw")
+flow_judge = program_fixture("flow_judge")
+flow_stress = program_fixture("flow_stress")
+use_flows = program_fixture("use_flows")
+
+
+@pytest.fixture(scope="session")
+def shim(tmp_path_factory):
+    """The library that refuses requests for memory."""
+    return build_shim(tmp_path_factory.mktemp("shim"))
