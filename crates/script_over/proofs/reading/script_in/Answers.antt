@@ -1,0 +1,8 @@
+use Rattle.script_over.proofs.OverLemmas.{playable_read, refuses_read}
+use Rattle.script_over.proofs.reading.script_in.Goals as goal
+
+pub returns-in-Ok-clause-played : goal.returns-in-Ok-clause-played
+returns-in-Ok-clause-played c = playable_read c.args.bytes.now _ c.in-Ok.ensures
+
+pub returns-in-Err-clause-refused : goal.returns-in-Err-clause-refused
+returns-in-Err-clause-refused c = refuses_read c.args.bytes.now _ c.in-Err.ensures
