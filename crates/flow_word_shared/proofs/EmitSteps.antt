@@ -1,0 +1,258 @@
+-- The steps of emitters keep the rule of the table.
+use Rattle.std.proofs.Common.{◌≡◌, ◌≢◌, ◌⊎◌, ℕ, Bool, eqb, eq-eqb, ne_eqb, zero, suc, ◌+◌, ◌*◌, ◌/◌, ◌%◌, ◌<◌, ◌≤◌, List, [], ◌∷◌, ◌++◌, length, get_or, set, Option, Some, None, refl, sym, ap, ◌∙◌, subst, inl, inr, ⊎_elim, arith}
+use Rattle.std.specs.List.{slice_get}
+use Rattle.std.proofs.lemmas.Bool.{cases_lt}
+use Rattle.std.proofs.lemmas.List.{get_or-set_same, get_or-set_other, length-set, map-append, length_push}
+use mathlib.Core.Logic.{dite}
+use mathlib.Core.Option.{none}
+use native.Mathlib.Decide.{ℕ_discrete}
+use prog.Atomic.{either}
+use Rattle.atomic_table.specs.Table.{State, Me, step, Act, keeps, carried_after, Valid, stepped, Allows}
+use Rattle.flow_law.specs.declared.config.Config.{Config}
+use Rattle.flow_law.specs.declared.fault.FlowFault.TheVariants.{Exhausted}
+use Rattle.flow_law.specs.declared.call.SharedCall.{SharedCall}
+use Rattle.flow_law.specs.declared.call.SharedReply.{SharedReply}
+use Rattle.flow_law.specs.declared.call.SharedReply.TheVariants as reply
+use Rattle.flow_law.specs.declared.states.Numbered.{Numbered}
+use Rattle.flow_law.specs.declared.states.SharedFlowState.{SharedFlowState}
+use Rattle.flow_law.specs.EmitRule.{numbered}
+use Rattle.flow_law.specs.SharedFlow.{values}
+use Rattle.flow_law.specs.SharedHistory.{History, answer_to, Replies, after}
+use Rattle.flow_law.proofs.Boxes.{length_values}
+use Rattle.flow_word_shared.specs.declared.view.RingKnown.{RingKnown}
+use Rattle.flow_word_shared.specs.declared.view.Hold.{Hold}
+use Rattle.flow_word_shared.specs.declared.view.RingStart.{RingStart}
+use Rattle.flow_word_shared.specs.Rule.{head, capacity_of, cell_at, IsStart, bit, HasValue, WordsFit, IsIfKnown, HoldFits, RingHolds}
+use Rattle.flow_word_shared.specs.Steps.{emission_of, emission_done, StepCalls, takes, counts_issued, fills, refuses, releases, publishes}
+use Rattle.flow_word_shared.specs.View.{with_hold, holding, only}
+use Rattle.flow_word_shared.proofs.Oldest.{Usual, usual_after, Added, emission_is, emission_full, emission_replies, emission_after, emission_may}
+use Rattle.flow_word_shared.proofs.Keeps.{same_some, other_cell, cell_within, slice_get_left, slice_get_end, no_other, now, more_by, turned_by, turned, started, fits_at, hold_at, event_step, quiet_by, quiet_step, loaded, word0_set}
+
+-- an even word 0 says that no caller holds the lock bit
+free_if_even : (owner : Option (List ℕ)) (n found old : ℕ) → found ≡ n * 2 + bit owner → found ≡ old → old % 2 ≡ 0 → owner ≡ None
+free_if_even None n found old is hit even = refl
+free_if_even (Some name) n found old is hit even = absurd (omega arith)
+
+half_free : (owner : Option (List ℕ)) (n found : ℕ) → found ≡ n * 2 + bit owner → owner ≡ None → found ≡ n * 2
+half_free owner n found is free = is ∙ ap (λ o. n * 2 + bit o) free ∙ (let z : n * 2 + 0 ≡ n * 2 = omega arith in z)
+
+module _ (T : Type 0) (packs : ℕ → Type 0) (value_of : ℕ → T) (start : RingStart) where
+  abbrev V : Type 0
+  V = List (RingKnown T)
+
+  abbrev St : Type 0
+  St = State Unit V
+
+  abbrev Rule : St → Type 0
+  Rule = RingHolds packs value_of start
+
+  abbrev current : History T → SharedFlowState T
+  current h = now T packs value_of start h
+
+  -- an exchange of word 0, which takes the lock bit
+  pub taking : (slots id : ℕ) (me : Me Unit V) (old new : ℕ) → me.0 ≡ only me.0 ∷ [] → (only me.0).hold ≡ None → old % 2 ≡ 0 → new ≡ old + 1
+      → Allows Rule slots id me 0 (λ n. either (eqb n old) new n) (takes (step slots 0 old new none) me)
+  taking slots id me old new is idle even more s r n at small =
+      let found : ℕ = get_or s.words 0 0 in let x : RingKnown T = only me.0 in let st = current r.history in let name : List ℕ = x.knows.name in
+      let G : ℕ → Type 0 = λ m. (w : V) × (a : Act Unit) × Valid s.homes me.1 a × Rule (stepped s 0 m id me.1 w a) × takes (step slots 0 old new none) me found (w, carried_after me.1 a) in
+      let flat : G (either (eqb found old) new found) = dite (ℕ_discrete found old)
+      (λ hit. let free : r.owner ≡ None = free_if_even r.owner (length st.emitted) found old r.words.word0 hit even in
+      let half : found ≡ length st.emitted * 2 = half_free r.owner (length st.emitted) found r.words.word0 free in
+      let rule : Rule (stepped s 0 new id me.1 (turned T packs value_of start x x.knows.seen (Some (holding (old / 2))) x.reads ∷ []) keeps) =
+      quiet_step T packs value_of start s r id me.0 is at x.knows.seen (Some name) r.ahead (set s.words 0 new) (Some (holding (old / 2))) x.reads (fits_at T packs value_of start s r id me.0 is at)
+      (word0_set T packs value_of start st r.owner (Some name) r.ahead s.words new r.words (omega arith) (λ e. absurd (cc)))
+      (refl, omega arith, sym (r.words.rested free), tt, tt, tt)
+      (λ y ne f. no_other start st st r.owner (Some name) r.ahead r.ahead s.words (set s.words 0 new) name y.knows.name y.hold ne (inl free) f) in
+      subst G (sym (ap (λ b. either b new found) (eq-eqb found old hit)))
+      (turned T packs value_of start x x.knows.seen (Some (holding (old / 2))) x.reads ∷ [], keeps, tt, rule, ((λ _. refl), λ miss. absurd (miss hit))))
+      (λ miss. subst G (sym (ap (λ b. either b new found) (ne_eqb found old miss))) (
+        turned_by T packs value_of start (x.knows.lost + 1) x x.knows.seen None x.reads ∷ [],
+        keeps,
+        tt,
+        loaded T packs value_of start s 0 _ (quiet_by T packs value_of start s r id me.0 is at (x.knows.lost + 1) x.knows.seen r.owner r.ahead s.words None x.reads (fits_at T packs value_of start s r id me.0 is at) r.words tt (λ y ne g. g)),
+        ((λ hit. absurd (miss hit)), λ _. refl),
+      )) in
+      (flat.0, flat.1, flat.2, flat.3, flat.4)
+
+  -- a load of word 1 by the holder
+  pub counting : (slots id : ℕ) (me : Me Unit V) (h : Hold) → me.0 ≡ only me.0 ∷ [] → (only me.0).hold ≡ Some h → h.ahead ≡ 0
+      → Allows Rule slots id me 1 (λ n. n) (counts_issued (step slots 1 0 0 none) me)
+  counting slots id me h is has none_ahead s r n at small =
+      let found : ℕ = get_or s.words 1 0 in let x : RingKnown T = only me.0 in let st = current r.history in let f = hold_at T packs value_of start s r id me.0 h is at has in
+      let made = r.words.made in let length_is = f.1 in let ahead_is = f.2 in let few = r.words.few in
+      let issued : found + h.length ≡ st.issued = omega arith in
+      let limit : x.start.config.limit ≡ start.config.limit = ap (λ (z : RingStart). z.config.limit) (started T packs value_of start s r id me.0 is at) in
+      let h' : Hold = record h { issued = Some (found + h.length) } in (
+        turned T packs value_of start x x.knows.seen (Some h') x.reads ∷ [],
+        keeps,
+        tt,
+        loaded T packs value_of start s 1 _ (quiet_step T packs value_of start s r id me.0 is at x.knows.seen r.owner r.ahead s.words (Some h') x.reads (fits_at T packs value_of start s r id me.0 is at) r.words
+            (f.0, f.1, f.2, issued, f.4, f.5) (λ y ne g. g)),
+        λ h2 has2 zero2. let same : h ≡ h2 = same_some h h2 (sym has ∙ has2) in let len : h.length ≡ h2.length = ap (λ (z : Hold). z.length) same in (
+          ap (λ (z : Hold). (with_hold (Some (record z { issued = Some (found + z.length) })) x ∷ [], me.1)) same,
+          omega arith,
+        ),
+      )
+
+  -- the free cell changes
+  cell_set : (s : SharedFlowState T) (owner : Option (List ℕ)) (ahead : ℕ) (words : List ℕ) (i w : ℕ) → IsStart start → i ≡ cell_at start (length s.emitted)
+      → WordsFit packs value_of start s owner ahead words → WordsFit packs value_of start s owner ahead (set words i w)
+  cell_set s owner ahead words i w ok is f = record {
+    count = length-set words i w ∙ f.count;
+    word0 = get_or-set_other words i 0 w 0 (λ e. absurd (omega arith)) ∙ f.word0;
+    few = f.few;
+    made = subst (λ n. n + length s.emitted ≡ s.issued + ahead) (sym (get_or-set_other words i 1 w 0 (λ e. absurd (omega arith)))) f.made;
+    live = get_or-set_other words i 2 w 0 (λ e. absurd (omega arith)) ∙ f.live;
+    mark = get_or-set_other words i 3 w 0 (λ e. absurd (omega arith)) ∙ f.mark;
+    cells = λ k a b. subst (HasValue packs value_of (values s) k) (sym (get_or-set_other words i (cell_at start k) w 0 (λ e. other_cell start ok k (length s.emitted) a b (e ∙ is)))) (f.cells k a b);
+    rested = f.rested;
+  }
+
+  -- what the holder then knows of the cell
+  cell_holds : (words : List ℕ) (i w n : ℕ) → IsStart start → length words ≡ head + start.room → i ≡ cell_at start n → w ≡ get_or (set words i w) (cell_at start n) 0
+  cell_holds words i w n ok count is = let l = cell_within start ok n in
+      sym (ap (λ j. get_or (set words i w) j 0) (sym is) ∙ get_or-set_same words i w 0 (omega arith))
+
+  -- a store into the free cell by the holder
+  pub filling : (slots id : ℕ) (me : Me Unit V) (h : Hold) (i w : ℕ) → me.0 ≡ only me.0 ∷ [] → (only me.0).hold ≡ Some h → i ≡ cell_at start h.length
+      → Allows Rule slots id me i (λ _. w) (λ _. fills (step slots i w 0 none) me w)
+  filling slots id me h i w is has place s r n at small =
+      let x : RingKnown T = only me.0 in let st = current r.history in let f = hold_at T packs value_of start s r id me.0 h is at has in let name : List ℕ = x.knows.name in
+      let h' : Hold = record h { cell = Some w } in (
+        turned T packs value_of start x x.knows.seen (Some h') x.reads ∷ [],
+        keeps,
+        tt,
+        quiet_step T packs value_of start s r id me.0 is at x.knows.seen r.owner r.ahead (set s.words i w) (Some h') x.reads (fits_at T packs value_of start s r id me.0 is at)
+            (cell_set st r.owner r.ahead s.words i w r.starts (place ∙ ap (cell_at start) f.1) r.words)
+            (f.0, f.1, f.2, f.3, f.4, cell_holds s.words i w h.length r.starts r.words.count place)
+            (λ y ne g. no_other start st st r.owner r.owner r.ahead r.ahead s.words (set s.words i w) name y.knows.name y.hold ne (inr f.0) g),
+        λ h2 has2. ap (λ (z : Hold). (with_hold (Some (record z { cell = Some w })) x ∷ [], me.1)) (same_some h h2 (sym has ∙ has2)),
+      )
+
+  -- the same, if no number is left: a refused emission
+  pub refusing : (slots id : ℕ) (me : Me Unit V) (tries : Bool) (h : Hold) (i w m : ℕ) → me.0 ≡ only me.0 ∷ [] → (only me.0).hold ≡ Some h → i ≡ cell_at start h.length → h.issued ≡ Some m → start.config.limit ≤ m
+      → Allows Rule slots id me i (λ _. w) (λ _. refuses value_of tries (step slots i w 0 none) me w)
+  refusing slots id me tries h i w m is has place counted full s r n at small =
+      let x : RingKnown T = only me.0 in let st = current r.history in let f = hold_at T packs value_of start s r id me.0 h is at has in let name : List ℕ = x.knows.name in
+      let h' : Hold = record h { cell = Some w } in let c : SharedCall T = emission_of tries (value_of w) in let y : SharedReply T = reply.Refused Exhausted in
+      let usual : Usual T start.config r.starts.oldest r.starts.buffer st = usual_after T start.config r.starts.oldest r.starts.buffer r.history in
+      let issued : m ≡ st.issued = subst (λ o. IsIfKnown o st.issued) counted f.3 in let few = r.words.few in
+      let limit : st.config.limit ≡ start.config.limit = ap (λ (g : Config). g.limit) usual.config_is in
+      let replies : Replies st c y = sym (emission_full T start.config r.starts.oldest r.starts.buffer tries st (value_of w) usual (omega arith)) in
+      let done = event_step T packs value_of start s r id me.0 me.1 c y is at r.owner r.ahead (set s.words i w) (Some h') x.reads replies (emission_may T start.config r.starts.oldest r.starts.buffer tries (value_of w) name r.history)
+      (cell_set st r.owner r.ahead s.words i w r.starts (place ∙ ap (cell_at start) f.1) r.words)
+      (f.0, f.1, f.2, f.3, f.4, cell_holds s.words i w h.length r.starts r.words.count place)
+      (λ z ne g. no_other start st st r.owner r.owner r.ahead r.ahead s.words (set s.words i w) name z.knows.name z.hold ne (inr f.0) g) in (
+        turned T packs value_of start x (more_by T packs value_of start x r.history c y) (Some h') x.reads ∷ [],
+        keeps,
+        tt,
+        done.0,
+        λ h2 has2. (done.1, ap (λ (z : Hold). Some (record z { cell = Some w })) (same_some h h2 (sym has ∙ has2))),
+      )
+
+  -- a store of word 0 by the holder, without an event
+  pub releasing : (slots id : ℕ) (me : Me Unit V) (h : Hold) (new : ℕ) → me.0 ≡ only me.0 ∷ [] → (only me.0).hold ≡ Some h → h.ahead ≡ 0 → new ≡ h.length * 2
+      → Allows Rule slots id me 0 (λ _. new) (λ _. releases (step slots 0 new 0 none) me new)
+  releasing slots id me h new is has none_ahead word s r n at small =
+      let x : RingKnown T = only me.0 in let st = current r.history in let f = hold_at T packs value_of start s r id me.0 h is at has in let name : List ℕ = x.knows.name in
+      let length_is = f.1 in let ahead_is = f.2 in (
+        turned T packs value_of start x x.knows.seen None x.reads ∷ [],
+        keeps,
+        tt,
+        quiet_step T packs value_of start s r id me.0 is at x.knows.seen None r.ahead (set s.words 0 new) None x.reads (fits_at T packs value_of start s r id me.0 is at)
+            (word0_set T packs value_of start st r.owner None r.ahead s.words new r.words (omega arith) (λ _. omega arith)) tt
+            (λ y ne g. no_other start st st r.owner None r.ahead r.ahead s.words (set s.words 0 new) name y.knows.name y.hold ne (inr f.0) g),
+        refl,
+      )
+
+  -- a store of word 0 by the holder, which emits the value in the free cell
+  pub publishing : (slots id : ℕ) (me : Me Unit V) (tries : Bool) (h : Hold) (w m new : ℕ) → me.0 ≡ only me.0 ∷ [] → (only me.0).hold ≡ Some h → h.ahead ≡ 0 → h.cell ≡ Some w → h.issued ≡ Some m → m < start.config.limit
+      → packs w → new ≡ h.length * 2 + 2 → Allows Rule slots id me 0 (λ _. new) (λ _. publishes value_of tries (step slots 0 new 0 none) me new)
+  publishing slots id me tries h w m new is has none_ahead stored counted room packed word s r n at small = (
+    turned T packs value_of start x (more_by T packs value_of start x r.history c y) None x.reads ∷ [],
+    keeps,
+    tt,
+    done.0,
+    λ h2 w2 has2 stored2. let same : h ≡ h2 = same_some h h2 (sym has ∙ has2) in
+        let value : w ≡ w2 = same_some w w2 (sym stored ∙ ap (λ (z : Hold). z.cell) same ∙ stored2) in
+        (subst (λ k. StepCalls me (emission_of tries (value_of k)) y (turned T packs value_of start x (more_by T packs value_of start x r.history c y) None x.reads ∷ [], me.1)) value done.1, refl, refl),
+  )
+    where
+      x : RingKnown T
+      x = only me.0
+
+      name : List ℕ
+      name = x.knows.name
+
+      st : SharedFlowState T
+      st = current r.history
+
+      c : SharedCall T
+      c = emission_of tries (value_of w)
+
+      y : SharedReply T
+      y = emission_done tries
+
+      f : HoldFits start st r.owner r.ahead s.words name (Some h)
+      f = hold_at T packs value_of start s r id me.0 h is at has
+
+      usual : Usual T start.config r.starts.oldest r.starts.buffer st
+      usual = usual_after T start.config r.starts.oldest r.starts.buffer r.history
+
+      issued : m ≡ st.issued
+      issued = subst (λ o. IsIfKnown o st.issued) counted f.3
+
+      limit : st.config.limit ≡ start.config.limit
+      limit = ap (λ (g : Config). g.limit) usual.config_is
+
+      ahead : r.ahead ≡ 0
+      ahead = sym f.2 ∙ none_ahead
+
+      does : Added T start.config r.starts.oldest r.starts.buffer tries (value_of w) st (answer_to c st)
+      does = emission_is T start.config r.starts.oldest r.starts.buffer tries st (value_of w) usual (λ e. absurd (omega (arith, e, issued, limit, room)))
+
+      t : SharedFlowState T
+      t = (answer_to c st).after
+
+      replies : Replies st c y
+      replies = emission_replies T start.config r.starts.oldest r.starts.buffer tries st (value_of w) (sym does.reply_is)
+
+      then_is : after st c y ≡ t
+      then_is = emission_after T start.config r.starts.oldest r.starts.buffer tries st (value_of w)
+
+      more : length t.emitted ≡ length st.emitted + 1
+      more = ap length does.emitted ∙ length_push st.emitted (numbered (value_of w) st)
+
+      log : values t ≡ values st ++ value_of w ∷ []
+      log = ap (λ l. Rattle.std.proofs.Common.map (λ (e : Numbered T). e.value) l) does.emitted ∙ map-append (λ (e : Numbered T). e.value) st.emitted (numbered (value_of w) st ∷ [])
+
+      -- the cell of the new value has its pack
+      has_word : w ≡ get_or s.words (cell_at start (length st.emitted)) 0
+      has_word = subst (λ o. IsIfKnown o (get_or s.words (cell_at start h.length) 0)) stored f.5 ∙ ap (λ k. get_or s.words (cell_at start k) 0) f.1
+
+      at_cell : (k : ℕ) → k < length t.emitted → length t.emitted ≤ k + capacity_of start → HasValue packs value_of (values t) k (get_or (set s.words 0 new) (cell_at start k) 0)
+      at_cell k a b = subst (HasValue packs value_of (values t) k) (sym (get_or-set_other s.words 0 (cell_at start k) new 0 (λ e. absurd (omega arith)))) (elim (cases_lt k (length st.emitted)) as (λ _. HasValue packs value_of (values t) k (get_or s.words (cell_at start k) 0)) [
+        | inl old ↦ let v = r.words.cells k old (omega (arith, b, more)) in let count = length_values st in
+            (v.0, ap (λ l. slice_get l k) log ∙ slice_get_left (values st) (value_of w ∷ []) k (omega (arith, old, count)) ∙ v.1)
+        | inr new_one ↦ let last : k ≡ length st.emitted = omega (arith, a, more, new_one) in let count = length_values st in
+            let here : w ≡ get_or s.words (cell_at start k) 0 = has_word ∙ ap (λ j. get_or s.words (cell_at start j) 0) (sym last) in
+            subst (HasValue packs value_of (values t) k) here (packed, ap (λ l. slice_get l k) log ∙ slice_get_end (values st) (value_of w) k (omega (arith, last, count)))
+      ])
+
+      fit : WordsFit packs value_of start t None 0 (set s.words 0 new)
+      fit = let count = r.words.count in let made = r.words.made in let few = r.words.few in let f1 = f.1 in record {
+        count = length-set s.words 0 new ∙ r.words.count;
+        word0 = get_or-set_same s.words 0 new 0 (omega arith) ∙ (let l : new ≡ length t.emitted * 2 + 0 = omega (arith, word, more, f1) in l);
+        few = omega (arith, does.issued, issued, room);
+        made = omega (arith, get_or-set_other s.words 0 1 new 0 (λ e. absurd (omega arith)), made, more, does.issued, ahead);
+        live = get_or-set_other s.words 0 2 new 0 (λ e. absurd (omega arith)) ∙ r.words.live ∙ sym does.live;
+        mark = get_or-set_other s.words 0 3 new 0 (λ e. absurd (omega arith)) ∙ r.words.mark ∙ sym does.mark;
+        cells = at_cell;
+        rested = λ _. refl;
+      }
+
+      done : Rule record { words = set s.words 0 new; homes = s.homes; views = set s.views id (turned T packs value_of start x (more_by T packs value_of start x r.history c y) None x.reads ∷ []) }
+          × StepCalls (me.0, me.1) c y (turned T packs value_of start x (more_by T packs value_of start x r.history c y) None x.reads ∷ [], me.1)
+      done = event_step T packs value_of start s r id me.0 me.1 c y is at None 0 (set s.words 0 new) None x.reads replies (emission_may T start.config r.starts.oldest r.starts.buffer tries (value_of w) name r.history)
+          (subst (λ z. WordsFit packs value_of start z None 0 (set s.words 0 new)) (sym then_is) fit) tt
+          (λ z ne g. no_other start st (after st c y) r.owner None r.ahead 0 s.words (set s.words 0 new) name z.knows.name z.hold ne (inr f.0) g)

@@ -1,0 +1,13 @@
+pub mod CacheSteps
+pub mod Chains
+pub mod ConfirmSteps
+pub mod EmitSteps
+pub mod Keeps
+pub mod Masks
+pub mod Oldest
+pub mod ReadSteps
+pub mod SeatSteps
+pub mod SubscribeSteps
+pub mod Finding
+pub mod Told
+pub mod Drains

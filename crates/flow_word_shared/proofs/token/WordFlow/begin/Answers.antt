@@ -1,0 +1,6 @@
+use Rattle.std.proofs.Common.{rules, arith}
+use Rattle.flow_word_shared.proofs.SeatSteps.{opens}
+use Rattle.flow_word_shared.proofs.token.WordFlow.begin.Goals as goal
+
+pub of_words-requires : goal.of_words-requires
+of_words-requires g c = opens _ _ _ _ _ (record { oldest = c.requires.oldest; buffer = omega arith; room = omega arith; limit = c.requires.limit }) (search rules) (search rules)

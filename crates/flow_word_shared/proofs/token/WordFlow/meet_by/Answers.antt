@@ -1,0 +1,81 @@
+use Rattle.std.proofs.Common.{rules, ◌≡◌, List, [], ◌∷◌, ◌++◌, map, None, refl, sym, ap, subst, ◌∙◌}
+use Rattle.std.specs.List.{AllByRecursion}
+use Rattle.atomic_table.specs.Table.{Me}
+use Rattle.atomic_table.specs.declared.shared.Seat.{Seat}
+use Rattle.flow_law.specs.declared.states.SharedFlowState.{SharedFlowState}
+use Rattle.flow_law.specs.Growth.{Fits, sees}
+use Rattle.flow_law.specs.History.{IsHistory}
+use Rattle.flow_law.specs.SharedHistory.{shared_flow}
+use Rattle.flow_law.specs.Tokens.{token}
+use Rattle.flow_word_shared.specs.declared.view.RingKnown.{RingKnown}
+use Rattle.flow_word_shared.specs.declared.view.RingStart.{RingStart}
+use Rattle.flow_word_shared.specs.Rule.{IsStart}
+use Rattle.flow_word_shared.specs.View.{began_as, only, ring_with_knows, first_of_two, rest_of_two}
+use Rattle.flow_word_shared.specs.Tokens.{word_flow_id}
+use Rattle.flow_word_shared.proofs.SeatSteps.{blanks, joins, observing, parts}
+use Rattle.flow_word_shared.proofs.token.WordFlow.meet_by.Goals as goal
+use Rattle.flow_word_shared.proofs.token.WordFlow.meet_by.Goals.{After-join_seat}
+
+pub split_seat-blank-requires : goal.split_seat-blank-requires
+split_seat-blank-requires g c = (search rules, search rules, blanks _ _ _ _ _ _)
+
+pub join_seat-requires : goal.join_seat-requires
+join_seat-requires g c =
+    let same = c.split_seat-blank.ensures.2 in
+    let other = ap (λ (z : Seat Unit (List (RingKnown g.row.T.Denot))). z.me) c.replace-taken.ensures.value in (
+      search rules,
+      search rules,
+      search rules,
+      search rules,
+      joins _ _ _ _ _ _ _ _ (subst (λ (m : Me Unit (List (RingKnown g.row.T.Denot))). m.0 ≡ only m.0 ∷ []) (sym same) (ap (λ m. m.0) c.requires.idle.0.0)) (subst (λ (m : Me Unit (List (RingKnown g.row.T.Denot))). m.0 ≡ only m.0 ∷ []) (sym other) (ap (λ m. m.0) c.requires.idle.1.0)),
+    )
+
+-- both tokens are in one view
+joined_is : (g : _) (c : After-join_seat g) → c.join_seat.new.seat.me.0 ≡ only c.args.one.now.me.0 ∷ only c.args.other.now.me.0 ∷ []
+joined_is g c =
+    let other = ap (λ (z : Seat Unit (List (RingKnown g.row.T.Denot))). z.me) c.replace-taken.ensures.value in
+    ap (λ m. m.0) c.join_seat.ensures.2 ∙ ((λ i. (c.split_seat-blank.ensures.2 i).0 ++ (other i).0) ∙ (λ i. (c.requires.idle.0.0 i).0 ++ (c.requires.idle.1.0 i).0))
+
+pub load-requires : goal.load-requires
+load-requires g c = (search rules, search rules, observing _ _ _ _ _ _ _ _ _ (joined_is g (goal.at.load-requires g c).After-join_seat))
+
+pub split_seat-requires : goal.split_seat-requires
+split_seat-requires g c =
+    let told = c.load.ensures.2 in let is = joined_is g (goal.at.split_seat-requires g c).After-join_seat in
+    (search rules, search rules, parts _ _ _ _ _ _ _ _ (ap (λ (m : Me Unit (List (RingKnown g.row.T.Denot))). m.0) told.3 ∙ ap (map (ring_with_knows (sees told.0))) is))
+
+pub returns-clause-met : goal.returns-clause-met
+returns-clause-met g c =
+    let told = c.load.ensures.2 in let h = told.0 in let a = only c.args.one.now.me.0 in let b = only c.args.other.now.me.0 in
+    let is = joined_is g (goal.at.returns-clause-met g c).After-join_seat in let seen = ap (λ (m : Me Unit (List (RingKnown g.row.T.Denot))). m.0) told.3 ∙ ap (map (ring_with_knows (sees h))) is in
+    let table = c.load.ensures.0 ∙ (c.join_seat.ensures.0 ∙ c.split_seat-blank.ensures.0) in
+    let fit = subst (AllByRecursion (λ (x : RingKnown g.row.T.Denot). Fits h x.knows)) is told.2 in
+    let first = ap (λ l. began_as (only l).start) is ∙ (ap (λ z. began_as z.start) c.requires.flow.0 ∙ (ap (λ z. began_as z.table_id.start) (sym c.self.view_is) ∙ ap (λ z. z.first) c.self.view_is)) in record {
+      history = h;
+      is_history = subst (λ (z : SharedFlowState g.row.T.Denot). IsHistory shared_flow z h) first told.1;
+      fits_one = fit.0;
+      fits_other = fit.1.0;
+      sees_one = (λ i. token (word_flow_id (c.split_seat.ensures.0 i) (only (c.split_seat.ensures.2 i).0).start) (only (c.split_seat.ensures.2 i).0).knows)
+          ∙ (λ i. token (word_flow_id (table i) (only (first_of_two (seen i))).start) (only (first_of_two (seen i))).knows);
+      sees_other = (λ i. token (word_flow_id (c.split_seat.ensures.3 i) (only (c.split_seat.ensures.4 i).0).start) (only (c.split_seat.ensures.4 i).0).knows)
+          ∙ (λ i. token (word_flow_id ((table ∙ ap (λ z. z.table) (c.requires.flow.0 ∙ sym c.requires.flow.1)) i) (only (rest_of_two (seen i))).start) (only (rest_of_two (seen i))).knows);
+    }
+
+pub returns-clause-idle : goal.returns-clause-idle
+returns-clause-idle g c =
+    let told = c.load.ensures.2 in let h = told.0 in let seen = ap (λ (m : Me Unit (List (RingKnown g.row.T.Denot))). m.0) told.3 ∙ ap (map (ring_with_knows (sees h))) (joined_is g (goal.at.returns-clause-idle g c).After-join_seat) in
+    let slots = ap (λ (m : Me Unit (List (RingKnown g.row.T.Denot))). m.1) told.3 ∙ (ap (λ (m : Me Unit (List (RingKnown g.row.T.Denot))). m.1) c.join_seat.ensures.2 ∙ (ap (λ (m : Me Unit (List (RingKnown g.row.T.Denot))). m.1) c.split_seat-blank.ensures.2 ∙ ap (λ (m : Me Unit (List (RingKnown g.row.T.Denot))). m.1) c.requires.idle.0.0)) in (
+      subst (λ (m : Me Unit (List (RingKnown g.row.T.Denot))). (m ≡ (only m.0 ∷ [], [])) × ((only m.0).hold ≡ None)) (sym (c.split_seat.ensures.2 ∙ (λ i. (first_of_two (seen i), slots i)))) (refl, refl),
+      subst (λ (m : Me Unit (List (RingKnown g.row.T.Denot))). (m ≡ (only m.0 ∷ [], [])) × ((only m.0).hold ≡ None)) (sym (c.split_seat.ensures.4 ∙ (λ i. (rest_of_two (seen i), [])))) (refl, refl),
+    )
+
+pub returns-clause-reads : goal.returns-clause-reads
+returns-clause-reads g c =
+    let told = c.load.ensures.2 in let seen = ap (λ (m : Me Unit (List (RingKnown g.row.T.Denot))). m.0) told.3 ∙ ap (map (ring_with_knows (sees told.0))) (joined_is g (goal.at.returns-clause-reads g c).After-join_seat) in
+    ap (λ m. (only m.0).reads) c.split_seat.ensures.2 ∙ ap (λ v. (only (first_of_two v)).reads) seen
+
+pub returns-clause-began : goal.returns-clause-began
+returns-clause-began g c = (
+  subst (λ (z : RingStart). IsStart z) (sym (ap (λ z. z.start) c.requires.flow.0 ∙ ap (λ z. z.table_id.start) (sym c.self.view_is))) c.self.invariant.1,
+  ap (λ z. began_as z.start) c.requires.flow.0 ∙ (ap (λ z. began_as z.table_id.start) (sym c.self.view_is) ∙ ap (λ z. z.first) c.self.view_is),
+)

@@ -1,0 +1,24 @@
+use Rattle.std.proofs.Common.{◌≤◌, length, sym, subst, ◌∙◌}
+use Rattle.flow_law.specs.History.{IsHistory}
+use Rattle.flow_law.specs.SharedHistory.{shared_flow}
+use Rattle.flow_word_shared.specs.Steps.{IsAt, log_after}
+use Rattle.flow_word_shared.specs.Tokens.{WordFlowToken}
+use Rattle.flow_word_shared.specs.View.{only}
+use Rattle.flow_word_shared.proofs.ReadSteps.{at_grows}
+use Rattle.flow_word_shared.proofs.Told.{fits_emitted}
+use Rattle.flow_word_shared.proofs.token.WordFlow.meet_subscription.Goals as goal
+
+pub invariant_of-subscription : goal.invariant_of-subscription
+invariant_of-subscription g c =
+    let T = g.row.T.Denot in let s = c.subscription.inside in let old = only s.seat.me.0 in let m = c.meet_by.ensures.met in let r = c.subscription.invariant.0 in let began = c.meet_by.ensures.began in
+    let is = subst (λ z. IsHistory shared_flow z m.history) (sym began.1) m.is_history in
+    let at = at_grows old.start began.0.oldest began.0.buffer old.knows.lost old.knows m.history s.number s.position is m.fits_one r.2 in (
+      (
+        c.meet_by.ensures.idle.0,
+        c.meet_by.ensures.reads ∙ r.1,
+        subst (λ (z : WordFlowToken T). IsAt z.table_id.start z.knows s.number s.position) (sym m.sees_one) at,
+        subst (λ (z : WordFlowToken T). s.seen ≤ length (log_after z.table_id.start z.knows.seen)) (sym m.sees_one) (fits_emitted old.start old.knows m.history s.seen m.fits_one r.3),
+      ),
+      c.subscription.invariant.1,
+      c.subscription.invariant.2,
+    )

@@ -1,0 +1,24 @@
+use Rattle.std.proofs.Common.{ap, subst, refl, arith}
+use Rattle.flow_law.specs.Tokens.{numbered_token}
+use Rattle.flow_word_shared.specs.Answers.{IsOverrun, WordFlowNexts, NextsTaken}
+use Rattle.flow_word_shared.specs.Tokens.{WordFlowNumbered, ring_token}
+use Rattle.flow_word_shared.proofs.Told.{saw_overrun, tried_takes}
+use Rattle.flow_word_shared.proofs.token.WordFlow.try_take.Goals as goal
+
+pub returns-then-taken-eq0-clause-late : goal.returns-then-taken-eq0-clause-late
+returns-then-taken-eq0-clause-late g c = λ _.
+    let more = c.if-seen-position.false in let none = c.if-taken-eq0.true in let late = c.read_all-taken.ensures.late none in (
+      late.0,
+      omega (arith, none, c.read_all-taken.ensures.room.0),
+      c.read_all-taken.ensures.room.1,
+      ap (λ n. n.number) c.subscription.view_is,
+      subst (λ (n : WordFlowNumbered g.row.T.Denot). IsOverrun n.token (ring_token c.read_all-taken.new.seat)) c.subscription.view_is (saw_overrun _ _ _ (c.look.ensures.more (omega (arith, more))) late.1),
+    )
+
+pub returns-clause-taken : goal.returns-clause-taken
+returns-clause-taken g c =
+    let more = c.if-seen-position.false in let count = c.read_all-taken.result.0 in (
+      omega (arith, c.read_all-taken.ensures.count.0, c.min.ensures, c.min-count.ensures),
+      λ some. subst (λ (n : WordFlowNumbered g.row.T.Denot). NextsTaken (WordFlowNexts c.args.self.now.first) count n c.args.values.now.items c.read_all-taken.new.values.items (numbered_token (ring_token c.read_all-taken.new.seat) c.subscription.inside.number)) c.subscription.view_is
+          (let saw = c.look.ensures.more (omega (arith, more)) in tried_takes c.args.self.now.first count _ _ _ _ _ (saw.0, (0, saw.1)) refl some (c.read_all-taken.ensures.taken some)),
+    )

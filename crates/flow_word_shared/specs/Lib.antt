@@ -1,0 +1,5 @@
+pub mod View
+pub mod Rule
+pub mod Steps
+pub mod Tokens
+pub mod Answers

@@ -1,0 +1,55 @@
+-- What contracts see of the tokens of a word flow.
+use Rattle.std.specs.Prelude.{◌≡◌, ℕ, ◌≤◌, List, [], ◌∷◌, length, Some, None, Option}
+use Rattle.atomic_table.specs.Seated.{TableId}
+use Rattle.atomic_table.specs.declared.shared.Seat.{Seat}
+use Rattle.flow_law.specs.declared.history.Said.{Said}
+use Rattle.flow_law.specs.declared.call.SharedCall.{SharedCall}
+use Rattle.flow_law.specs.declared.call.SharedReply.{SharedReply}
+use Rattle.flow_law.specs.declared.states.SharedFlowState.{SharedFlowState}
+use Rattle.flow_law.specs.Tokens as flows
+use Rattle.flow_law.specs.Promise.{Token}
+use Rattle.flow_law.specs.Tokens.{token}
+use Rattle.flow_word_shared.specs.declared.view.RingKnown.{RingKnown}
+use Rattle.flow_word_shared.specs.declared.view.Hold.{Hold}
+use Rattle.flow_word_shared.specs.declared.view.RingStart.{RingStart}
+use Rattle.flow_word_shared.specs.View.{reading, only}
+use Rattle.flow_word_shared.specs.Steps.{IsAt, log_after}
+
+-- which flow: its table, and how it began
+pub record WordFlowId : Type 0 where
+  pub table : TableId
+  pub start : RingStart
+
+abbrev pub word_flow_id : TableId → RingStart → WordFlowId
+word_flow_id table start = record { table = table; start = start }
+
+-- a seat: its flow, and what it knows
+abbrev pub WordFlowToken : Type 0 → Type 0
+WordFlowToken T = Token WordFlowId (Said (SharedCall T) (SharedReply T))
+
+-- a flow: which one it is, and the state that it began with
+abbrev pub WordFlowOrigin : Type 0 → Type 0
+WordFlowOrigin T = flows.Origin WordFlowId (SharedFlowState T)
+
+-- a subscription to a flow
+abbrev pub WordFlowNumbered : Type 0 → Type 0
+WordFlowNumbered T = flows.NumberedToken WordFlowId (Said (SharedCall T) (SharedReply T))
+
+module _ {T : Type 0} where
+  -- the token of a seat
+  abbrev pub ring_token : Seat Unit (List (RingKnown T)) → WordFlowToken T
+  ring_token s = token (word_flow_id s.table_id (only s.me.0).start) (only s.me.0).knows
+
+  -- the seat has one token, and this hold
+  abbrev pub IsHolding : Option Hold → Seat Unit (List (RingKnown T)) → Type 0
+  IsHolding hold s = (s.me ≡ (only s.me.0 ∷ [], [])) × ((only s.me.0).hold ≡ hold)
+
+  -- the seat has one token, of a subscriber that reads next at this position; it found these words, and knows of this many emitted values
+  abbrev pub IsReading : Seat Unit (List (RingKnown T)) → ℕ → ℕ → List ℕ → ℕ → Type 0
+  IsReading s number position words seen =
+      IsHolding None s × ((only s.me.0).reads ≡ Some (reading number position words)) × IsAt (only s.me.0).start (only s.me.0).knows number position
+      × (seen ≤ length (log_after (only s.me.0).start (only s.me.0).knows.seen))
+
+  -- the seat has one token, which holds the lock bit, and has seen all of this many emitted values
+  abbrev pub HoldsAll : Seat Unit (List (RingKnown T)) → ℕ → Type 0
+  HoldsAll s count = (h : Hold) × IsHolding (Some h) s × (h.length ≡ count) × (count ≡ length (log_after (only s.me.0).start (only s.me.0).knows.seen))

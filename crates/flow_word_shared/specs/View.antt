@@ -1,0 +1,70 @@
+-- The view of a seat at the table: what the tokens in it know.
+use Rattle.std.specs.Prelude.{ℕ, List, [], ◌∷◌, Option, None}
+use Rattle.flow_law.specs.declared.config.Overflow.TheVariants.{DropOldest}
+use Rattle.flow_law.specs.declared.history.Knowledge.{Knowledge}
+use Rattle.flow_law.specs.declared.history.Said.{Said}
+use Rattle.flow_law.specs.declared.call.SharedCall.{SharedCall}
+use Rattle.flow_law.specs.declared.call.SharedReply.{SharedReply}
+use Rattle.flow_law.specs.declared.states.SharedFlowState.{SharedFlowState}
+use Rattle.flow_law.specs.Growth.{first_knowledge, knowledge}
+use Rattle.flow_law.specs.SharedFlow.{first_state}
+use Rattle.flow_law.specs.SharedHistory.{History}
+use Rattle.flow_word_shared.specs.declared.view.RingKnown.{RingKnown}
+use Rattle.flow_word_shared.specs.declared.view.Hold.{Hold}
+use Rattle.flow_word_shared.specs.declared.view.Reads.{Reads}
+use Rattle.flow_word_shared.specs.declared.view.RingStart.{RingStart}
+
+-- what a token of a shared flow knows
+abbrev pub SharedKnowledge : Type 0 → Type 0
+SharedKnowledge T = Knowledge (Said (SharedCall T) (SharedReply T))
+
+-- no flow
+abbrev pub no_ring : RingStart
+no_ring = record { config = record { replay = 0; extra = 0; overflow = DropOldest; limit = 0 }; room = 0 }
+
+-- what a caller knows that has just taken the lock bit, at this number of emitted values
+abbrev pub holding : ℕ → Hold
+holding length = record { length = length; issued = None; mark = None; ahead = 0; cell = None }
+
+-- a subscriber at this position, and what it found in the cells of that position and the next ones
+abbrev pub reading : ℕ → ℕ → List ℕ → Reads
+reading number position words = record { number = number; position = position; words = words }
+
+module _ {T : Type 0} where
+  -- the state that a flow began with
+  abbrev pub began_as : RingStart → SharedFlowState T
+  began_as start = first_state start.config
+
+  abbrev pub ring_known : SharedKnowledge T → RingStart → Option Hold → Option Reads → RingKnown T
+  ring_known knows start hold reads = record { knows = knows; start = start; hold = hold; reads = reads }
+
+  -- the token, with f applied to what it knows; it holds no lock
+  abbrev pub ring_with_knows : (SharedKnowledge T → SharedKnowledge T) → RingKnown T → RingKnown T
+  ring_with_knows f x = ring_known (f x.knows) x.start None x.reads
+
+  -- the token, with this hold
+  abbrev pub with_hold : Option Hold → RingKnown T → RingKnown T
+  with_hold hold x = ring_known x.knows x.start hold x.reads
+
+  -- what the token knows after it has seen this history
+  abbrev pub saw : ℕ → History T → SharedKnowledge T → SharedKnowledge T
+  saw lost seen k = knowledge k.name k.made lost seen
+
+  -- the view of the first seat
+  abbrev pub first_ring_view : RingStart → List (RingKnown T)
+  first_ring_view start = ring_known first_knowledge start None None ∷ []
+
+  -- the first token of a view (a joined view has two tokens)
+  abbrev pub first_of_two : List (RingKnown T) → List (RingKnown T)
+  first_of_two [] = []
+  first_of_two (x ∷ xs) = x ∷ []
+
+  -- the tokens of a joined view without the first
+  abbrev pub rest_of_two : List (RingKnown T) → List (RingKnown T)
+  rest_of_two [] = []
+  rest_of_two (x ∷ xs) = xs
+
+  -- the token of a view that has one
+  abbrev pub only : List (RingKnown T) → RingKnown T
+  only [] = ring_known first_knowledge no_ring None None
+  only (x ∷ xs) = x

@@ -1,0 +1,166 @@
+//! Emitting.
+ghost use Rattle.std.specs.Prelude.{◌≡◌, IfErr, Ok, true, false};
+ghost use Rattle.flow_law.specs.declared.fault.FlowFault.TheVariants.{Exhausted};
+ghost use Rattle.flow_law.specs.declared.call.SharedCall.TheVariants as call;
+ghost use Rattle.flow_law.specs.declared.call.SharedReply.TheVariants as reply;
+ghost use Rattle.flow_law.specs.declared.outcome.Emit.TheVariants.{Done};
+ghost use Rattle.flow_law.specs.History.{replied, fault_alone};
+ghost use Rattle.flow_law.specs.SharedHistory.{shared_flow};
+ghost use Rattle.flow_law.specs.Tokens.{IsBusy};
+ghost use Rattle.flow_law.specs.Promise.{CallsIn, CallsAtOnceIn};
+ghost use Rattle.flow_word_shared.specs.Answers.{WordEmitsNow};
+ghost use Rattle.flow_word_shared.specs.Steps.{emission_of, emission_done};
+
+use crate::plays::{CountIssued, Fill, Publish, Refuse, Release, Take};
+use crate::token::{HEAD, WordFlow, WordFlowSeat};
+use flow_law::{FlowFault, Packed, Refused};
+use std::sync::Wait;
+use std::thread;
+
+impl<T: Packed> WordFlow<T> {
+    /// Tries once to emit, by `try_emit` or by `emit`, and returns whether a number was left for the value. The error
+    /// says that another emitter was faster, and whether it holds the lock bit.
+    #[inline(always)]
+    fn emit_once<const TRIES: bool>(
+        &self,
+        seat: &mut WordFlowSeat<T>,
+        word: u64,
+    ) -> Result<bool, bool>
+        requires flow { seat.old.table_id ≡ self.now.table_id }
+        requires packs { T.packs word }
+        ensures emitted { result ≡ Ok true → CallsAtOnceIn shared_flow self.now.first seat.old
+            (emission_of TRIES (T.value_of word)) (emission_done TRIES) seat.new }
+        ensures refused { result ≡ Ok false → CallsAtOnceIn shared_flow self.now.first seat.old
+            (emission_of TRIES (T.value_of word)) (reply.Refused Exhausted) seat.new }
+        ensures lost { IfErr result (λ _. IsBusy seat.old seat.new) }
+    {
+        let expected = seat.expected;
+        let shared = &self.table.shared;
+        let found = shared.compare_exchange::<Take>(&mut seat.seat, 0, expected, expected + 1);
+        if found != expected {
+            let odd = found % 2;
+            seat.expected = found - odd;
+            return Err(odd == 1);
+        }
+        let length = expected / 2;
+        let made = shared.load::<CountIssued>(&mut seat.seat, 1);
+        let cell = HEAD + (length & self.mask) as usize;
+        if made + length >= self.limit {
+            shared.store::<Refuse<TRIES>>(&mut seat.seat, cell, word);
+            shared.store::<Release>(&mut seat.seat, 0, expected);
+            return Ok(false);
+        }
+        shared.store::<Fill>(&mut seat.seat, cell, word);
+        shared.store::<Publish<TRIES>>(&mut seat.seat, 0, expected + 2);
+        seat.expected = expected + 2;
+        Ok(true)
+    }
+
+    /// Emits by `try_emit` or by `emit`. While another emitter holds the lock bit, the thread yields. Returns whether a
+    /// number was left.
+    #[inline(always)]
+    fn emission<R: Wait, const TRIES: bool>(
+        &self,
+        rt: &R,
+        seat: &mut WordFlowSeat<T>,
+        word: u64,
+    ) -> bool
+        requires flow { seat.old.table_id ≡ self.now.table_id }
+        requires packs { T.packs word }
+        ensures emitted { result ≡ true → CallsIn shared_flow self.now.first seat.old
+            (emission_of TRIES (T.value_of word)) (emission_done TRIES) seat.new }
+        ensures refused { result ≡ false → CallsIn shared_flow self.now.first seat.old
+            (emission_of TRIES (T.value_of word)) (reply.Refused Exhausted) seat.new }
+    {
+        for _ in rt.forever() {
+            match self.emit_once::<TRIES>(seat, word) {
+                Ok(emitted) => return emitted,
+                Err(is_locked) => {
+                    if is_locked {
+                        thread::yield_now();
+                    }
+                }
+            }
+        }
+        unreachable!()
+    }
+
+    /// Emits a value. Subscribers that are a full buffer behind miss the oldest value of the buffer.
+    ///
+    /// No subscriber is waited for. Emitters, `subscribe`, `replay_cache` and `reset_replay_cache` wait for each other.
+    ///
+    /// # Errors
+    /// `Exhausted` if the flow has issued as many numbers as its limit allows. The error returns the value.
+    ///
+    /// # Source
+    /// `MutableSharedFlow.emit`.
+    pub fn emit<R: Wait>(
+        &self,
+        rt: &R,
+        seat: &mut WordFlowSeat<T>,
+        value: T,
+    ) -> Result<(), Refused<T>>
+        requires { seat.old.table_id ≡ self.now.table_id }
+        ensures called { CallsIn shared_flow self.now.first seat.old (call.Emit value)
+            (replied shared_flow (λ _. reply.Emitted Done) (fault_alone result)) seat.new }
+        ensures refused { IfErr result (λ refused. refused.fault ≡ Exhausted) }
+        ensures handed_back { IfErr result (λ refused. refused.value ≡ value) }
+    {
+        let word = value.pack();
+        if self.emission::<R, false>(rt, seat, word) {
+            return Ok(());
+        }
+        Err(Refused {
+            value: T::unpack(word),
+            fault: FlowFault::Exhausted,
+        })
+    }
+
+    /// Emits a value as `emit` does, and returns `true`: an emission into this flow never waits for subscribers.
+    ///
+    /// # Errors
+    /// `Exhausted` if the flow has issued as many numbers as its limit allows. The error returns the value.
+    ///
+    /// # Source
+    /// `MutableSharedFlow.tryEmit`.
+    pub fn try_emit<R: Wait>(
+        &self,
+        rt: &R,
+        seat: &mut WordFlowSeat<T>,
+        value: T,
+    ) -> Result<bool, Refused<T>>
+        requires { seat.old.table_id ≡ self.now.table_id }
+        ensures called { CallsIn shared_flow self.now.first seat.old (call.TryEmit value)
+            (replied shared_flow reply.Tested (fault_alone result)) seat.new }
+        ensures refused { IfErr result (λ refused. refused.fault ≡ Exhausted) }
+        ensures handed_back { IfErr result (λ refused. refused.value ≡ value) }
+    {
+        let word = value.pack();
+        if self.emission::<R, true>(rt, seat, word) {
+            return Ok(true);
+        }
+        Err(Refused {
+            value: T::unpack(word),
+            fault: FlowFault::Exhausted,
+        })
+    }
+
+    /// Emits a value as `emit` does if no other caller is faster; otherwise returns it with `Busy`.
+    pub fn emit_now(&self, seat: &mut WordFlowSeat<T>, value: T) -> Result<(), Refused<T>>
+        requires { seat.old.table_id ≡ self.now.table_id }
+        ensures called { WordEmitsNow self.now.first seat.old value (fault_alone result) seat.new }
+        ensures handed_back { IfErr result (λ refused. refused.value ≡ value) }
+    {
+        self.look_up(seat);
+        let word = value.pack();
+        let fault = match self.emit_once::<false>(seat, word) {
+            Ok(true) => return Ok(()),
+            Ok(false) => FlowFault::Exhausted,
+            Err(_is_locked) => FlowFault::Busy,
+        };
+        Err(Refused {
+            value: T::unpack(word),
+            fault,
+        })
+    }
+}

@@ -1,0 +1,17 @@
+//! Why no flow of words was made.
+ghost use Rattle.std.specs.Prelude.{◌≡◌};
+
+use flow_law::{FlowFault, Overflow};
+use std::fmt::Debug;
+use thiserror::Error;
+
+/// Why no flow of words was made.
+#[derive(Clone, Copy, Debug, PartialEq, Eq, Error)]
+pub enum WordFlowFault {
+    /// No shared flow can have the configuration, or the call ran out of memory.
+    #[error("{0}")]
+    Flow(FlowFault),
+    /// A flow of words has no such strategy.
+    #[error("a flow of words drops the oldest value")]
+    Strategy(Overflow),
+}

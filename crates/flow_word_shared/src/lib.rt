@@ -1,0 +1,45 @@
+//! A shared flow that is read without a lock, for values that fit a word.
+//!
+//! A `WordFlow` is a `MutableSharedFlow` of kotlinx.coroutines with `DROP_OLDEST`: a ring of words, and the number of values
+//! ever emitted. A subscriber keeps its own position. It loads the cell of that position and then the number of emitted
+//! values: if the buffer still has the position, the word in that cell is its value.
+//!
+//! # The lock bit
+//! Emitters, `subscribe`, `replay_cache` and `reset_replay_cache` take one bit for a few steps, and wait for each other.
+//! Subscribers never wait for it, nor do `unsubscribe` and `subscription_count`.
+//!
+//! # Overrun subscribers
+//! A subscriber that is a full buffer behind may be overrun between its two loads. It then reads more cells before it
+//! loads the number again: twice as many at each try, up to 64. A try fails only if emitters have overwritten all cells
+//! that it read.
+//!
+//! # What each call promises
+//! A call promises what the call of a `SharedFlow` does, in the same words: the token has then seen a history of the
+//! flow, which is all that it had seen, followed by events of other callers and by this call with this reply.
+//!
+//! # Trying again
+//! A call that takes `rt` tries again if another caller was faster, and no contract says that it ever succeeds. A call
+//! whose name ends in `_now` tries once, and may return `Busy`.
+//!
+//! # Dropping
+//! A dropped seat makes no more calls. A dropped subscription stays in the flow, and still counts.
+#![tactic(auto)]
+
+mod cache;
+mod drain;
+mod emitting;
+mod fault;
+mod making;
+mod meeting;
+mod plays;
+mod reading;
+mod rule;
+mod subscriber;
+mod subscribing;
+mod token;
+mod view;
+
+pub use fault::WordFlowFault;
+pub use rule::WordFlowRule;
+pub use token::{WordFlow, WordFlowSeat, WordFlowSubscription};
+pub use view::{Hold, Reads, RingKnown, RingStart};

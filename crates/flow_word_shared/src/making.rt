@@ -1,0 +1,116 @@
+//! Making a flow, and its seats.
+ghost use Rattle.std.specs.Prelude.{◌≡◌, ◌+◌, ◌<◌, ◌≤◌, ◌^◌, MatchResult, None};
+ghost use Rattle.flow_law.specs.declared.config.Overflow.TheVariants.{DropOldest};
+ghost use Rattle.flow_law.specs.declared.fault.FlowFault.TheVariants.{OutOfMemory};
+ghost use Rattle.flow_law.specs.Growth.{makes, child};
+ghost use Rattle.flow_law.specs.SharedFlow.{config_fault, first_state};
+ghost use Rattle.flow_law.specs.Tokens.{Begins, knowing};
+ghost use Rattle.flow_word_shared.specs.declared.fault.WordFlowFault.TheVariants.{Flow};
+ghost use Rattle.flow_word_shared.specs.Answers.{NoWordFlow, with_word_limit};
+
+use crate::fault::WordFlowFault;
+use crate::plays::Make;
+use crate::token::{HEAD, WordFlow, WordFlowSeat};
+use crate::view::RingStart;
+use atomic_table::Table;
+use flow_law::{Config, FlowFault, Overflow, Packed};
+use std::alloc::Global;
+
+/// The most numbers that a flow issues: twice the number of emitted values, and one more, has to fit a word.
+const MOST_NUMBERS: u64 = (1 << 63) - 1;
+
+/// The largest buffer of a shared flow.
+const LARGEST_CAPACITY: u64 = 65_536;
+
+impl<T: Packed> WordFlow<T> {
+    /// Makes a flow, and its first seat. Every other seat is made through this one, directly or through other seats.
+    ///
+    /// It drops the oldest values, so the configuration needs a buffer and the strategy `DropOldest`. A limit of 2^63 or
+    /// more counts as 2^63 - 1. This call takes all memory that the flow needs: one word for each value of the buffer,
+    /// rounded up to a power of two above that, and four more.
+    ///
+    /// # Errors
+    /// `TooLarge` or `NeedsBuffer` as of a `SharedFlow`, else `Strategy` for another strategy, else `OutOfMemory`.
+    ///
+    /// # Source
+    /// `MutableSharedFlow(replay, extraBufferCapacity, BufferOverflow.DROP_OLDEST)`.
+    pub fn new(
+        alloc: Global,
+        config: Config,
+    ) -> Result<(WordFlow<T>, WordFlowSeat<T>), WordFlowFault>
+        ensures { MatchResult result
+            (λ made. (config_fault config ≡ None) × (config.overflow ≡ DropOldest)
+            × Begins (first_state (with_word_limit config)) made)
+            (NoWordFlow config) }
+    {
+        let capacity = u64::from(config.replay) + u64::from(config.extra);
+        if capacity > LARGEST_CAPACITY {
+            return Err(WordFlowFault::Flow(FlowFault::TooLarge));
+        }
+        match config.overflow {
+            Overflow::DropOldest => {}
+            Overflow::DropLatest if capacity == 0 => {
+                return Err(WordFlowFault::Flow(FlowFault::NeedsBuffer));
+            }
+            Overflow::DropLatest | Overflow::Suspend => {
+                return Err(WordFlowFault::Strategy(config.overflow));
+            }
+        }
+        if capacity == 0 {
+            return Err(WordFlowFault::Flow(FlowFault::NeedsBuffer));
+        }
+        let limit = config.limit.min(MOST_NUMBERS);
+        Self::begin(alloc, config.limit(limit), capacity)
+    }
+
+    /// Makes a flow of a configuration that it may have.
+    fn begin(
+        alloc: Global,
+        config: Config,
+        capacity: u64,
+    ) -> Result<(WordFlow<T>, WordFlowSeat<T>), WordFlowFault>
+        requires none { config_fault config ≡ None }
+        requires oldest { config.overflow ≡ DropOldest }
+        requires limit { config.limit < 2 ^ 63 }
+        requires capacity { (capacity ≡ config.replay + config.extra) × (0 < capacity) × (capacity ≤ 65536) }
+        ensures { MatchResult result (Begins (first_state config))
+            (λ fault. fault ≡ Flow OutOfMemory) }
+    {
+        let room = (capacity + 1).next_power_of_two();
+        let start = RingStart { config, room };
+        let Ok(words) = vec![in alloc; 0; HEAD + room as usize] else {
+            return Err(WordFlowFault::Flow(FlowFault::OutOfMemory));
+        };
+        match Table::of_words(alloc, words.as_slice(), &start) {
+            Ok((table, seat)) => {
+                let flow = WordFlow {
+                    table,
+                    alloc,
+                    room,
+                    mask: room - 1,
+                    capacity,
+                    replay: u64::from(config.replay),
+                    limit: config.limit,
+                };
+                Ok((flow, WordFlowSeat { seat, expected: 0 }))
+            }
+            Err(_failed) => Err(WordFlowFault::Flow(FlowFault::OutOfMemory)),
+        }
+    }
+
+    /// Makes a seat through another one. Call it for each thread, before the thread starts.
+    ///
+    /// The new seat has seen what its maker had seen, and has a name of its own. After it is dropped, no call is made
+    /// under its name; the flow does not change.
+    pub fn seat(&self, seat: &mut WordFlowSeat<T>) -> WordFlowSeat<T>
+        requires { seat.old.table_id ≡ self.now.table_id }
+        ensures maker { seat.new ≡ knowing seat.old (makes seat.old.knows) }
+        ensures made { result ≡ knowing seat.old (child seat.old.knows) }
+    {
+        let expected = seat.expected;
+        WordFlowSeat {
+            seat: self.table.shared.split_seat::<Make>(&mut seat.seat),
+            expected,
+        }
+    }
+}

@@ -1,0 +1,199 @@
+//! What each step on a word proves. Nothing here runs.
+ghost use Rattle.std.specs.Prelude.{[], ◌++◌, map, take};
+ghost use Rattle.flow_law.specs.Growth.{makes, child};
+ghost use Rattle.flow_word_shared.specs.View.{ring_with_knows, first_of_two, rest_of_two};
+ghost use Rattle.flow_word_shared.specs.Steps.{takes, counts_issued, fills, refuses, releases, publishes, counts_mark, refuses_subscriber, runs_ahead, enrolls, resets, counts_live, leaves, looks, reads_cell, confirms, caches, refuses_cache, reads_held, observes_all, looks_back};
+
+use crate::view::RingKnown;
+use atomic_table::{Join, Play, Split};
+use flow_law::{Packed, Sequence};
+
+/// An exchange of word 0, which takes the lock bit.
+pub(crate) struct Take;
+
+impl<T> Play<(), Sequence<RingKnown<T>>> for Take {
+    ghost then = { takes };
+}
+
+/// A load of the made subscriptions, by the holder.
+pub(crate) struct CountIssued;
+
+impl<T> Play<(), Sequence<RingKnown<T>>> for CountIssued {
+    ghost then = { counts_issued };
+}
+
+/// A store into the free cell, by the holder.
+pub(crate) struct Fill;
+
+impl<T> Play<(), Sequence<RingKnown<T>>> for Fill {
+    ghost then = { fills };
+}
+
+/// The same, if no number is left: a refused `try_emit`, or a refused `emit`.
+pub(crate) struct Refuse<const TRIES: bool>;
+
+impl<T: Packed, const TRIES: bool> Play<(), Sequence<RingKnown<T>>> for Refuse<TRIES> {
+    ghost then = { refuses T.value_of TRIES };
+}
+
+/// A store of word 0 by the holder, without an event.
+pub(crate) struct Release;
+
+impl<T> Play<(), Sequence<RingKnown<T>>> for Release {
+    ghost then = { releases };
+}
+
+/// A store of word 0 by the holder, which emits: a `try_emit`, or an `emit`.
+pub(crate) struct Publish<const TRIES: bool>;
+
+impl<T: Packed, const TRIES: bool> Play<(), Sequence<RingKnown<T>>> for Publish<TRIES> {
+    ghost then = { publishes T.value_of TRIES };
+}
+
+/// A load of word 0 by a subscriber that has read all it knows of.
+pub(crate) struct Look;
+
+impl<T> Play<(), Sequence<RingKnown<T>>> for Look {
+    ghost then = { looks };
+}
+
+/// A load of a cell, by a subscriber.
+pub(crate) struct ReadCell;
+
+impl<T: Packed> Play<(), Sequence<RingKnown<T>>> for ReadCell {
+    ghost then = { reads_cell T.packs T.value_of };
+}
+
+/// A load of word 0 by a subscriber that has read cells, for one `next`.
+pub(crate) struct Confirm;
+
+impl<T: Packed> Play<(), Sequence<RingKnown<T>>> for Confirm {
+    ghost then = { confirms T.packs T.value_of (take 1) };
+}
+
+/// A load of word 0 by a subscriber that has read cells, for a `next` of each value that it found.
+pub(crate) struct ConfirmAll;
+
+impl<T: Packed> Play<(), Sequence<RingKnown<T>>> for ConfirmAll {
+    ghost then = { confirms T.packs T.value_of (λ words. words) };
+}
+
+/// Making a token through another one.
+pub(crate) struct Make;
+
+impl<T> Split<Sequence<RingKnown<T>>> for Make {
+    ghost left = { map (ring_with_knows makes) };
+
+    ghost right = { map (ring_with_knows child) };
+}
+
+/// A load of the reset mark, by the holder.
+pub(crate) struct CountMark;
+
+impl<T> Play<(), Sequence<RingKnown<T>>> for CountMark {
+    ghost then = { counts_mark };
+}
+
+/// The same, if no number is left.
+pub(crate) struct RefuseSubscriber;
+
+impl<T> Play<(), Sequence<RingKnown<T>>> for RefuseSubscriber {
+    ghost then = { refuses_subscriber };
+}
+
+/// A store of the made subscriptions, by the holder.
+pub(crate) struct RunAhead;
+
+impl<T> Play<(), Sequence<RingKnown<T>>> for RunAhead {
+    ghost then = { runs_ahead };
+}
+
+/// An increment of the number of subscribers, by the holder.
+pub(crate) struct Enroll;
+
+impl<T> Play<(), Sequence<RingKnown<T>>> for Enroll {
+    ghost then = { enrolls };
+}
+
+/// A store of the reset mark, by the holder.
+pub(crate) struct ResetMark;
+
+impl<T> Play<(), Sequence<RingKnown<T>>> for ResetMark {
+    ghost then = { resets };
+}
+
+/// A load of the number of subscribers.
+pub(crate) struct CountLive;
+
+impl<T> Play<(), Sequence<RingKnown<T>>> for CountLive {
+    ghost then = { counts_live };
+}
+
+/// A decrement of the number of subscribers.
+pub(crate) struct Leave;
+
+impl<T> Play<(), Sequence<RingKnown<T>>> for Leave {
+    ghost then = { leaves };
+}
+
+/// A load of the reset mark, by the holder: the event of `replay_cache`.
+pub(crate) struct Cache;
+
+impl<T> Play<(), Sequence<RingKnown<T>>> for Cache {
+    ghost then = { caches };
+}
+
+/// The same, if there is no memory for the values.
+pub(crate) struct RefuseCache;
+
+impl<T> Play<(), Sequence<RingKnown<T>>> for RefuseCache {
+    ghost then = { refuses_cache };
+}
+
+/// A load of a cell of the replay cache, by the holder.
+pub(crate) struct ReadHeld;
+
+impl<T: Packed> Play<(), Sequence<RingKnown<T>>> for ReadHeld {
+    ghost then = { reads_held T.packs T.value_of };
+}
+
+/// A view of no token, in place of one that is taken out.
+pub(crate) struct Blank;
+
+impl<T> Split<Sequence<RingKnown<T>>> for Blank {
+    ghost left = { λ v. v };
+
+    ghost right = { λ v. [] };
+}
+
+/// Joining two tokens in one view.
+pub(crate) struct Meet;
+
+impl<T> Join<Sequence<RingKnown<T>>> for Meet {
+    ghost both = { λ v w. v ++ w };
+
+    ghost spent = { [] };
+}
+
+/// A load, by which both tokens see the whole history so far.
+pub(crate) struct Observe;
+
+impl<T> Play<(), Sequence<RingKnown<T>>> for Observe {
+    ghost then = { observes_all };
+}
+
+/// A load that changes nothing, and proves that what a token has seen begins a history.
+pub(crate) struct LookBack;
+
+impl<T> Play<(), Sequence<RingKnown<T>>> for LookBack {
+    ghost then = { looks_back };
+}
+
+/// Splitting the view again.
+pub(crate) struct Part;
+
+impl<T> Split<Sequence<RingKnown<T>>> for Part {
+    ghost left = { first_of_two };
+
+    ghost right = { rest_of_two };
+}

@@ -1,0 +1,147 @@
+//! The steps of subscribers. A subscriber loads cells, and then word 0: the values that the buffer then still has are what
+//! it receives.
+ghost use Rattle.std.specs.Prelude.{◌≡◌, ◌+◌, ◌-◌, ◌<◌, ◌≤◌, ◌^◌, max, [], IfOk, IfErr};
+ghost use Rattle.arrayvec.specs.ArrayVec.{array_vec_len};
+ghost use Rattle.flow_law.specs.declared.call.SharedCall.TheVariants as call;
+ghost use Rattle.flow_law.specs.declared.call.SharedReply.TheVariants as reply;
+ghost use Rattle.flow_law.specs.declared.outcome.Next.TheVariants.{Value, Empty};
+ghost use Rattle.flow_law.specs.SharedHistory.{shared_flow};
+ghost use Rattle.flow_law.specs.Promise.{CallsAtOnceIn};
+ghost use Rattle.flow_word_shared.specs.Answers.{IsOverrun};
+ghost use Rattle.flow_word_shared.specs.Rule.{capacity_of};
+ghost use Rattle.flow_word_shared.specs.Steps.{SeesMore, AreFound, log_after};
+ghost use Rattle.flow_word_shared.specs.Tokens.{ring_token, IsReading};
+
+use crate::plays::{Confirm, Look, ReadCell};
+use crate::token::{HEAD, WordFlow};
+use crate::view::RingKnown;
+use arrayvec::ArrayVec;
+use atomic_table::Seat;
+use flow_law::{Packed, Sequence};
+
+/// How many cells a subscriber loads at most before it loads word 0.
+pub(crate) const AHEAD: usize = 64;
+
+/// The words that a subscriber found in the cells of its position and the next ones.
+pub(crate) type Words = ArrayVec<u64, AHEAD>;
+
+impl<T: Packed> WordFlow<T> {
+    /// Returns how many values are known to be emitted. Loads word 0 only if that is not more than the position; if it is
+    /// still not more, this is a `next` that finds nothing.
+    #[inline(always)]
+    pub(crate) fn look(
+        &self,
+        seat: &mut Seat<(), Sequence<RingKnown<T>>>,
+        number: u64,
+        position: u64,
+        seen: u64,
+    ) -> u64
+        requires flow { (ring_token seat.old).table_id ≡ self.now.table_id }
+        requires reading { IsReading seat.old number position [] seen }
+        requires small { seen < 2 ^ 63 }
+        ensures reading { IsReading seat.new number position [] result }
+        ensures small { result < 2 ^ 63 }
+        ensures empty { result ≤ position → CallsAtOnceIn shared_flow self.now.first (ring_token seat.old)
+            (call.TakeNext number) (reply.Received Empty) (ring_token seat.new) }
+        ensures more { position < result → ((ring_token seat.new).table_id ≡ (ring_token seat.old).table_id)
+            × SeesMore 0 (ring_token seat.old).knows (ring_token seat.new).knows }
+    {
+        if position < seen {
+            return seen;
+        }
+        self.table.shared.load::<Look>(seat, 0) / 2
+    }
+
+    /// Loads the cell of the position, and then word 0. Returns the word in that cell and the number of emitted values. If
+    /// the buffer still has the position, this is the `next` of that word's value.
+    #[inline(always)]
+    pub(crate) fn read(
+        &self,
+        seat: &mut Seat<(), Sequence<RingKnown<T>>>,
+        number: u64,
+        position: u64,
+        seen: u64,
+    ) -> (u64, u64)
+        requires flow { (ring_token seat.old).table_id ≡ self.now.table_id }
+        requires reading { IsReading seat.old number position [] seen }
+        requires there { position < seen }
+        ensures small { result.1 < 2 ^ 63 }
+        ensures fresh { result.1 ≤ position + capacity_of self.now.table_id.start → T.packs result.0
+            × CallsAtOnceIn shared_flow self.now.first (ring_token seat.old) (call.TakeNext number)
+            (reply.Received (Value (T.value_of result.0))) (ring_token seat.new)
+            × IsReading seat.new number (position + 1) [] result.1 }
+        ensures late { position + capacity_of self.now.table_id.start < result.1 →
+            IsOverrun (ring_token seat.old) (ring_token seat.new)
+            × IsReading seat.new number (result.1 - capacity_of self.now.table_id.start) [] result.1 }
+    {
+        let shared = &self.table.shared;
+        let cell = HEAD + (position & self.mask) as usize;
+        let word = shared.load::<ReadCell>(seat, cell);
+        let found = shared.load::<Confirm>(seat, 0);
+        (word, found / 2)
+    }
+
+    /// Loads the cells of the position and the next ones, `count` in all.
+    pub(crate) fn read_cells(
+        &self,
+        seat: &mut Seat<(), Sequence<RingKnown<T>>>,
+        number: u64,
+        position: u64,
+        seen: u64,
+        count: usize,
+    ) -> Words
+        requires flow { (ring_token seat.old).table_id ≡ self.now.table_id }
+        requires reading { IsReading seat.old number position [] seen }
+        requires there { position + count ≤ seen }
+        requires fits { (seen < 2 ^ 63) × (count ≤ 64) }
+        ensures count { array_vec_len result ≡ count }
+        ensures reading { IsReading seat.new number position result.items seen }
+        ensures found { AreFound T.packs T.value_of (capacity_of self.now.table_id.start)
+            (log_after self.now.table_id.start (ring_token seat.new).knows.seen) position result.items }
+        ensures sees { ((ring_token seat.new).table_id ≡ (ring_token seat.old).table_id)
+            × SeesMore 0 (ring_token seat.old).knows (ring_token seat.new).knows }
+    {
+        let mut words = Words::new();
+        for i in 0..count {
+            let cell = HEAD + ((position + i as u64) & self.mask) as usize;
+            let word = self.table.shared.load::<ReadCell>(seat, cell);
+            words.push(word);
+        }
+        words
+    }
+
+    /// Loads the cells of the position and the next ones, and then word 0. If the buffer still has one of these positions,
+    /// this is the `next` of the first of them: returns its word. `Ok` and `Err` have the number of emitted values.
+    pub(crate) fn read_ahead(
+        &self,
+        seat: &mut Seat<(), Sequence<RingKnown<T>>>,
+        number: u64,
+        position: u64,
+        seen: u64,
+        count: usize,
+    ) -> Result<(u64, u64), u64>
+        requires flow { (ring_token seat.old).table_id ≡ self.now.table_id }
+        requires reading { IsReading seat.old number position [] seen }
+        requires there { position + count ≤ seen }
+        requires fits { (seen < 2 ^ 63) × (count ≤ 64) }
+        ensures small { IfOk result (λ found. found.1 < 2 ^ 63) × IfErr result (λ length. length < 2 ^ 63) }
+        ensures fresh { IfOk result (λ found. T.packs found.0
+            × CallsAtOnceIn shared_flow self.now.first (ring_token seat.old) (call.TakeNext number)
+            (reply.Received (Value (T.value_of found.0))) (ring_token seat.new)
+            × IsReading seat.new number
+            (max position (found.1 - capacity_of self.now.table_id.start) + 1) [] found.1) }
+        ensures late { IfErr result (λ length. IsOverrun (ring_token seat.old) (ring_token seat.new)
+            × IsReading seat.new number
+            (max position (length - capacity_of self.now.table_id.start)) [] length) }
+    {
+        let words = self.read_cells(seat, number, position, seen, count);
+        let length = self.table.shared.load::<Confirm>(seat, 0) / 2;
+        let passed = length
+            .saturating_sub(self.capacity)
+            .saturating_sub(position);
+        match words.as_slice().get(passed as usize) {
+            Some(&word) => return Ok((word, length)),
+            None => return Err(length),
+        }
+    }
+}

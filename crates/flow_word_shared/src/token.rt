@@ -1,0 +1,96 @@
+//! A word flow, and the tokens of its callers.
+ghost use Rattle.std.specs.Prelude.{◌≡◌, ◌<◌, ◌^◌, ◌+◌, ◌%◌, [], None};
+ghost use Rattle.std.specs.Int.{IsPowerOfTwo};
+ghost use Rattle.flow_law.specs.Tokens.{origin, numbered_token};
+ghost use Rattle.flow_word_shared.specs.Rule.{IsStart, capacity_of};
+ghost use Rattle.flow_word_shared.specs.View.{began_as};
+ghost use Rattle.flow_word_shared.specs.Tokens.{WordFlowToken, WordFlowOrigin, WordFlowNumbered, word_flow_id, ring_token, IsHolding, IsReading};
+
+use crate::rule::WordFlowRule;
+use crate::view::{RingKnown, RingStart};
+use atomic_table::{Seat, Table};
+use flow_law::{Packed, Sequence};
+use std::alloc::Global;
+use std::marker::Model;
+
+/// The number of words before the cells.
+pub(crate) const HEAD: usize = 4;
+
+/// A shared flow (`MutableSharedFlow` with `DROP_OLDEST`) of values that fit a word, for callers on several threads.
+/// Subscribers wait for no other caller, and store nothing into the flow.
+#[derive(Drop)]
+pub struct WordFlow<T: Packed> {
+    /// Word 0 is twice the number of emitted values, plus one while a caller holds the lock bit. Word 1 is the number of
+    /// subscriptions ever made, word 2 the number of subscribers, word 3 the reset mark. The cells follow: the pack of the
+    /// value at position k is in the cell k mod `room`.
+    pub(crate) table: Table<(), Sequence<RingKnown<T>>, RingStart, WordFlowRule, Global>,
+    pub(crate) alloc: Global,
+    /// The number of cells: a power of two, greater than `capacity`.
+    pub(crate) room: u64,
+    /// `room` less 1.
+    pub(crate) mask: u64,
+    pub(crate) capacity: u64,
+    pub(crate) replay: u64,
+    pub(crate) limit: u64,
+}
+
+impl<T: Packed> Model for WordFlow<T> {
+    ghost Value = { WordFlowOrigin T };
+
+    ghost view = { λ w. origin (word_flow_id w.table.shared.table_id w.table.shared.key) (began_as w.table.shared.key) };
+
+    ghost invariant = { λ w.
+        (w.table.shared.table_id.words ≡ 4 + w.room) × IsStart w.table.shared.key
+        × (w.table.shared.key.room ≡ w.room) × (capacity_of w.table.shared.key ≡ w.capacity)
+        × (w.table.shared.key.config.replay ≡ w.replay) × (w.table.shared.key.config.limit ≡ w.limit)
+        × (4 + w.room < 2 ^ 63) × (w.capacity < w.room)
+        × IsPowerOfTwo w.room × (w.mask + 1 ≡ w.room) };
+}
+
+/// A seat at a word flow, by which a caller calls the flow. Contracts see the history that it has seen.
+///
+/// After a seat is dropped, no call is made under its name. The flow does not change.
+pub struct WordFlowSeat<T> {
+    pub(crate) seat: Seat<(), Sequence<RingKnown<T>>>,
+    /// Word 0 as the seat found or left it last, without the lock bit: what it expects to find there.
+    pub(crate) expected: u64,
+}
+
+// Not derived: each crate that drops a seat would have to prove again how it is dropped.
+impl<T> Drop for WordFlowSeat<T> {
+    fn drop(self) {
+        let Self {
+            seat: _,
+            expected: _,
+        } = self;
+    }
+}
+
+impl<T> Model for WordFlowSeat<T> {
+    ghost Value = { WordFlowToken T };
+
+    ghost view = { λ s. ring_token s.seat };
+
+    ghost invariant = { λ s. IsHolding None s.seat × (s.expected % 2 ≡ 0) };
+}
+
+/// A subscription to a word flow: a seat of its own, its number, the position of the value that it reads next, and a
+/// number of values of which it knows that they were emitted.
+///
+/// A dropped subscription stays, and still counts; its seat is lost. Call `unsubscribe` to end it.
+#[derive(Drop)]
+pub struct WordFlowSubscription<T: Packed> {
+    pub(crate) seat: Seat<(), Sequence<RingKnown<T>>>,
+    pub(crate) number: u64,
+    pub(crate) position: u64,
+    pub(crate) seen: u64,
+}
+
+impl<T: Packed> Model for WordFlowSubscription<T> {
+    ghost Value = { WordFlowNumbered T };
+
+    ghost view = { λ s. numbered_token (ring_token s.seat) s.number };
+
+    ghost invariant = { λ s.
+        IsReading s.seat s.number s.position [] s.seen × (s.position < 2 ^ 63) × (s.seen < 2 ^ 63) };
+}

@@ -1,0 +1,41 @@
+//! What the table of a word flow knows of its seats. Except for `RingStart`, no value of these types is ever made.
+ghost use Rattle.std.specs.Prelude.{◌≡◌};
+
+use flow_law::{Config, Knowledge, Said, Sequence, SharedCall, SharedReply};
+
+/// The configuration of a flow, and how many cells its ring has.
+#[derive(Clone, Copy)]
+pub struct RingStart {
+    pub config: Config,
+    pub room: u64,
+}
+
+/// What a caller that holds the lock bit knows.
+pub struct Hold {
+    /// The number of emitted values.
+    pub length: u64,
+    /// How many numbers were issued.
+    pub issued: Option<u64>,
+    /// The reset mark.
+    pub mark: Option<u64>,
+    /// The word of made subscriptions is this much ahead.
+    pub ahead: u64,
+    /// What the caller stored in the free cell.
+    pub cell: Option<u64>,
+}
+
+/// A subscriber's number, the position of the value that it reads next, and what it found in the cells of that position
+/// and the next ones, since its last call.
+pub struct Reads {
+    pub number: u64,
+    pub position: u64,
+    pub words: Sequence<u64>,
+}
+
+/// What one token knows, the start of its flow, what it holds, and what it reads as a subscriber.
+pub struct RingKnown<T> {
+    pub knows: Knowledge<Said<SharedCall<T>, SharedReply<T>>>,
+    pub start: RingStart,
+    pub hold: Option<Hold>,
+    pub reads: Option<Reads>,
+}
