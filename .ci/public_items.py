@@ -130,8 +130,9 @@ def sentences(docs):
     return cut(parts[0]), cut(errors.strip().split("\n\n")[0])
 
 
-def first_sentence(item):
-    return (sentences(item.docs)[0] or [""])[0]
+def comment(item):
+    """The doc comment up to its first heading, as one paragraph."""
+    return " ".join(sentences(item.docs)[0])
 
 
 PUBLIC = re.compile(r"pub (struct|enum|trait|type|const|fn) (\w+)")
