@@ -3,6 +3,7 @@
 
 use flow_law::{Config, FlowFault};
 use flow_shared::{Emitter, Reader, SharedFlow};
+use std::ops::Range;
 use std::sync::Wait;
 use std::thread::join;
 
@@ -13,15 +14,19 @@ fn main(rt: HostRuntime) -> anyhow::Result<()> {
     let (sum, sent) = join(
         &rt,
         || sum_of(&rt, &mut reader, 5),
-        || send(&rt, &mut emitter, 5),
+        || send(&rt, &mut emitter, 1..6),
     );
     sent?;
     println!(rt; "the sum is {}", sum?)?;
     Ok(())
 }
 
-fn send<R: Wait>(rt: &R, emitter: &mut Emitter<'_, i64>, last: i64) -> Result<(), FlowFault> {
-    for value in 1..last + 1 {
+fn send<R: Wait>(
+    rt: &R,
+    emitter: &mut Emitter<'_, i64>,
+    values: Range<i64>,
+) -> Result<(), FlowFault> {
+    for value in values {
         emitter.send(rt, value)?;
     }
     Ok(())
