@@ -11,7 +11,7 @@ import java.util.concurrent.atomic.AtomicLong
  *     caller.record("compare_and_set", 3, 4, answer = { it }) { flow.compareAndSet(3, 4) }
  *     recorder.write("""{"kind": "state", "initial": 0}""", System.out)
  *
- * `record` is inline, so its body may suspend. With kotlinx.coroutines, which `.ci/recorders` does not use, an emitter and a
+ * `record` is inline, so its body may suspend. With kotlinx.coroutines, which `tools/recorders` does not use, an emitter and a
  * collector of a `MutableSharedFlow<Long>`:
  *
  *     emitter.begin("emit", value)

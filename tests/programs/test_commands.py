@@ -11,7 +11,7 @@ from typing import NamedTuple
 
 import pytest
 
-from built import top
+from wumsnair_tools.built import top
 from running import SECONDS, case_id, ended, expect, run
 
 REPLAY = "examples/replay.json"

@@ -13,10 +13,10 @@ import subprocess
 
 import pytest
 
-from built import sources, top
+from wumsnair_tools.built import sources, top
 from refusing import refuse_each
 from running import SECONDS, Outcome, case_id, ended, examples, expect, program, records, run
-from scripts import all_cases, text_of, versions
+from wumsnair_tools.scripts import all_cases, text_of, versions
 
 # The outputs that are compared, each by its word for play.c, and the words for the native programs.
 DRAWN = {"svg": [], "text": ["--text"], "explain": ["--explain"]}

@@ -8,7 +8,7 @@ import pytest
 
 from refusing import refuse_each
 from running import case_id, ended, examples
-from scripts import all_cases, lines_of, text_of, versions
+from wumsnair_tools.scripts import all_cases, lines_of, text_of, versions
 
 OUT_OF_MEMORY = ended(4, "out of memory")
 # The status of a program that ends with an error of its own.

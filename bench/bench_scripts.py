@@ -7,8 +7,8 @@ import json
 import subprocess
 import sys
 
-from built import top
-from scripts import all_cases, lines_of, text_of, versions
+from wumsnair_tools.built import top
+from wumsnair_tools.scripts import all_cases, lines_of, text_of, versions
 
 NEVER = 2**64 - 1
 

@@ -1,9 +1,9 @@
-"""What clauses and definitions mean by their words, read from specs/ and src/: for .ci/believe and .ci/words."""
+"""What clauses and definitions mean by their words, read from specs/ and src/: for tools/believe and tools/words."""
 import collections
 import functools
 import re
 
-import public_items as house
+from wumsnair_tools import public_items as house
 
 NAME = re.compile(r"[^\W\d][\w'-]*(?:\.[^\W\d][\w'-]*)*")
 START = re.compile(r" *(?:pub )?(?:abbrev|unfoldable|record|data) +(?:pub )?([^\W\d][\w'-]*)")

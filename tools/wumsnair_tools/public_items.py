@@ -1,10 +1,10 @@
-"""The public items of the crates, read from their `.rt` sources as `rt fmt` lays them out: for .ci/calls and .ci/believe."""
+"""The public items of the crates, read from their `.rt` sources as `rt fmt` lays them out: for tools/calls and tools/believe."""
 import collections
 import functools
 import pathlib
 import re
 
-top = pathlib.Path(__file__).resolve().parent.parent
+top = pathlib.Path(__file__).resolve().parents[2]
 Item = collections.namedtuple("Item", "docs text clauses inner")
 
 

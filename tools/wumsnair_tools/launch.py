@@ -12,7 +12,7 @@ import tempfile
 import threading
 import time
 
-from built import sources, top
+from wumsnair_tools.built import sources, top
 
 # With this `./play FILE | head` ends as other commands do.
 signal.signal(signal.SIGPIPE, signal.SIG_DFL)

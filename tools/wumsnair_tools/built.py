@@ -4,7 +4,7 @@ import pathlib
 import subprocess
 import sys
 
-top = pathlib.Path(__file__).resolve().parent.parent
+top = pathlib.Path(__file__).resolve().parents[2]
 
 
 def sources(name):

@@ -25,7 +25,7 @@ explained      what `./draw` prints about it on standard error
 """
 import tomllib
 
-from built import top
+from wumsnair_tools.built import top
 
 NO_FLOW = '{"kind":"none"}'
 

@@ -2,11 +2,11 @@
 import hashlib
 import pathlib
 import shutil
-import subprocess
 import sys
 import tempfile
 
-from built import top
+from wumsnair_tools.built import top
+from wumsnair_tools.cargo import REGISTRY, call, cargo_build
 
 # The files of flow_bench have names that end in .in, and are built in a repository of their own, since the gate proves
 # each crate of this repository. The other repository is kept for the next run.
@@ -18,21 +18,12 @@ LIBRARIES = "flow_law flow_core flow_shared flow_word flow_cold flow_turns"
 
 peers_sources = top / "bench" / "peers"
 peers_work = work / "peers"
-# The folder in which Debian's packages put crates; of each crate its folder there, its feature in bench/peers, and the package.
-REGISTRY = pathlib.Path("/usr/share/cargo/registry")
+# Of each crate its folder in the registry, its feature in bench/peers, and the Debian package.
 PACKAGES = [
     ("tokio-1.*", "tokio", "librust-tokio-dev"),
     ("async-broadcast-0.4.*", "async-broadcast", "librust-async-broadcast-dev"),
     ("parking_lot-0.12.*", "parking_lot", "librust-parking-lot-dev"),
 ]
-
-
-def call(folder, *words):
-    """Runs a command in a folder. Exits if it fails."""
-    ran = subprocess.run(words, cwd=folder, capture_output=True, text=True)
-    if ran.returncode != 0:
-        sys.exit(ran.stdout + ran.stderr)
-    return ran.stdout
 
 
 # ---- the flows
@@ -86,12 +77,6 @@ def features():
     found = {feature for folder, feature, _ in PACKAGES if has_cargo and any(REGISTRY.glob(folder))}
     missing = [package for _, feature, package in PACKAGES if feature not in found]
     return sorted(found), missing if has_cargo else ["cargo", *missing]
-
-
-def cargo_build(folder, *words):
-    """Builds the crate in a folder with cargo, only from Debian's packages."""
-    config = ['source.crates-io.replace-with="debian"', f'source.debian.directory="{REGISTRY}"']
-    call(folder, "cargo", "build", "--offline", *words, *(word for line in config for word in ("--config", line)))
 
 
 def build_with_cargo(found):

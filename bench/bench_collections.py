@@ -4,7 +4,7 @@ import subprocess
 import sys
 import time
 
-from built import programs as built_programs
+from wumsnair_tools.built import programs as built_programs
 
 ROUNDS = 9
 
