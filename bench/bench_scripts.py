@@ -1,4 +1,4 @@
-"""Tests the flows and chains in plain Rust of bench/peers by the scripts of examples/ and cases/.
+"""Tests the flows and chains in plain Rust of bench/peers by the scripts of examples/ and tests/cases/.
 
 `ref` has shared flows, state flows, and shared chains of plain lists. It plays each script that is not refused as a whole and
 has no other chain and no collection. `collect` plays the scripts that only collect chains."""

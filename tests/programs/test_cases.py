@@ -1,4 +1,4 @@
-"""Each case of cases/*.toml prints its lines, is explained as it says, and has the rules that it names.
+"""Each case of tests/cases/*.toml prints its lines, is explained as it says, and has the rules that it names.
 
 tools/wumsnair_tools/scripts.py describes the keys of a case."""
 import pytest

@@ -1,6 +1,6 @@
 """The library and the module of the player give what the native programs print.
 
-The scripts are those of examples/ and of cases/, each in its versions, and some that are hard to read. Each is played, drawn as SVG and
+The scripts are those of examples/ and of tests/cases/, each in its versions, and some that are hard to read. Each is played, drawn as SVG and
 as text, listed with its rules, and explained. Each record of examples/records is judged, without the order of its calls and with it. The
 module runs in Node, and Python and C call the library; C does so for some texts under valgrind, and with each request for memory refused
 in turn. The library and the module are those of the folder that --page names, or of page/out; page/build builds them if they are older

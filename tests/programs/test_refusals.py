@@ -1,6 +1,6 @@
 """The programs with one request for memory or for a thread refused, each in turn.
 
-The player plays each script of examples/ and of cases/, the drawer draws those of examples/ as SVG, as text and with their rules, and
+The player plays each script of examples/ and of tests/cases/, the drawer draws those of examples/ as SVG, as text and with their rules, and
 a crowd and a count of threads, `flow_stress` with and without a crowd, and `use_flows` are run: with the first request refused, then
 with the second one, and so on, until a run makes no further request. Each run must print what it prints without a refusal, or only
 `out of memory`, with status 4; in place of the latter `use_flows` prints the beginning of its lines, with status 1."""

@@ -1,4 +1,4 @@
-"""The cases of cases/*.toml as scripts, and the lines that these print.
+"""The cases of tests/cases/*.toml as scripts, and the lines that these print.
 
 A case is a block of one of these files. The text between single quotes reaches the program unchanged, so a case can have a key
 twice, `1e0`, or a text that is not JSON. Lines and rules are typed by hand, from docs/SCRIPTS.md and docs/DEFINITIONS.md.
@@ -32,7 +32,7 @@ NO_FLOW = '{"kind":"none"}'
 
 def all_cases():
     """Each case, with the name of its file."""
-    files = sorted((top / "cases").glob("*.toml"))
+    files = sorted((top / "tests" / "cases").glob("*.toml"))
     return [(file.name, case) for file in files for case in tomllib.loads(file.read_text())["case"]]
 
 
