@@ -17,7 +17,7 @@ from wumsnair_tools.built import sources, top
 # With this `./play FILE | head` ends as other commands do.
 signal.signal(signal.SIGPIPE, signal.SIG_DFL)
 
-VERSION = "0.1.0"
+VERSION = (top / "VERSION").read_text().strip()
 # The status if the command itself fails. The programs use 0, 2, 3 and 4.
 FAILED = 1
 REFUSED = 2
