@@ -83,7 +83,7 @@ FORMS = (
     Form("./judge --version", 0, VERSION),
     Form("./play no_such_file.json", 1, "", NO_FILE),
     Form("./draw no_such_file.json", 1, "", NO_FILE),
-    Form("./judge no_such_file.json", 1, "", NO_FILE),
+    Form("./judge no_such_file.json", 5, "", NO_FILE),
     Form(f"./play {REPLAY} {REPLAY}", 1, "", "one script at a time"),
     Form("./play examples", 1, "", "cannot read examples"),
     Form(f"./play {REFUSED}", 2, text_of("examples/refused_value.lines"), WHY_REFUSED),

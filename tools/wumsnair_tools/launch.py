@@ -1,18 +1,17 @@
-"""The parts that ./play, ./draw and ./judge share: they read the arguments, and find or build the program to run."""
-import contextlib
+"""The parts that ./play, ./draw and ./judge share: they read the arguments, and run a program."""
 import difflib
 import os
-import pathlib
 import select
-import shutil
 import signal
+import stat
 import subprocess
 import sys
-import tempfile
-import threading
 import time
 
-from wumsnair_tools.built import sources, top
+from wumsnair_tools.building import Failed, fresh_program, program, say
+from wumsnair_tools.built import top
+
+__all__ = ["Failed", "fresh_program", "program", "say"]
 
 # With this `./play FILE | head` ends as other commands do.
 signal.signal(signal.SIGPIPE, signal.SIG_DFL)
@@ -23,86 +22,49 @@ FAILED = 1
 REFUSED = 2
 # The most bytes that a program reads of a script: one more than a script may have.
 MOST_READ = 1_048_577
+# The name of standard input, which is read if no file is named, too.
+STANDARD_INPUT = "-"
 # Stands for the time of a watched file's last change if there is no file.
 GONE = -1
 
 
-def say(words):
-    print(words, file=sys.stderr, flush=True)
-
-
 def stop(words):
-    say(words)
-    sys.exit(FAILED)
+    raise Failed(words)
 
 
-def fresh_program(name):
-    """The program that was proved or built last; None if none is as new as its sources."""
-    crate = top / "crates" / name
-    newest = max(file.stat().st_mtime for file in sources(name))
-    built = (crate / "out" / name, crate / "out" / f"{name}.unproved")
-    return next((file for file in built if file.exists() and file.stat().st_mtime >= newest), None)
+def run_command(main, failed=FAILED):
+    """Runs a command to its end. If it fails, prints why, and ends with the status `failed`."""
+    signal.signal(signal.SIGTERM, lambda number, _: sys.exit(128 + number))
+    try:
+        sys.exit(main())
+    except Failed as failure:
+        say(failure)
+        sys.exit(failed)
+    except OSError as error:
+        say(f"{error.filename}: {error.strerror}" if error.filename else error.strerror)
+        sys.exit(failed)
+    except KeyboardInterrupt:
+        sys.exit(128 + signal.SIGINT)
 
 
-def keep(room, kept, has_ended):
-    """Links the program that `rt try` builds in a folder to another name, before `rt try` removes it."""
-    while not has_ended.is_set():
-        for program in pathlib.Path(room).glob("*/*/program"):
-            with contextlib.suppress(OSError):
-                os.link(program, kept)
-        if kept.exists():
-            return
-        time.sleep(0.002)
-
-
-def build(name):
-    """Builds a program without a proof, and returns it; None if that fails."""
-    crate = top / "crates" / name
-    kept = crate / "out" / f"{name}.unproved"
-    kept.parent.mkdir(exist_ok=True)
-    kept.unlink(missing_ok=True)
-    say(f"building {name} without a proof, which takes one to three minutes; `rt run` in crates/{name} proves it as well")
-    with tempfile.TemporaryDirectory(prefix="flows-", dir=kept.parent) as room:
-        # With many runs `rt try` keeps the program for a while.
-        cases = pathlib.Path(room, "cases")
-        cases.mkdir()
-        for number in range(60):
-            (cases / f"{number}.json").touch()
-        has_ended = threading.Event()
-        keeper = threading.Thread(target=keep, args=(room, kept, has_ended))
-        keeper.start()
-        try:
-            tried = subprocess.run(["rt", "try", "--cases", cases], cwd=crate, env={**os.environ, "TMPDIR": room}, capture_output=True)
-        finally:
-            has_ended.set()
-            keeper.join()
-    if tried.returncode != 0:
-        say((tried.stdout + tried.stderr).decode(errors="replace"))
-        kept.unlink(missing_ok=True)
-    elif not kept.exists():
-        say(f"`rt try` left no program where this command looks for it; `rt run` in crates/{name} builds it, too")
-    return kept if kept.exists() else None
-
-
-def program(name):
-    """The program that was proved or built last; if there is none, builds one without a proof."""
-    found = fresh_program(name)
-    if found is None and not shutil.which("rt"):
-        stop("the toolchain's command `rt` is not on this machine")
-    return found or build(name) or sys.exit(FAILED)
+def is_file(word):
+    """Whether a word names a file, and is no option."""
+    return word == STANDARD_INPUT or not word.startswith("-")
 
 
 def file_of(words, what):
-    """The file that the words name, if they name one, and the other words."""
-    files = [word for word in words if not word.startswith("-")]
+    """The file that the words name, or standard input, and the other words."""
+    files = [word for word in words if is_file(word)]
     if len(files) > 1:
         stop(f"one {what} at a time: {' '.join(files)}")
-    return (files or [None])[0], [word for word in words if word.startswith("-")]
+    return (files or [STANDARD_INPUT])[0], [word for word in words if not is_file(word)]
 
 
 def opened(file, what):
-    """The file, or standard input if there is none."""
-    if file is None:
+    """The file, or standard input."""
+    if file == STANDARD_INPUT:
+        if sys.stdin is None:
+            stop(f"standard input is closed: name a {what}, or pass one to it")
         if sys.stdin.isatty():
             say(f"reading a {what} from standard input, up to Ctrl-D; --help lists all forms")
         return sys.stdin.buffer
@@ -117,7 +79,21 @@ def opened(file, what):
 def script_of(words):
     """The text of the script that the words name, or of standard input, and the other words."""
     file, words = file_of(words, "script")
-    return opened(file, "script").read(MOST_READ), words
+    try:
+        return opened(file, "script").read(MOST_READ), words
+    except OSError as error:
+        stop(f"cannot read {file}: {error.strerror}")
+
+
+def run_on(name, words, file, most, what):
+    """Runs a program on a file or on standard input, if it has at most so many bytes. Returns its status."""
+    status = os.fstat(file.fileno())
+    # A file need not be read here. Of a pipe the size is not known.
+    text = None if stat.S_ISREG(status.st_mode) else file.read(most + 1)
+    if (status.st_size if text is None else len(text)) > most:
+        refuse(f"a {what} has at most {most:,} bytes")
+    command = [program(name), *words]
+    return (subprocess.run(command, stdin=file) if text is None else run(command, text)).returncode
 
 
 def run(words, script, **how):
@@ -131,8 +107,8 @@ def run(words, script, **how):
 
 def watched(words):
     """The file to watch."""
-    files = [word for word in words if not word.startswith("-")]
-    if len(files) != 1:
+    files = [word for word in words if is_file(word)]
+    if len(files) != 1 or files[0] == STANDARD_INPUT:
         stop("--watch takes one script: --watch FILE")
     return files[0]
 
@@ -164,7 +140,7 @@ def watch(file, show):
                     print("\x1b[2J\x1b[H", end="", flush=True)
                 try:
                     show()
-                except (SystemExit, FileNotFoundError):
+                except (Failed, SystemExit, FileNotFoundError):
                     # Some editors remove a file before they write it anew.
                     if os.path.exists(file):
                         raise
@@ -173,11 +149,16 @@ def watch(file, show):
         pass
 
 
+def refuse(words):
+    """Prints what is wrong with the arguments, and exits."""
+    say(words)
+    sys.exit(REFUSED)
+
+
 def refuse_word(kind, word, known):
     """Prints that there is no such option or command, and the nearest one, and exits."""
     near = difflib.get_close_matches(word, known, 1)
-    say(f"no {kind} {word}" + (f": did you mean {near[0]}?" if near else "; --help lists them"))
-    sys.exit(REFUSED)
+    refuse(f"no {kind} {word}" + (f": did you mean {near[0]}?" if near else "; --help lists them"))
 
 
 def first_options(words, usage, options):
@@ -189,5 +170,5 @@ def first_options(words, usage, options):
         print(f"wumsnair {VERSION}")
         sys.exit(0)
     for word in words:
-        if word.startswith("-") and word not in options:
+        if not is_file(word) and word not in options:
             refuse_word("option", word, [*options, "--help", "--version"])

@@ -1,0 +1,120 @@
+"""Finds the program that a command runs, or builds it without a proof."""
+import contextlib
+import os
+import pathlib
+import shutil
+import signal
+import subprocess
+import sys
+import tempfile
+import threading
+import time
+
+from wumsnair_tools.built import sources, top
+
+# How many runs `rt try` makes of the program that it builds. It removes the program after the last one.
+RUNS = 60
+
+
+class Failed(Exception):
+    """What a command cannot do, in a sentence; empty if it was said already."""
+
+
+def say(words):
+    print(words, file=sys.stderr, flush=True)
+
+
+def fresh_program(name):
+    """The program that was proved or built last; None if none is as new as its sources."""
+    crate = top / "crates" / name
+    newest = max(file.stat().st_mtime for file in sources(name))
+    built = (crate / "out" / name, crate / "out" / f"{name}.unproved")
+    return next((file for file in built if file.exists() and file.stat().st_mtime >= newest), None)
+
+
+@contextlib.contextmanager
+def seconds_shown():
+    """Shows at a terminal how many seconds have passed, once a second."""
+    if not sys.stderr.isatty():
+        yield
+        return
+    begin, is_over = time.monotonic(), threading.Event()
+
+    def show():
+        while not is_over.wait(1):
+            print(f"\r{time.monotonic() - begin:4.0f} s ", end="", file=sys.stderr, flush=True)
+        print("\r\x1b[K", end="", file=sys.stderr, flush=True)
+
+    shower = threading.Thread(target=show)
+    shower.start()
+    try:
+        yield
+    finally:
+        is_over.set()
+        shower.join()
+
+
+def take_program(trying, room, kept):
+    """Links the program of `rt try` to another name when the first of its runs has ended. Returns what `rt try` printed.
+
+    `rt try` keeps no program, but prints a line for each run that has ended, and makes others after the first one."""
+    said = b""
+    for line in trying.stderr:
+        said += line
+        if line.startswith(b"case=") and not kept.exists():
+            for program in pathlib.Path(room).glob("*/*/program"):
+                with contextlib.suppress(OSError):
+                    os.link(program, kept)
+            if kept.exists():
+                break
+    return said
+
+
+def end(trying):
+    """Ends `rt try`, which then removes its folder."""
+    if trying.poll() is None:
+        trying.send_signal(signal.SIGTERM)
+    trying.stderr.close()
+    trying.wait()
+
+
+def try_cases(crate, room, kept):
+    """Builds the program of a crate by `rt try`, and puts it in its place. Returns what `rt try` printed if that fails."""
+    cases, new = pathlib.Path(room, "cases"), pathlib.Path(room, "new")
+    cases.mkdir()
+    for number in range(RUNS):
+        (cases / f"{number}.json").touch()
+    how = {"stdin": subprocess.DEVNULL, "stdout": subprocess.DEVNULL, "stderr": subprocess.PIPE, "start_new_session": True}
+    trying = subprocess.Popen(["rt", "try", "--cases", cases], cwd=crate, env={**os.environ, "TMPDIR": room}, **how)
+    try:
+        said = take_program(trying, room, new)
+    finally:
+        end(trying)
+    if new.exists():
+        new.replace(kept)
+        return None
+    return said.decode(errors="replace").strip() or f"`rt try` ended with status {trying.returncode}"
+
+
+def build(name):
+    """Builds a program without a proof, and returns it."""
+    crate = top / "crates" / name
+    kept = crate / "out" / f"{name}.unproved"
+    say(f"building {name} without a proof, which takes one to three minutes; `rt run` in crates/{name} proves it as well")
+    try:
+        kept.parent.mkdir(exist_ok=True)
+        with tempfile.TemporaryDirectory(prefix="flows-", dir=kept.parent) as room, seconds_shown():
+            failure = try_cases(crate, room, kept)
+    except OSError as error:
+        raise Failed(f"cannot build {name} in {kept.parent}: {error.strerror}") from error
+    if failure:
+        raise Failed(f"{failure}\n{name} could not be built; `rt run` in crates/{name} builds it, too")
+    return kept
+
+
+def program(name):
+    """The program that was proved or built last; if there is none, builds one without a proof."""
+    found = fresh_program(name)
+    if found is None and not shutil.which("rt"):
+        raise Failed("the toolchain's command `rt` is not on this machine")
+    return found or build(name)
