@@ -1,4 +1,5 @@
 """tools/gate runs its parts, stops at the first that fails, and prints the time of each."""
+import re
 import subprocess
 
 import pytest
@@ -41,6 +42,11 @@ def test_parts_run_in_their_order(gate, monkeypatch, capfd):
     printed = capfd.readouterr().out.splitlines()
     assert [line for line in printed if len(line) == 1] == ["a", "c"]
     assert printed[-1] == "gate: passed"
+
+
+def test_contributing_lists_the_parts():
+    listed = re.findall(r"^\| `(\w+)` \|", (top / "CONTRIBUTING.md").read_text(), re.M)
+    assert listed == PARTS
 
 
 def test_every_command_of_a_part_exists(gate):

@@ -10,7 +10,7 @@ top = pathlib.Path(__file__).resolve().parents[2]
 def sources(name):
     """The code that a program is built of."""
     lines = [line.partition(":") for line in (top / "crates.txt").read_text().splitlines()]
-    below = {name.split()[0]: names.split() for name, _, names in lines if names and not name.startswith("#")}
+    below = {name.split()[0]: names.split() for name, colon, names in lines if colon and not name.startswith("#")}
     left, taken = [name], set()
     while left:
         name = left.pop()
