@@ -6,7 +6,7 @@ import pytest
 
 from wumsnair_tools.built import top
 
-PARTS = "scripts pages proofs refused recorders pictures page programs".split()
+PARTS = "scripts pages blocks proofs refused recorders pictures page programs".split()
 
 
 def gate_of(*words):
