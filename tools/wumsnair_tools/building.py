@@ -12,8 +12,8 @@ import time
 
 from wumsnair_tools.built import sources, top
 
-# How many runs `rt try` makes of the program that it builds. It removes the program after the last one.
-RUNS = 60
+# How many runs `rt try` makes of the program that it builds.
+RUNS = 40
 
 
 class Failed(Exception):
@@ -54,28 +54,33 @@ def seconds_shown():
         shower.join()
 
 
+def keep(room, kept, has_ended):
+    """Links the program of a run of `rt try` to another name, before `rt try` removes it."""
+    while not has_ended.wait(0.002):
+        for program in pathlib.Path(room).glob("*/*/program"):
+            with contextlib.suppress(OSError):
+                os.link(program, kept)
+        if kept.exists():
+            return
+
+
 def take_program(trying, room, kept):
-    """Links the program of `rt try` to another name when the first of its runs has ended. Returns what `rt try` printed.
+    """Links the program that `rt try` builds to another name, and returns what `rt try` printed.
 
-    `rt try` keeps no program, but prints a line for each run that has ended, and makes others after the first one."""
-    said = b""
-    for line in trying.stderr:
-        said += line
-        if line.startswith(b"case=") and not kept.exists():
-            for program in pathlib.Path(room).glob("*/*/program"):
-                with contextlib.suppress(OSError):
-                    os.link(program, kept)
-            if kept.exists():
-                break
+    It keeps no program, but puts one into a folder of its own for each run, and prints a line when a run has ended. So the
+    line of the first run says that the program is built, and it is there again for each of the others."""
+    said, keeper, has_ended = b"", None, threading.Event()
+    try:
+        for line in trying.stderr:
+            said += line
+            if keeper is None and line.startswith(b"case="):
+                keeper = threading.Thread(target=keep, args=(room, kept, has_ended))
+                keeper.start()
+    finally:
+        has_ended.set()
+        if keeper:
+            keeper.join()
     return said
-
-
-def end(trying):
-    """Ends `rt try`, which then removes its folder."""
-    if trying.poll() is None:
-        trying.send_signal(signal.SIGTERM)
-    trying.stderr.close()
-    trying.wait()
 
 
 def try_cases(crate, room, kept):
@@ -88,9 +93,13 @@ def try_cases(crate, room, kept):
     trying = subprocess.Popen(["rt", "try", "--cases", cases], cwd=crate, env={**os.environ, "TMPDIR": room}, **how)
     try:
         said = take_program(trying, room, new)
+    except BaseException:
+        # Then `rt try` removes its folder.
+        trying.send_signal(signal.SIGTERM)
+        raise
     finally:
-        end(trying)
-    if new.exists():
+        trying.wait()
+    if new.exists() and trying.returncode == 0:
         new.replace(kept)
         return None
     return said.decode(errors="replace").strip() or f"`rt try` ended with status {trying.returncode}"
