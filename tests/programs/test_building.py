@@ -17,7 +17,7 @@ fn main(rt: HostRuntime) -> io::Result<()> {
 """
 BUILD = "from wumsnair_tools.building import program; print(program('small'))"
 # The most seconds that the build may take.
-LONG = 900
+LONG = 1800
 
 
 def test_program_without_a_proof(tmp_path):

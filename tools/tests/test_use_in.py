@@ -73,14 +73,14 @@ def test_changed_copy_is_not_overwritten(tmp_path):
     changed = tmp_path / "crates/flow_law/src/lib.rt"
     changed.write_text("// mine\n")
     ran = use_in(tmp_path, "flow_law")
-    assert (ran.returncode, ran.stdout) == (1, "")
+    assert (ran.returncode, ran.stdout) == (6, "")
     assert ran.stderr == "changed since they were copied, so nothing is copied: flow_law; move them away first\n"
     assert changed.read_text() == "// mine\n"
 
 
 REFUSALS = (
-    ([top / "no_such_folder", "flow_law"], 1, f"no such folder: {top}/no_such_folder\n"),
-    ([top, "flow_law"], 1, f"{top} is this repository\n"),
+    ([top / "no_such_folder", "flow_law"], 6, f"no such folder: {top}/no_such_folder\n"),
+    ([top, "flow_law"], 6, f"{top} is this repository\n"),
     (["/", "no_such_crate"], 2, "no crate of this repository: no_such_crate; --help lists the crates\n"),
     (["/"], 2, "name a folder and at least one crate: ./use_in FOLDER CRATE..; --help lists the crates\n"),
     (["--all", "/"], 2, "no option --all; --help lists the forms\n"),
@@ -97,7 +97,7 @@ def test_file_in_the_way(tmp_path):
     """The command says what it cannot write."""
     (tmp_path / "crates").write_text("")
     ran = use_in(tmp_path, "flow_law")
-    assert (ran.returncode, ran.stdout) == (1, "")
+    assert (ran.returncode, ran.stdout) == (6, "")
     assert ran.stderr.startswith(f"cannot copy to {tmp_path}: ") and ran.stderr.count("\n") == 1
 
 

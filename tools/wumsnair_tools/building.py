@@ -14,14 +14,18 @@ from wumsnair_tools.built import sources, top
 
 # How many runs `rt try` makes of the program that it builds.
 RUNS = 40
-
-
-class Failed(Exception):
-    """What a command cannot do, in a sentence; empty if it was said already."""
+# The status if the command itself fails. The programs use 0 to 4, and the C library 5.
+FAILED = 6
 
 
 def say(words):
     print(words, file=sys.stderr, flush=True)
+
+
+def stop(words):
+    """Ends the command, since it cannot do what is asked."""
+    say(words)
+    sys.exit(FAILED)
 
 
 def fresh_program(name):
@@ -115,9 +119,9 @@ def build(name):
         with tempfile.TemporaryDirectory(prefix="flows-", dir=kept.parent) as room, seconds_shown():
             failure = try_cases(crate, room, kept)
     except OSError as error:
-        raise Failed(f"cannot build {name} in {kept.parent}: {error.strerror}") from error
+        stop(f"cannot build {name} in {kept.parent}: {error.strerror}")
     if failure:
-        raise Failed(f"{failure}\n{name} could not be built; `rt run` in crates/{name} builds it, too")
+        stop(f"{failure}\n{name} could not be built; `rt run` in crates/{name} builds it, too")
     return kept
 
 
@@ -125,5 +129,5 @@ def program(name):
     """The program that was proved or built last; if there is none, builds one without a proof."""
     found = fresh_program(name)
     if found is None and not shutil.which("rt"):
-        raise Failed("the toolchain's command `rt` is not on this machine")
+        stop("the toolchain's command `rt` is not on this machine")
     return found or build(name)

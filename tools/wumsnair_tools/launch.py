@@ -8,17 +8,16 @@ import subprocess
 import sys
 import time
 
-from wumsnair_tools.building import Failed, fresh_program, program, say
+from wumsnair_tools.building import FAILED, fresh_program, program, say, stop
 from wumsnair_tools.built import top
 
-__all__ = ["Failed", "fresh_program", "program", "say"]
+# The commands take these from here, too.
+__all__ = ["FAILED", "fresh_program", "program", "say", "stop"]
 
 # With this `./play FILE | head` ends as other commands do.
 signal.signal(signal.SIGPIPE, signal.SIG_DFL)
 
 VERSION = (top / "VERSION").read_text().strip()
-# The status if the command itself fails. The programs use 0, 2, 3 and 4.
-FAILED = 1
 REFUSED = 2
 # The most bytes that a program reads of a script: one more than a script may have.
 MOST_READ = 1_048_577
@@ -28,21 +27,13 @@ STANDARD_INPUT = "-"
 GONE = -1
 
 
-def stop(words):
-    raise Failed(words)
-
-
-def run_command(main, failed=FAILED):
-    """Runs a command to its end. If it fails, prints why, and ends with the status `failed`."""
+def run_command(main):
+    """Runs a command to its end. An interrupt, or a file that cannot be used, ends it without a traceback."""
     signal.signal(signal.SIGTERM, lambda number, _: sys.exit(128 + number))
     try:
         sys.exit(main())
-    except Failed as failure:
-        say(failure)
-        sys.exit(failed)
     except OSError as error:
-        say(f"{error.filename}: {error.strerror}" if error.filename else error.strerror)
-        sys.exit(failed)
+        stop(f"{error.filename}: {error.strerror}" if error.filename else error.strerror)
     except KeyboardInterrupt:
         sys.exit(128 + signal.SIGINT)
 
@@ -62,7 +53,7 @@ def file_of(words, what):
 
 def opened(file, what):
     """The file, or standard input."""
-    if file == STANDARD_INPUT:
+    if file in (None, STANDARD_INPUT):
         if sys.stdin is None:
             stop(f"standard input is closed: name a {what}, or pass one to it")
         if sys.stdin.isatty():
@@ -140,7 +131,7 @@ def watch(file, show):
                     print("\x1b[2J\x1b[H", end="", flush=True)
                 try:
                     show()
-                except (Failed, SystemExit, FileNotFoundError):
+                except (SystemExit, FileNotFoundError):
                     # Some editors remove a file before they write it anew.
                     if os.path.exists(file):
                         raise
