@@ -11,11 +11,20 @@ TOP = pathlib.Path(__file__).resolve().parents[2]
 sys.path.insert(0, str(TOP / "tools"))
 
 
-@pytest.fixture
-def gate():
-    """The module of tools/gate."""
-    loader = importlib.machinery.SourceFileLoader("gate", str(TOP / "tools" / "gate"))
-    module = importlib.util.module_from_spec(importlib.util.spec_from_loader("gate", loader))
-    sys.modules["gate"] = module
+def module_of(command):
+    """The module of a command of tools/."""
+    loader = importlib.machinery.SourceFileLoader(command, str(TOP / "tools" / command))
+    module = importlib.util.module_from_spec(importlib.util.spec_from_loader(command, loader))
+    sys.modules[command] = module
     loader.exec_module(module)
     return module
+
+
+@pytest.fixture
+def gate():
+    return module_of("gate")
+
+
+@pytest.fixture
+def refused():
+    return module_of("refused")

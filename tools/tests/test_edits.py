@@ -48,3 +48,23 @@ def test_folders_of_the_kit(tmp_path):
 @pytest.mark.parametrize("text, made", [("a b c", "x b y"), ("a b", None), ("a b c c", None)])
 def test_each_old_text_is_in_the_file_once(text, made):
     assert Edit("changes two", "src/lib.rt", ["a", "c"], ["x", "y"]).made(text) == made
+
+
+def test_edits_are_taken(refused, monkeypatch, tmp_path):
+    """An edit of the same name keeps its name as a sentence, and its clause. Other edits stay."""
+    monkeypatch.setattr("wumsnair_tools.edits.REFUSED", tmp_path)
+    old = Edit("try_emit emits twice", "src/lib.rt", ["a"], ["b"], clause="`documented` of `TryEmit::run`")
+    (tmp_path / "flow_shared.toml").write_text(toml_of([old]))
+    for name, text in (("try_emit_emits_twice", GATE), ("state_is_lost", OUTSIDE)):
+        (tmp_path / f"{name}.edit").write_text(text)
+    refused.main(["--take", "flow_shared", *map(str, sorted(tmp_path.glob("*.edit")))])
+    new, taken = edits_of("flow_shared")
+    assert (new.name, kit_text(new)) == ("state is lost", OUTSIDE)
+    assert (taken.name, taken.clause, kit_text(taken)) == (old.name, old.clause, GATE)
+
+
+def test_function_of_an_edit(refused):
+    """An edit of an attribute belongs to the function below it."""
+    text = "fn first() {\n    one;\n}\n\n#[inline]\npub fn second() {\n    two;\n}\n"
+    edit = Edit("changes both", "src/lib.rt", ["one;", "#[inline]", "two;"], ["", "", ""])
+    assert list(refused.functions(edit, text)) == [(0, "first"), (5, "second"), (5, "second")]
