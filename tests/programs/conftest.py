@@ -1,11 +1,11 @@
-"""What the tests of the built programs share: the programs, the shim that refuses memory, and the options of .ci/programs."""
+"""What the tests of the built programs share: the programs, the shim that refuses memory, and the options of tools/programs."""
 import pathlib
 import sys
 
 import hypothesis
 import pytest
 
-sys.path.insert(0, str(pathlib.Path(__file__).resolve().parents[2] / ".ci"))
+sys.path.insert(0, str(pathlib.Path(__file__).resolve().parents[2] / "tools"))
 from refusing import build_shim
 from running import program
 

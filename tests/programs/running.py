@@ -9,7 +9,7 @@ from typing import NamedTuple
 import pytest
 from hypothesis import seed, settings
 
-from built import programs, top
+from wumsnair_tools.built import programs, top
 
 # The most seconds that a run may take, and the most that is shown of a difference.
 SECONDS = 60

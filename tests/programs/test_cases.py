@@ -1,10 +1,10 @@
-"""Each case of cases/*.toml prints its lines, is explained as it says, and has the rules that it names.
+"""Each case of tests/cases/*.toml prints its lines, is explained as it says, and has the rules that it names.
 
-.ci/scripts.py describes the keys of a case."""
+tools/wumsnair_tools/scripts.py describes the keys of a case."""
 import pytest
 
 from running import case_id, ended, expect, run
-from scripts import all_cases, lines_of, text_of, versions
+from wumsnair_tools.scripts import all_cases, lines_of, text_of, versions
 
 PLAYED, REFUSED = 0, 2
 

@@ -11,7 +11,7 @@ from typing import NamedTuple
 
 import pytest
 
-from built import top
+from wumsnair_tools.built import top
 from running import SECONDS, case_id, ended, expect, run
 
 REPLAY = "examples/replay.json"
@@ -19,7 +19,7 @@ REFUSED = "examples/refused_value.json"
 TORN = "examples/records/illegal_state_torn_exchange.json"
 OVERLAP = "examples/records/legal_state_overlap.json"
 STALE = "examples/records/illegal_state_stale.json"
-VERSION = "wumsnair 0.1.0\n"
+VERSION = f"wumsnair {(top / 'VERSION').read_text()}"
 TOO_LARGE = "script refused 8 TooLarge at step 0\n"
 NO_FILE = "no such file: no_such_file.json"
 WHY_REFUSED = "line 5, column 33: step 1: 1.5 is no value"
@@ -81,11 +81,11 @@ FORMS = (
     Form("./play --version", 0, VERSION),
     Form("./draw --version", 0, VERSION),
     Form("./judge --version", 0, VERSION),
-    Form("./play no_such_file.json", 1, "", NO_FILE),
-    Form("./draw no_such_file.json", 1, "", NO_FILE),
-    Form("./judge no_such_file.json", 1, "", NO_FILE),
-    Form(f"./play {REPLAY} {REPLAY}", 1, "", "one script at a time"),
-    Form("./play examples", 1, "", "cannot read examples"),
+    Form("./play no_such_file.json", 6, "", NO_FILE),
+    Form("./draw no_such_file.json", 6, "", NO_FILE),
+    Form("./judge no_such_file.json", 6, "", NO_FILE),
+    Form(f"./play {REPLAY} {REPLAY}", 6, "", "one script at a time"),
+    Form("./play examples", 6, "", "cannot read examples"),
     Form(f"./play {REFUSED}", 2, text_of("examples/refused_value.lines"), WHY_REFUSED),
     Form("./play", 2, text_of("examples/refused_value.lines"), WHY_REFUSED, text_of(REFUSED)),
     # A script that is longer than the program reads.

@@ -1,6 +1,6 @@
 """The library and the module of the player give what the native programs print.
 
-The scripts are those of examples/ and of cases/, each in its versions, and some that are hard to read. Each is played, drawn as SVG and
+The scripts are those of examples/ and of tests/cases/, each in its versions, and some that are hard to read. Each is played, drawn as SVG and
 as text, listed with its rules, and explained. Each record of examples/records is judged, without the order of its calls and with it. The
 module runs in Node, and Python and C call the library; C does so for some texts under valgrind, and with each request for memory refused
 in turn. The library and the module are those of the folder that --page names, or of page/out; page/build builds them if they are older
@@ -13,10 +13,10 @@ import subprocess
 
 import pytest
 
-from built import sources, top
+from wumsnair_tools.built import sources, top
 from refusing import refuse_each
 from running import SECONDS, Outcome, case_id, ended, examples, expect, program, records, run
-from scripts import all_cases, text_of, versions
+from wumsnair_tools.scripts import all_cases, text_of, versions
 
 # The outputs that are compared, each by its word for play.c, and the words for the native programs.
 DRAWN = {"svg": [], "text": ["--text"], "explain": ["--explain"]}

@@ -1,6 +1,6 @@
 """The judge and a plain search through all orders give random small records the same verdict, and errors that were planted are found.
 
-The plain search is plain_flows.py. `.ci/programs -k random_records --hypothesis-profile=search` tries other and more records."""
+The plain search is plain_flows.py. `tools/programs -k random_records --hypothesis-profile=search` tries other and more records."""
 import pytest
 from hypothesis import given
 

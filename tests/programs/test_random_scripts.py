@@ -1,6 +1,6 @@
 """Each player prints the same lines for random scripts as flow_play by LLVM, and ends with the same status.
 
-`.ci/programs -k random_scripts --hypothesis-profile=search` tries other and more scripts."""
+`tools/programs -k random_scripts --hypothesis-profile=search` tries other and more scripts."""
 import json
 import re
 

@@ -1,12 +1,12 @@
 """The verdicts and pictures of the records of examples/records, and the verdicts on calls of threads to this library's flows.
 
 The verdict is the first word of the record's name. For an illegal or refused record the file .told beside it has what must be printed,
-typed by hand. A picture must mark the calls that the verdict lists. docs/pictures has one picture, which `.ci/programs --write -k
+typed by hand. A picture must mark the calls that the verdict lists. docs/pictures has one picture, which `tools/programs --write -k
 picture_of_the_page` draws again. What flow_stress records of threads must be legal: no proof says that calls which do not overlap keep
 their order."""
 import pytest
 
-from built import top
+from wumsnair_tools.built import top
 from record_pictures import bars_of, marked_in_text, words_of
 from running import Outcome, expect, program, records, run
 

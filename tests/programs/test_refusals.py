@@ -1,6 +1,6 @@
 """The programs with one request for memory or for a thread refused, each in turn.
 
-The player plays each script of examples/ and of cases/, the drawer draws those of examples/ as SVG, as text and with their rules, and
+The player plays each script of examples/ and of tests/cases/, the drawer draws those of examples/ as SVG, as text and with their rules, and
 a crowd and a count of threads, `flow_stress` with and without a crowd, and `use_flows` are run: with the first request refused, then
 with the second one, and so on, until a run makes no further request. Each run must print what it prints without a refusal, or only
 `out of memory`, with status 4; in place of the latter `use_flows` prints the beginning of its lines, with status 1."""
@@ -8,7 +8,7 @@ import pytest
 
 from refusing import refuse_each
 from running import case_id, ended, examples
-from scripts import all_cases, lines_of, text_of, versions
+from wumsnair_tools.scripts import all_cases, lines_of, text_of, versions
 
 OUT_OF_MEMORY = ended(4, "out of memory")
 # The status of a program that ends with an error of its own.

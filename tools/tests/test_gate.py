@@ -1,0 +1,54 @@
+"""tools/gate runs its parts, stops at the first that fails, and prints the time of each."""
+import re
+import subprocess
+
+import pytest
+
+from wumsnair_tools.built import top
+
+PARTS = "scripts pages blocks proofs refused recorders pictures page programs".split()
+
+
+def gate_of(*words):
+    return subprocess.run([top / ".ci" / "run", *words], capture_output=True, text=True)
+
+
+def test_help_lists_the_parts_in_order():
+    told = gate_of("--help").stdout
+    places = [told.index(f"\n  {name} ") for name in PARTS]
+    assert places == sorted(places)
+
+
+@pytest.mark.parametrize("name, said", [("proof", "no part proof: did you mean proofs?\n"), ("zzz", "no part zzz; --help lists them\n")])
+def test_unknown_part(name, said):
+    ran = gate_of(name)
+    assert (ran.returncode, ran.stdout, ran.stderr) == (2, "", said)
+
+
+def test_part_that_fails_ends_the_run(gate, monkeypatch, capfd):
+    parts = [gate.Part(name, "", "", [["sh", "-c", f"echo {name}; exit {status}"]]) for name, status in (("a", 0), ("b", 7), ("c", 0))]
+    monkeypatch.setattr(gate, "PARTS", parts)
+    assert gate.main([]) == 1
+    printed = capfd.readouterr().out.splitlines()
+    assert [line.split()[0] for line in printed[-4:-1]] == ["part", "a", "b"]
+    assert printed[-1] == "gate: failed: sh -c echo b; exit 7 (status 7)"
+    assert "c" not in printed
+
+
+def test_parts_run_in_their_order(gate, monkeypatch, capfd):
+    parts = [gate.Part(name, "", "", [["echo", name]]) for name in "abc"]
+    monkeypatch.setattr(gate, "PARTS", parts)
+    assert gate.main(["c", "a"]) == 0
+    printed = capfd.readouterr().out.splitlines()
+    assert [line for line in printed if len(line) == 1] == ["a", "c"]
+    assert printed[-1] == "gate: passed"
+
+
+def test_contributing_lists_the_parts():
+    listed = re.findall(r"^\| `(\w+)` \|", (top / "CONTRIBUTING.md").read_text(), re.M)
+    assert listed == PARTS
+
+
+def test_every_command_of_a_part_exists(gate):
+    words = [command[0] for part in gate.PARTS for command in part.commands if command[0].startswith("tools/")]
+    assert words and all((top / word).is_file() for word in words)

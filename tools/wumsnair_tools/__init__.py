@@ -1,0 +1,1 @@
+"""What the commands of this repository, its checks and its tests share."""
