@@ -18,8 +18,8 @@ from built import sources, top
 signal.signal(signal.SIGPIPE, signal.SIG_DFL)
 
 VERSION = "0.1.0"
-# The status if the command itself fails. The programs use 0, 2, 3 and 4.
-FAILED = 1
+# The status if the command itself fails. The programs use 0 to 4, and the library 5.
+FAILED = 6
 REFUSED = 2
 # The most bytes that a program reads of a script: one more than a script may have.
 MOST_READ = 1_048_577
@@ -89,7 +89,10 @@ def program(name):
     found = fresh_program(name)
     if found is None and not shutil.which("rt"):
         stop("the toolchain's command `rt` is not on this machine")
-    return found or build(name) or sys.exit(FAILED)
+    try:
+        return found or build(name) or sys.exit(FAILED)
+    except PermissionError as error:
+        stop(f"cannot build {name} in crates/{name}/out: {error.strerror}")
 
 
 def file_of(words, what):
@@ -102,6 +105,8 @@ def file_of(words, what):
 
 def opened(file, what):
     """The file, or standard input if there is none."""
+    if file is None and sys.stdin is None:
+        stop("standard input is closed; --help lists all forms")
     if file is None:
         if sys.stdin.isatty():
             say(f"reading a {what} from standard input, up to Ctrl-D; --help lists all forms")
@@ -173,11 +178,15 @@ def watch(file, show):
         pass
 
 
+def refuse(words):
+    say(words)
+    sys.exit(REFUSED)
+
+
 def refuse_word(kind, word, known):
     """Prints that there is no such option or command, and the nearest one, and exits."""
     near = difflib.get_close_matches(word, known, 1)
-    say(f"no {kind} {word}" + (f": did you mean {near[0]}?" if near else "; --help lists them"))
-    sys.exit(REFUSED)
+    refuse(f"no {kind} {word}" + (f": did you mean {near[0]}?" if near else "; --help lists them"))
 
 
 def first_options(words, usage, options):

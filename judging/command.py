@@ -1,0 +1,156 @@
+"""The command ./judge."""
+import os
+import subprocess
+import sys
+from dataclasses import dataclass, field
+
+import ways
+import launch
+import oracle
+import reports
+import shrinking
+
+OPTIONS = ["--order", "--draw", "--text", "--json", "--junit", "--seconds", "--shrink"]
+# The options that the program takes.
+FLAGS = ["--order", "--draw", "--text"]
+
+
+@dataclass
+class Asks:
+    """What a call of the command asks for."""
+
+    flags: list = field(default_factory=list)
+    files: list = field(default_factory=list)
+    seconds: float | None = None
+    form: str | None = None
+
+    @property
+    def flags_of_program(self):
+        return [flag for flag in self.flags if flag in FLAGS]
+
+
+def seconds_of(word):
+    try:
+        seconds = float(word or "")
+    except ValueError:
+        seconds = 0
+    if not 0 < seconds < 2_000_000:
+        launch.refuse("--seconds takes a number of seconds above 0")
+    return seconds
+
+
+def asked(words):
+    """What the words ask for."""
+    asks, rest = Asks(), iter(words)
+    for word in rest:
+        if word == "--seconds":
+            asks.seconds = seconds_of(next(rest, None))
+        elif word in ("--json", "--junit", "--shrink"):
+            asks.form = word
+        elif word.startswith("-"):
+            asks.flags.append(word)
+        else:
+            asks.files.append(word)
+    if len(asks.files) > 1 and (asks.form == "--shrink" or "--draw" in asks.flags):
+        launch.stop(f"one record at a time: {' '.join(asks.files)}")
+    return asks
+
+
+def put(words):
+    """Prints words. Returns whether that went well."""
+    try:
+        sys.stdout.buffer.write(words if isinstance(words, bytes) else words.encode(errors="surrogateescape"))
+        sys.stdout.buffer.flush()
+    except OSError as error:
+        launch.say(f"cannot write: {error.strerror}")
+        # Python would try to write the rest as it ends.
+        os.dup2(os.open(os.devnull, os.O_WRONLY), 1)
+        return False
+    return True
+
+
+class Unread(Exception):
+    """Why a record was not read. The status is the first argument, and the words the second one."""
+
+
+def text_of(file):
+    """The bytes of a record, or of the first part of one that is too long."""
+    try:
+        source = launch.opened(None, "record") if file is None else open(file, "rb")
+    except FileNotFoundError:
+        raise Unread(launch.FAILED, f"no such file: {file}")
+    except OSError as error:
+        raise Unread(launch.FAILED, f"cannot read {file}: {error.strerror}")
+    try:
+        return source.read(oracle.MOST_BYTES + 1)
+    except OSError as error:
+        raise Unread(oracle.FAILED, f"cannot read {file or 'standard input'}: {error.strerror}")
+
+
+def judge_file(words, file, asks):
+    """The verdict on a file, or on standard input."""
+    name = file or "-"
+    try:
+        text = text_of(file)
+    except Unread as error:
+        return oracle.Verdict(name, "failed", error.args[0], hints=[error.args[1]])
+    if ways.is_slow(words) and len(text) > ways.LARGE:
+        launch.say(ways.SLOW)
+    return oracle.judged([*words, *asks.flags_of_program], name, text, asks.seconds, asks.form is not None)
+
+
+def show(told, is_only):
+    """Prints the verdict on one of several records, or on the only one. Returns whether that went well."""
+    went_well = put(told.words if is_only else f"{told.record}: {told.words or told.verdict + chr(10)}")
+    for hint in told.hints:
+        launch.say(hint if told.verdict == "failed" else f"hint: {hint}" if is_only else f"{told.record}: hint: {hint}")
+    return went_well
+
+
+def report(verdicts, asks):
+    """The last part of what is printed: a report, or the summary of several records."""
+    if asks.form == "--json":
+        return reports.json_report(verdicts, "--order" in asks.flags)
+    if asks.form == "--junit":
+        return reports.junit_report(verdicts)
+    return reports.summary(verdicts) if len(verdicts) > 1 else ""
+
+
+def judge_all(words, asks):
+    """Judges the records. Returns the status."""
+    verdicts, went_well = [], True
+    for file in asks.files or [None]:
+        verdicts.append(judge_file(words, file, asks))
+        if asks.form is None:
+            went_well &= show(verdicts[-1], len(asks.files) < 2)
+    went_well &= put(report(verdicts, asks))
+    return reports.status_of(verdicts) if went_well else oracle.FAILED
+
+
+def shrink(asks):
+    """Prints the smallest illegal record that is found. Returns the status of the record."""
+    try:
+        text = text_of((asks.files or [None])[0])
+    except Unread as error:
+        launch.say(error.args[1])
+        return error.args[0]
+    status, words, small = shrinking.shrink(oracle.many(), text, asks.seconds)
+    if small is None:
+        launch.say(words.rstrip("\n"))
+        return status
+    launch.say(words)
+    return status if put(small) else oracle.FAILED
+
+
+def main(words, usage):
+    launch.first_options(words, usage, OPTIONS)
+    asks = asked(words)
+    if asks.form == "--shrink":
+        return shrink(asks)
+    program = ways.command("flow_judge", may_be_node="--draw" not in asks.flags and "--text" not in asks.flags)
+    if ways.is_node(program):
+        sys.stdout.flush()
+        return subprocess.run([*program, *words]).returncode
+    if "--draw" in asks.flags:
+        return subprocess.run([*program, *asks.flags_of_program], stdin=launch.opened((asks.files or [None])[0], "record")).returncode
+    return judge_all(program, asks)
