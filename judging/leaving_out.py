@@ -122,7 +122,7 @@ class Case:
         own = {place for place in places if is_of_subscriber(self.calls[place])}
         whole = [part for part in (*self.sessions(), *self.ends_of_sessions()) if part <= own]
         rest = own - set().union(*whole)
-        changes = any(not changed_nothing(self.calls[place]) for part in whole for place in part)
+        changes = [*whole, *(place for place in places if self.calls[place]["call"] == "first")]
         return all(changed_nothing(self.calls[place]) for place in rest) and not (changes and self.depends_on_subscribers(left))
 
     def keeps_values(self, gone, left):
