@@ -8,6 +8,7 @@ from dataclasses import dataclass, field
 import launch
 import remedies
 import ways
+from built import sources
 
 VERDICTS = {0: "legal", 1: "illegal", 2: "refused", 3: "gave up"}
 # The most bytes of a record.
@@ -59,7 +60,7 @@ def judged(words, record, text, seconds=None, reads_calls=False):
 def library():
     """The library that page/build made, as a module; None if it is older than the code."""
     made = ways.top / "page" / "out" / "wumsnair.py"
-    if not made.exists() or made.stat().st_mtime < max(file.stat().st_mtime for file in ways.sources("flow_calls")):
+    if not made.exists() or made.stat().st_mtime < max(file.stat().st_mtime for file in sources("flow_calls")):
         return None
     spec = importlib.util.spec_from_file_location("wumsnair", made)
     module = importlib.util.module_from_spec(spec)

@@ -11,7 +11,6 @@ import sys
 top = pathlib.Path(__file__).resolve().parent.parent
 sys.path[:0] = [str(top / ".ci"), str(top / "page" / "make")]
 import launch
-from built import sources
 from bundle_command import sum_of_sources
 
 KEPT = top / "wumsnair.mjs"

@@ -14,8 +14,8 @@ page, top = make.parent, make.parent.parent
 sys.path[:0] = [str(make), str(top / ".ci")]
 from bundle import compressed
 from built import sources
+from launch import VERSION
 
-VERSION = "0.1.0"
 OWN = re.compile(r'^import \{[^}]*\} from "(\.[\w./]+)";\n', re.M)
 OF_NODE = re.compile(r'^import \{ ([^}]*) \} from "(node:\w+)";\n', re.M)
 
