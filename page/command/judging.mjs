@@ -4,7 +4,7 @@ import { VERDICT, textOf } from "../web/player.js";
 import { lookAt } from "./remedies.mjs";
 
 /** The verdicts by the statuses of the module, each with its status as a command. */
-const VERDICTS = {
+const BY_STATUS = {
   [VERDICT.LEGAL]: ["legal", 0],
   [VERDICT.ILLEGAL]: ["illegal", 1],
   [VERDICT.REFUSED]: ["refused", 2],
@@ -26,7 +26,7 @@ export function verdictOf(player, bytes, withOrder) {
   }
   try {
     const answer = player.check(bytes, withOrder);
-    const [verdict, status] = VERDICTS[answer.status];
+    const [verdict, status] = BY_STATUS[answer.status];
     return { verdict, status, words: textOf(answer) };
   } catch (error) {
     return { verdict: "failed", status: 4, words: "", hint: error.message };

@@ -1,5 +1,5 @@
 // The command `node wumsnair.mjs`: judges records of calls, and plays and draws flow scripts, by the proved module in this file.
-import { readFileSync, writeSync } from "node:fs";
+import { closeSync, openSync, readFileSync, readSync, statSync, writeSync } from "node:fs";
 import { isMainThread } from "node:worker_threads";
 import { inflateRawSync } from "node:zlib";
 import { FORM, Player, STATUS } from "../web/player.js";
@@ -54,11 +54,20 @@ function put(output, bytes, failed) {
 
 const say = (words) => put(2, `${words}\n`, NOT_BEGUN);
 
-/** Reads a file, or standard input, up to a number of bytes. */
+/** Returns the first bytes of a file that has more. */
+function frontOf(file, most) {
+  const front = Buffer.alloc(most);
+  const opened = openSync(file, "r");
+  readSync(opened, front, 0, most, 0);
+  closeSync(opened);
+  return front;
+}
+
+/** Reads a file, or standard input, or at least a number of its first bytes. */
 async function read(file, what, most) {
   if (file !== undefined) {
     try {
-      return readFileSync(file);
+      return statSync(file).size > most ? frontOf(file, most) : readFileSync(file);
     } catch (error) {
       throw new Stop(NOT_BEGUN, error.code === "ENOENT" ? `no such file: ${file}` : `cannot read ${file}: ${error.message}`);
     }
@@ -71,7 +80,7 @@ async function read(file, what, most) {
   for await (const part of process.stdin) {
     parts.push(part);
     length += part.length;
-    if (length > most) {
+    if (length >= most) {
       break;
     }
   }
@@ -136,7 +145,7 @@ async function showScript(player, command, { asks, files }) {
 /** Judges one record. */
 async function judgeFile(player, table, file, asks) {
   try {
-    const bytes = await read(file, "record", MOST_BYTES);
+    const bytes = await read(file, "record", MOST_BYTES + 1);
     return await judged(player, table, file ?? "-", bytes, asks);
   } catch (error) {
     if (!(error instanceof Stop)) {
@@ -213,10 +222,11 @@ if (isMainThread) {
   try {
     process.exitCode = await run(process.argv.slice(2));
   } catch (error) {
-    if (!(error instanceof Stop)) {
+    const isFull = error instanceof WebAssembly.RuntimeError || error instanceof RangeError;
+    if (!(error instanceof Stop) && !isFull) {
       throw error;
     }
-    process.exitCode = error.status;
+    process.exitCode = isFull ? STATUS.OUT_OF_MEMORY : error.status;
     if (error.message) {
       process.stderr.write(`${error.message}\n`);
     }
