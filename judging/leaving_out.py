@@ -149,6 +149,8 @@ class Case:
         left = [call for calls in keep for call in calls]
         if self.is_shared or any(values_of(call) != {value} for call in gone) or any(call.get("answer") in (False, "empty") for call in left):
             return None
+        if any(call["call"] == "first" for call in gone) and self.depends_on_subscribers(left):
+            return None
         last = {}
         for call in left:
             if call["call"] == "next" and "answer" in call:

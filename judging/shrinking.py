@@ -63,7 +63,7 @@ class Search:
     def without_units(self, case, count):
         """The case without the groups of so many parts that it stays illegal without."""
         at = 0
-        while at < len(units := case.units()):
+        while at < len(units := case.units()) and not self.is_over():
             smaller = case.without(set().union(*units[at : at + count]))
             if self.is_illegal(smaller):
                 case = smaller
