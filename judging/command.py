@@ -11,8 +11,8 @@ import reports
 import shrinking
 
 OPTIONS = ["--order", "--draw", "--text", "--json", "--junit", "--seconds", "--shrink"]
-# The options that the program takes.
-FLAGS = ["--order", "--draw", "--text"]
+# The options that the program takes, in the forms that it takes.
+FORMS = [], ["--order"], ["--draw"], ["--draw", "--text"]
 
 
 @dataclass
@@ -25,8 +25,8 @@ class Asks:
     form: str | None = None
 
     @property
-    def flags_of_program(self):
-        return [flag for flag in self.flags if flag in FLAGS]
+    def draws(self):
+        return "--draw" in self.flags
 
 
 def seconds_of(word):
@@ -46,12 +46,16 @@ def asked(words):
         if word == "--seconds":
             asks.seconds = seconds_of(next(rest, None))
         elif word in ("--json", "--junit", "--shrink"):
+            if asks.form not in (None, word):
+                launch.refuse(f"{asks.form} and {word} do not go together")
             asks.form = word
         elif word.startswith("-"):
             asks.flags.append(word)
         else:
             asks.files.append(word)
-    if len(asks.files) > 1 and (asks.form == "--shrink" or "--draw" in asks.flags):
+    if sorted(asks.flags) not in FORMS or asks.draws and (asks.form or asks.seconds):
+        launch.refuse("--text goes with --draw, and --draw with no other option")
+    if len(asks.files) > 1 and (asks.form == "--shrink" or asks.draws):
         launch.stop(f"one record at a time: {' '.join(asks.files)}")
     return asks
 
@@ -96,7 +100,7 @@ def judge_file(words, file, asks):
         return oracle.Verdict(name, "failed", error.args[0], hints=[error.args[1]])
     if ways.is_slow(words) and len(text) > ways.LARGE:
         launch.say(ways.SLOW)
-    return oracle.judged([*words, *asks.flags_of_program], name, text, asks.seconds, asks.form is not None)
+    return oracle.judged([*words, *asks.flags], name, text, asks.seconds, asks.form is not None)
 
 
 def show(told, is_only):
@@ -147,10 +151,10 @@ def main(words, usage):
     asks = asked(words)
     if asks.form == "--shrink":
         return shrink(asks)
-    program = ways.command("flow_judge", may_be_node="--draw" not in asks.flags and "--text" not in asks.flags)
+    program = ways.command("flow_judge", may_be_node=not asks.draws)
     if ways.is_node(program):
         sys.stdout.flush()
         return subprocess.run([*program, *words]).returncode
-    if "--draw" in asks.flags:
-        return subprocess.run([*program, *asks.flags_of_program], stdin=launch.opened((asks.files or [None])[0], "record")).returncode
+    if asks.draws:
+        return subprocess.run([*program, *asks.flags], stdin=launch.opened((asks.files or [None])[0], "record")).returncode
     return judge_all(program, asks)

@@ -124,6 +124,9 @@ function parts(command, words) {
       asks[word.slice(2)] = true;
     }
   }
+  if (asks.json && asks.junit) {
+    throw new Stop(2, "--json and --junit do not go together");
+  }
   return { asks, files };
 }
 

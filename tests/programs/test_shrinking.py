@@ -18,7 +18,7 @@ ILLEGAL = {name: path for name, path in records().items() if name.startswith("il
 # The calls that are left of each record, by their numbers.
 LEFT = {
     "illegal_shared_first_leaves_unserved": [1, 2, 3],
-    "illegal_shared_first_loses_its_place": [2, 3],
+    "illegal_shared_first_loses_its_place": [1, 2, 3],
     "illegal_shared_forgets_a_subscriber": [2, 3, 5],
     "illegal_shared_opposite_orders": [1, 2, 3, 4, 5, 7],
     "illegal_shared_returned_too_early": [1, 2],

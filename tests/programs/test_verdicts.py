@@ -65,6 +65,11 @@ def test_wrong_seconds(seconds):
     assert judge("--seconds", seconds, LEGAL) == (2, "", "--seconds takes a number of seconds above 0\n")
 
 
+@pytest.mark.parametrize("words", ["--text", "--draw --order", "--draw --json", "--draw --seconds 1", "--order --order"], ids=case_id)
+def test_options_that_do_not_go_together(words):
+    assert judge(*words.split(), LEGAL) == (2, "", "--text goes with --draw, and --draw with no other option\n")
+
+
 def test_limit_of_time():
     """A process does not begin in a thousandth of a second."""
     assert judge("--seconds", "0.001", LEGAL) == (3, "gave up\n", "hint: stopped after 0.001 seconds; --seconds sets the limit\n")
