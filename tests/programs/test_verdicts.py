@@ -163,7 +163,9 @@ IN_LINES = lines(SET, VALUE)
 WRONG = {
     "an end before its begin": (whole({**SET, "begin": 21}), 2, "the call ends before it begins: take both moments from one clock"),
     "overlapping calls of a caller": (whole(SET, {**VALUE, "by": "t1", "begin": 19}), 2, "give each thread and each coroutine a caller's name"),
-    "no flow": (IN_LINES.partition(b"\n")[2], 2, "the first line, or the one object, has the flow"),
+    "no flow": (b'{"calls": []}', 2, "the first line, or the one object, has the flow"),
+    "calls before the flow": (IN_LINES.partition(b"\n")[2] + IN_LINES, 2, "or lines, of which the first one has only the flow"),
+    "no calls": (b'{"flow":\n {"kind": "state", "initial": 0}}', 2, 'a record is one object with "flow" and "calls"'),
     "emit of a state flow": (whole({**SET, "call": "emit"}), 2, "record emit of a state flow as set"),
     "a name that is no UTF-8": (IN_LINES.replace(b"t2", b"t\xff"), 2, "the first other byte is in line 3, column 10"),
     "a cut-off line": (IN_LINES[:-20], 2, "the last line is cut off"),
