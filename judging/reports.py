@@ -106,4 +106,5 @@ def junit_report(verdicts):
     time = sum(verdict.seconds for verdict in verdicts)
     counts = f'tests="{len(verdicts)}" failures="{failures}" errors="{errors}" time="{time:.3f}"'
     tests = "".join(map(test_of, verdicts))
-    return f'<?xml version="1.0" encoding="UTF-8"?>\n<testsuites {counts}>\n <testsuite name="judge" {counts}>\n{tests} </testsuite>\n</testsuites>\n'
+    head = f'<?xml version="1.0" encoding="UTF-8"?>\n<testsuites {counts}>\n <testsuite name="judge" {counts}>\n'
+    return f"{head}{tests} </testsuite>\n</testsuites>\n"

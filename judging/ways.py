@@ -18,7 +18,8 @@ KEPT = top / "wumsnair.mjs"
 COMMANDS = {"flow_judge": "judge", "flow_play": "play", "flow_draw": "draw"}
 # The number of bytes of a record from which on the slowest way is worth a word.
 LARGE = 50_000
-SLOW = "this program was built without a proof, and is hundreds of times slower than the proved one, which `rt run` in crates/flow_judge makes, and than wumsnair.mjs, which needs Node 18"
+SLOW = """this program was built without a proof, and is hundreds of times slower than the proved one, which `rt run` in
+crates/flow_judge makes, and than wumsnair.mjs, which needs Node 18"""
 OTHER_CODE = "wumsnair.mjs was built from other code than crates/ has; page/build makes it anew"
 
 

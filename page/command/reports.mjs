@@ -53,6 +53,11 @@ const momentIn = (words, pattern) => {
   return digits === undefined ? null : BigInt(digits);
 };
 
+function countsOf(calls) {
+  const pending = calls.filter(({ end }) => end === undefined).length;
+  return { calls: calls.length, callers: new Set(calls.map(({ by }) => by)).size, pending };
+}
+
 /** Returns a verdict as a value for JSON. */
 function entry({ record, verdict, status, words, hints, calls, seconds }, withOrder) {
   const isIllegal = verdict === "illegal";
@@ -63,7 +68,7 @@ function entry({ record, verdict, status, words, hints, calls, seconds }, withOr
     verdict,
     status,
     seconds,
-    counts: calls ? { calls: calls.length, callers: new Set(calls.map(({ by }) => by)).size, pending: calls.filter(({ end }) => end === undefined).length } : null,
+    counts: calls ? countsOf(calls) : null,
     moment: isIllegal ? momentIn(words, /^by moment (\d+) /m) : null,
     since: isIllegal ? momentIn(words, /; from (\d+) on/m) : null,
     calls: numbered,
@@ -108,5 +113,6 @@ export function junitReport(verdicts) {
   const time = verdicts.reduce((sum, { seconds }) => sum + seconds, 0).toFixed(3);
   const counts = `tests="${verdicts.length}" failures="${failures}" errors="${errors}" time="${time}"`;
   const tests = verdicts.map(testOf).join("");
-  return `<?xml version="1.0" encoding="UTF-8"?>\n<testsuites ${counts}>\n <testsuite name="judge" ${counts}>\n${tests} </testsuite>\n</testsuites>\n`;
+  const head = `<?xml version="1.0" encoding="UTF-8"?>\n<testsuites ${counts}>\n <testsuite name="judge" ${counts}>\n`;
+  return `${head}${tests} </testsuite>\n</testsuites>\n`;
 }
