@@ -2,6 +2,7 @@
 import { byId, element } from "./dom.js";
 import { Editor, showWhy } from "./editor.js";
 import { VERDICT, textOf } from "./player.js";
+import { callsOf } from "./record_text.js";
 import { placeOf } from "./script_text.js";
 import { showTimeline } from "./timeline.js";
 
@@ -19,24 +20,6 @@ const recordEditor = new Editor("record");
 let refusedPlace;
 /** Whether the calls of the record were drawn since it was opened. */
 let isDrawn = false;
-
-/** A text between quotation marks, or a whole number that may have more digits than a JavaScript number can hold. */
-const TEXT_OR_LONG_NUMBER = /"(?:[^"\\]|\\.)*"|-?\d{16,}/g;
-
-/** Parses JSON without fractions. Long numbers are of type BigInt. */
-function parsed(json) {
-  const marked = json.replace(TEXT_OR_LONG_NUMBER, (part) => (part.startsWith('"') ? part : `{"digits":"${part}"}`));
-  return JSON.parse(marked, (_, value) => (value?.digits === undefined ? value : BigInt(value.digits)));
-}
-
-/** Returns the calls of a record that was not refused. */
-function callsOf(text) {
-  try {
-    return parsed(text).calls ?? [];
-  } catch {
-    return text.split("\n").filter((line) => line.trim()).slice(1).map(parsed);
-  }
-}
 
 /** Returns the numbers of the calls that the lines of a verdict name. */
 const numbersIn = (lines) => new Set(lines.map((line) => Number(/^ +(\d+) {2}/.exec(line)?.[1] ?? 0)));

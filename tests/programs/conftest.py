@@ -1,11 +1,15 @@
 """What the tests of the built programs share: the programs, the shim that refuses memory, and the options of tools/programs."""
+import fcntl
 import pathlib
+import subprocess
 import sys
 
 import hypothesis
 import pytest
 
-sys.path.insert(0, str(pathlib.Path(__file__).resolve().parents[2] / "tools"))
+top = pathlib.Path(__file__).resolve().parents[2]
+sys.path.insert(0, str(top / "tools"))
+from wumsnair_tools.built import sources
 from refusing import build_shim
 from running import program
 
@@ -54,3 +58,20 @@ use_flows = program_fixture("use_flows")
 def shim(tmp_path_factory):
     """The library that refuses requests for memory."""
     return build_shim(tmp_path_factory.mktemp("shim"))
+
+
+def newest(files):
+    return max((file.stat().st_mtime for file in files if file.is_file()), default=0)
+
+
+@pytest.fixture(scope="session")
+def page(request):
+    """The folder with the page, the command for Node, the library and the module, as new as the code."""
+    folder = pathlib.Path(request.config.getoption("--page") or top / "page" / "out")
+    parts = [file for part in ("command", "library", "make", "web") for file in (top / "page" / part).iterdir()]
+    with open(top / "page" / "build") as lock:
+        # One process builds them, and the other ones wait.
+        fcntl.flock(lock, fcntl.LOCK_EX)
+        if newest([folder / "wumsnair.html"]) < newest([*sources("flow_calls"), *parts]):
+            subprocess.run([top / "page" / "build", folder], check=True)
+    return folder

@@ -5,15 +5,13 @@ as text, listed with its rules, and explained. Each record of examples/records i
 module runs in Node, and Python and C call the library; C does so for some texts under valgrind, and with each request for memory refused
 in turn. The library and the module are those of the folder that --page names, or of page/out; page/build builds them if they are older
 than the code."""
-import fcntl
 import importlib.util
 import json
-import pathlib
 import subprocess
 
 import pytest
 
-from wumsnair_tools.built import sources, top
+from wumsnair_tools.built import top
 from refusing import refuse_each
 from running import SECONDS, Outcome, case_id, ended, examples, expect, program, records, run
 from wumsnair_tools.scripts import all_cases, text_of, versions
@@ -65,23 +63,6 @@ def native(name):
     drawn = {word: run(program("flow_draw"), *flags, text=text) for word, flags in DRAWN.items()}
     why = drawn["explain"].status, drawn["explain"].said
     return {"play": run(program("flow_play"), text=text)[:2], **{word: each[:2] for word, each in drawn.items()}, "why": why}
-
-
-def newest(files):
-    return max((file.stat().st_mtime for file in files if file.is_file()), default=0)
-
-
-@pytest.fixture(scope="session")
-def page(request):
-    """The folder with the library and the module, as new as the code."""
-    folder = pathlib.Path(request.config.getoption("--page") or top / "page" / "out")
-    with open(top / "page" / "build") as lock:
-        # One process builds them, and the other ones wait.
-        fcntl.flock(lock, fcntl.LOCK_EX)
-        code = [*sources("flow_calls"), *(file for part in ("make", "library", "web") for file in (top / "page" / part).iterdir())]
-        if newest([folder / "wumsnair.html"]) < newest(code):
-            subprocess.run([top / "page" / "build", folder], check=True)
-    return folder
 
 
 @pytest.fixture(scope="session")

@@ -3,7 +3,6 @@ import difflib
 import os
 import select
 import signal
-import stat
 import subprocess
 import sys
 import time
@@ -74,17 +73,6 @@ def script_of(words):
         return opened(file, "script").read(MOST_READ), words
     except OSError as error:
         stop(f"cannot read {file}: {error.strerror}")
-
-
-def run_on(name, words, file, most, what):
-    """Runs a program on a file or on standard input, if it has at most so many bytes. Returns its status."""
-    status = os.fstat(file.fileno())
-    # A file need not be read here. Of a pipe the size is not known.
-    text = None if stat.S_ISREG(status.st_mode) else file.read(most + 1)
-    if (status.st_size if text is None else len(text)) > most:
-        refuse(f"a {what} has at most {most:,} bytes")
-    command = [program(name), *words]
-    return (subprocess.run(command, stdin=file) if text is None else run(command, text)).returncode
 
 
 def run(words, script, **how):

@@ -1,0 +1,96 @@
+// What to do about a record that is refused, or that was recorded wrongly. remedies.json has the sentences; tools/wumsnair_tools/judging/remedies.py
+// finds the same ones for ./judge.
+import { callsOf } from "../web/record_text.js";
+
+/** The least number of calls of a caller of whose moments anything is said. */
+const FEW_CALLS = 2;
+
+const filled = (sentence, words) => sentence.replace(/\{(\w+)\}/g, (_, key) => words[key]);
+
+/** Returns the line and the column, from 1, of the first byte that is no UTF-8; nothing if there is none. */
+function placeOfOtherByte(bytes) {
+  const text = bytes.toString("utf8");
+  if (Buffer.from(text, "utf8").equals(bytes)) {
+    return undefined;
+  }
+  let at = 0;
+  for (const character of text) {
+    const wanted = Buffer.from(character, "utf8");
+    if (!wanted.equals(bytes.subarray(at, at + wanted.length))) {
+      break;
+    }
+    at += wanted.length;
+  }
+  const begin = bytes.lastIndexOf(10, at - 1) + 1;
+  return { line: bytes.subarray(0, at).filter((byte) => byte === 10).length + 1, column: at - begin + 1 };
+}
+
+/** Returns whether a record is refused for its last line, which has no end. */
+function isCutOff(words, text) {
+  const lines = text.trimEnd().split("\n");
+  const refused = /^refused: line (\d+), column 1: this line is no JSON/.exec(words);
+  return Number(refused?.[1]) === lines.length && !lines.at(-1).trimEnd().endsWith("}");
+}
+
+/** Returns what to do about a refused record, by the words of its refusal and its bytes. */
+export function remediesOfRefusal(table, words, bytes) {
+  if (isCutOff(words, bytes.toString("utf8"))) {
+    return [table.of_texts.cut_off];
+  }
+  const place = placeOfOtherByte(bytes);
+  if (place) {
+    return [filled(table.of_texts.no_utf8, place)];
+  }
+  return table.of_refusals.filter(({ pattern }) => new RegExp(pattern).test(words)).slice(0, 1).map(({ remedy }) => remedy);
+}
+
+/** Returns the first call of each caller that its subscription does not allow. */
+function subscriptionFaults(table, calls) {
+  const subscribed = new Map();
+  const faults = new Map();
+  calls.forEach(({ by, call }, index) => {
+    const has = subscribed.get(by) ?? false;
+    const isOwn = call === "next" || call === "unsubscribe";
+    const isNew = call === "subscribe" || call === "first";
+    if (!faults.has(by) && ((isOwn && !has) || (isNew && has))) {
+      const sentence = has ? table.of_calls.second_subscription : table.of_calls.no_subscription;
+      faults.set(by, filled(sentence, { number: index + 1, by, call }));
+    }
+    if (call === "subscribe" || call === "unsubscribe") {
+      subscribed.set(by, call === "subscribe");
+    }
+  });
+  return [...faults.values()];
+}
+
+/** Returns for each caller its first and its last moment, and the number of its calls. A pending call has no last moment. */
+function spansOf(calls) {
+  const spans = new Map();
+  for (const { by, begin, end } of calls) {
+    const span = spans.get(by) ?? { by, begin, end, count: 0 };
+    spans.set(by, { by, begin: span.begin, end: end === undefined || end > span.end ? end : span.end, count: span.count + 1 });
+  }
+  return [...spans.values()].filter((span) => span.count >= FEW_CALLS);
+}
+
+/** Returns a warning if two callers never overlap. */
+function clockWarnings(table, calls) {
+  const spans = spansOf(calls);
+  const first = spans.filter((span) => span.end !== undefined).reduce((a, b) => (a && a.end <= b.end ? a : b), undefined);
+  const later = first && spans.find((span) => span.begin > first.end);
+  return later ? [filled(table.of_calls.other_clock, { by: later.by, other: first.by })] : [];
+}
+
+/** Returns what looks wrong in the calls of a record that was read. */
+export function warningsOf(table, calls) {
+  return [...subscriptionFaults(table, calls), ...clockWarnings(table, calls)];
+}
+
+/** Returns the remedies for a record, and its calls if it was read. */
+export function lookAt(table, bytes, verdict, words) {
+  if (verdict === "refused") {
+    return { calls: undefined, remedies: remediesOfRefusal(table, words, bytes) };
+  }
+  const calls = callsOf(bytes.toString("utf8"));
+  return { calls, remedies: warningsOf(table, calls) };
+}

@@ -1,0 +1,19 @@
+// The text of a record of calls, as docs/RECORDS.md describes it.
+
+/** A text between quotation marks, or a whole number that may have more digits than a JavaScript number can hold. */
+const TEXT_OR_LONG_NUMBER = /"(?:[^"\\]|\\.)*"|-?\d{16,}/g;
+
+/** Parses JSON without fractions. Long numbers are of type BigInt. */
+export function parsed(json) {
+  const marked = json.replace(TEXT_OR_LONG_NUMBER, (part) => (part.startsWith('"') ? part : `{"digits":"${part}"}`));
+  return JSON.parse(marked, (_, value) => (value?.digits === undefined ? value : BigInt(value.digits)));
+}
+
+/** Returns the calls of a record that was not refused. */
+export function callsOf(text) {
+  try {
+    return parsed(text).calls ?? [];
+  } catch {
+    return text.split("\n").filter((line) => line.trim()).slice(1).map(parsed);
+  }
+}

@@ -1,0 +1,134 @@
+"""wumsnair.mjs, which page/build makes, prints what the programs print, with the same statuses, and its reports are those of ./judge.
+
+The scripts are those of examples/ and of cases/. The records are those of examples/records."""
+import json
+import re
+import subprocess
+
+import pytest
+
+from wumsnair_tools.built import top
+from running import SECONDS, case_id, examples, program, records, run
+from wumsnair_tools.scripts import all_cases, text_of, versions
+
+DRAWN = {("draw",): [], ("draw", "--text"): ["--text"], ("explain",): ["--explain"]}
+RECORDS = {name: str(path.relative_to(top)) for name, path in records().items()}
+STALE = RECORDS["illegal_state_stale"]
+REPLAY = "examples/replay.json"
+# The most bytes of the file.
+MOST = 900_000
+
+
+def scripts():
+    found = {name: path.read_bytes() for name, path in examples().items()}
+    for number, (_, case) in enumerate(all_cases()):
+        version = versions(case)[-1]
+        found[f"case_{number}_{version}"] = text_of(case, version).encode()
+    return found | {"no_json": b"{", "no_utf8": b"\xff", "too_long": b" " * 2_000_000}
+
+
+SCRIPTS = scripts()
+
+
+@pytest.fixture(scope="session")
+def node(page):
+    """Calls the command with some words, and a text as standard input."""
+    return lambda *words, text=b"": run("node", page / "wumsnair.mjs", *words, text=text, cwd=top)
+
+
+def without_times(report):
+    """A report without what differs from one run to the next."""
+    return re.sub(r'"seconds": [\d.]+|time="[\d.]+"', "", report)
+
+
+@pytest.mark.parametrize("name", SCRIPTS)
+def test_script(node, name):
+    text = SCRIPTS[name][:1_048_577]
+    drawn = {words: run(program("flow_draw"), *flags, text=text) for words, flags in DRAWN.items()}
+    played = run(program("flow_play"), text=text)
+    came = node("play", text=SCRIPTS[name])
+    assert (came.status, came.printed, came.said) == (played.status, played.printed, drawn["draw",].said)
+    for words, wanted in drawn.items():
+        assert node(*words, text=SCRIPTS[name]) == wanted
+
+
+def test_records(node):
+    """The words of each record are those of the program."""
+    came = node("judge", *RECORDS.values())
+    native = {path: run(program("flow_judge"), text=(top / path).read_bytes()).printed.decode() for path in RECORDS.values()}
+    told = "".join(f"{path}: {words}" for path, words in native.items())
+    assert came.status == 1
+    assert came.printed.decode().startswith(told) and came.printed.decode()[len(told) :].startswith(f"{len(RECORDS)} records: ")
+
+
+@pytest.mark.parametrize("name", RECORDS)
+def test_record(node, name):
+    text = (top / RECORDS[name]).read_bytes()
+    for flags in ([], ["--order"]):
+        assert node("judge", *flags, text=text)[:2] == run(program("flow_judge"), *flags, text=text)[:2]
+
+
+def test_reports(node):
+    """The reports are those of ./judge."""
+    for words in (["--json"], ["--json", "--order"], ["--junit"]):
+        ran = subprocess.run(["./judge", *words, *RECORDS.values()], cwd=top, capture_output=True, timeout=SECONDS)
+        came = node("judge", *words, *RECORDS.values())
+        assert came.status == ran.returncode
+        assert without_times(came.printed.decode()) == without_times(ran.stdout.decode())
+
+
+def test_long_numbers(node):
+    """Numbers of 64 bits are whole in a report."""
+    most = 2**64 - 1
+    call = {"by": "a", "call": "value", "begin": most - 1, "end": most, "answer": {"value": most}}
+    record = json.dumps({"flow": {"kind": "state", "initial": 0}, "calls": [call]}).encode()
+    (entry,) = json.loads(node("judge", "--json", text=record).printed)["records"]
+    assert entry["calls"] == [{"number": 1, **call}] and entry["moment"] == most
+
+
+def test_stream(node):
+    """Each record has its length before it, and each verdict its status and its length."""
+    texts = [(top / RECORDS[name]).read_bytes() for name in ("legal_state_overlap", "illegal_state_stale", "refused_not_json")]
+    came = node("judge", "--stream", text=b"".join(b"%d\n" % len(text) + text for text in texts))
+    wanted = [run(program("flow_judge"), text=text) for text in texts]
+    assert came.printed == b"".join(b"%d %d\n" % (each.status, len(each.printed)) + each.printed for each in wanted)
+
+
+FORMS = {
+    "judge no_such_file.json": (6, "no such file: no_such_file.json"),
+    "play no_such_file.json": (6, "no such file: no_such_file.json"),
+    "judge examples": (6, "cannot read examples"),
+    f"play {REPLAY} {REPLAY}": (6, "one script at a time"),
+    "judge --oder": (2, "no option --oder: did you mean --order?"),
+    "draw --pretty": (2, "no option --pretty; --help lists them"),
+    "jugde": (2, "no command jugde: did you mean judge?"),
+    f"judge --draw {STALE}": (2, "no option --draw here: ./judge has it"),
+    f"judge --seconds 0 {STALE}": (2, "--seconds takes a number of seconds above 0"),
+    f"judge --seconds 0.001 {STALE}": (3, "hint: stopped after 0.001 seconds; --seconds sets the limit"),
+}
+
+
+@pytest.mark.parametrize("words", FORMS, ids=case_id)
+def test_form(node, words):
+    status, said = FORMS[words]
+    came = node(*words.split())
+    assert (came.status, said in came.said.decode()) == (status, True), came
+
+
+def test_time_is_enough(node):
+    assert node("judge", "--seconds", "50", STALE).printed == (top / STALE).with_suffix(".told").read_bytes()
+
+
+def test_help_and_version(node, page):
+    for words in (["--help"], ["judge", "--help"]):
+        assert b"node wumsnair.mjs judge RECORD.." in node(*words).printed
+    assert re.fullmatch(r"wumsnair 0\.1\.0, built from (commit [0-9a-f]{12}(, changed)?|no commit)\n", node("--version").printed.decode())
+    assert (page / "wumsnair.mjs").stat().st_size < MOST
+
+
+def test_full_device(node, page):
+    """A write that fails has the status of the program."""
+    for words, status in ((["play", REPLAY], 3), (["judge", STALE], 4)):
+        with open("/dev/full", "wb") as full:
+            ran = subprocess.run(["node", page / "wumsnair.mjs", *words], cwd=top, stdout=full, stderr=subprocess.PIPE, timeout=SECONDS)
+        assert ran.returncode == status and b"cannot write" in ran.stderr

@@ -1,0 +1,106 @@
+"""`./judge --shrink` finds a small illegal record in an illegal one, and what it may leave out never makes a legal record illegal.
+
+The numbers of calls that are left were counted by hand: without any of them the record is legal, or another value has no source."""
+import json
+import subprocess
+
+import pytest
+from hypothesis import given
+
+from wumsnair_tools.judging import oracle
+from wumsnair_tools.built import top
+from wumsnair_tools.judging.leaving_out import Case
+from recorded_calls import MAY_BE_PENDING, records as random_records
+from running import SECONDS, program, records, run, tries
+from wumsnair_tools.judging.shrinking import shrink, text_of
+
+ILLEGAL = {name: path for name, path in records().items() if name.startswith("illegal")}
+# The calls that are left of each record, by their numbers.
+LEFT = {
+    "illegal_shared_first_leaves_unserved": [1, 2, 3],
+    "illegal_shared_first_loses_its_place": [1, 2, 3],
+    "illegal_shared_forgets_a_subscriber": [2, 3, 5],
+    "illegal_shared_opposite_orders": [1, 2, 3, 4, 5, 7],
+    "illegal_shared_returned_too_early": [1, 2],
+    "illegal_state_goes_back": [1, 2, 3],
+    "illegal_state_stale": [1, 2],
+    "illegal_state_stale_among_looks": [1, 2],
+    "illegal_state_torn_exchange": [1, 2],
+}
+# How often a test tries the number of examples of the profile.
+TIMES = 2
+# The most parts of a record that are tried one by one.
+MOST_PARTS = 40
+
+
+def calls_of(text):
+    return oracle.remedies.calls_of(text)
+
+
+def judge(text):
+    came = run(program("flow_judge"), text=text)
+    return came.status, came.printed.decode()
+
+
+def bare(call):
+    """What is left of a call if it becomes pending."""
+    return {key: call.get(key) for key in ("by", "begin", "value")}
+
+
+@pytest.mark.parametrize("name", ILLEGAL)
+def test_small_record(name):
+    """The command prints an illegal record, of calls of the one that it read, and says how many calls it has."""
+    text = ILLEGAL[name].read_bytes()
+    ran = subprocess.run(["./judge", "--shrink", ILLEGAL[name]], cwd=top, capture_output=True, timeout=SECONDS)
+    whole, small = calls_of(text), calls_of(ran.stdout)
+    assert ran.returncode == 1 and judge(ran.stdout)[0] == 1
+    assert ran.stderr.decode() == f"{len(small)} of {len(whole)} calls are left\n"
+    assert [call for call in small if bare(call) not in map(bare, whole)] == []
+    if name in LEFT:
+        assert [bare(call) for call in small] == [bare(whole[number - 1]) for number in LEFT[name]]
+
+
+def test_record_that_is_not_illegal():
+    legal, refused = records()["legal_state_overlap"], records()["refused_unknown_call"]
+    for path, status, said in ((legal, 0, "legal\n"), (refused, 2, refused.with_suffix(".told").read_text())):
+        ran = subprocess.run(["./judge", "--shrink", path], cwd=top, capture_output=True, timeout=SECONDS, text=True)
+        assert (ran.returncode, ran.stdout, ran.stderr) == (status, "", said)
+
+
+def test_long_record():
+    """A stale answer after 200 changes of other values is found in two calls."""
+    changes = [{"by": "t1", "call": "set", "value": 10 + at, "begin": 2 * at, "end": 2 * at + 1, "answer": "done"} for at in range(200)]
+    looks = [{"by": "t2", "call": "value", "begin": 2 * at + 1, "end": 2 * at + 2, "answer": {"value": 10 + at}} for at in range(199)]
+    stale = {"by": "t3", "call": "value", "begin": 500, "end": 501, "answer": {"value": 0}}
+    status, _, small = shrink(judge, text_of({"kind": "state", "initial": 0}, (*changes, *looks, stale)))
+    assert status == 1 and len(calls_of(small)) == 2 and stale in calls_of(small)
+
+
+def smaller(case):
+    """The records that a case may become."""
+    moments = sorted({call[key] for call in case.calls for key in ("begin", "end") if key in call})
+    yield from (case.cut(moment) for moment in moments[:: len(moments) // 8 + 1])
+    parts = case.units()
+    tried = [*(case.without(part) for part in parts[:MOST_PARTS]), case.without(set().union(*parts[: len(parts) // 2]))]
+    tried += [case.without_value(value) for value in range(10)]
+    yield from (each for each in tried if each is not None)
+
+
+@pytest.mark.parametrize("kind", MAY_BE_PENDING)
+def test_random_parts(kind, request):
+    """A part that is left out of a legal record leaves a legal one, and so does another part of that one."""
+    legal = []
+
+    @tries(TIMES, request.node.nodeid)
+    @given(random_records(kind))
+    def check(record):
+        case = Case(record.flow, tuple(record.calls))
+        if judge(text_of(case.flow, case.calls))[0] != 0:
+            return
+        legal.append(case)
+        for once in smaller(case):
+            text = text_of(once.flow, once.calls + once.optional)
+            assert judge(text)[0] in (0, 3), (json.dumps(record.calls), text.decode())
+
+    check()
+    assert legal

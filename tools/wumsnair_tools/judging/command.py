@@ -1,0 +1,168 @@
+"""The command ./judge."""
+import os
+import subprocess
+import sys
+from dataclasses import dataclass, field
+
+from wumsnair_tools import launch, ways
+from wumsnair_tools.judging import oracle, reports, shrinking
+
+OPTIONS = ["--order", "--draw", "--text", "--json", "--junit", "--seconds", "--shrink"]
+# The options that the program takes, in the forms that it takes.
+FORMS = [], ["--order"], ["--draw"], ["--draw", "--text"]
+
+
+@dataclass
+class Asks:
+    """What a call of the command asks for."""
+
+    flags: list = field(default_factory=list)
+    files: list = field(default_factory=list)
+    seconds: float | None = None
+    form: str | None = None
+
+    @property
+    def draws(self):
+        return "--draw" in self.flags
+
+
+def seconds_of(word):
+    try:
+        seconds = float(word or "")
+    except ValueError:
+        seconds = 0
+    if not 0 < seconds < 2_000_000:
+        launch.refuse("--seconds takes a number of seconds above 0")
+    return seconds
+
+
+def asked(words):
+    """What the words ask for."""
+    asks, rest = Asks(), iter(words)
+    for word in rest:
+        if word == "--seconds":
+            asks.seconds = seconds_of(next(rest, None))
+        elif word in ("--json", "--junit", "--shrink"):
+            if asks.form not in (None, word):
+                launch.refuse(f"{asks.form} and {word} do not go together")
+            asks.form = word
+        elif not launch.is_file(word):
+            asks.flags.append(word)
+        else:
+            asks.files.append(word)
+    if sorted(asks.flags) not in FORMS or asks.draws and (asks.form or asks.seconds):
+        launch.refuse("--text goes with --draw, and --draw with no other option")
+    if len(asks.files) > 1 and (asks.form == "--shrink" or asks.draws):
+        launch.stop(f"one record at a time: {' '.join(asks.files)}")
+    return asks
+
+
+def put(words):
+    """Prints words. Returns whether that went well."""
+    try:
+        sys.stdout.buffer.write(words if isinstance(words, bytes) else words.encode(errors="surrogateescape"))
+        sys.stdout.buffer.flush()
+    except OSError as error:
+        launch.say(f"cannot write: {error.strerror}")
+        # Python would try to write the rest as it ends.
+        os.dup2(os.open(os.devnull, os.O_WRONLY), 1)
+        return False
+    return True
+
+
+class Unread(Exception):
+    """Why a record was not read. The status is the first argument, and the words the second one."""
+
+
+def text_of(file):
+    """The bytes of a record, or of the first part of one that is too long."""
+    try:
+        source = launch.opened(None, "record") if file in (None, launch.STANDARD_INPUT) else open(file, "rb")
+    except FileNotFoundError:
+        raise Unread(launch.FAILED, f"no such file: {file}")
+    except OSError as error:
+        raise Unread(launch.FAILED, f"cannot read {file}: {error.strerror}")
+    try:
+        return source.read(oracle.MOST_BYTES + 1)
+    except OSError as error:
+        raise Unread(oracle.FAILED, f"cannot read {file or 'standard input'}: {error.strerror}")
+
+
+def judge_file(words, file, asks):
+    """The verdict on a file, or on standard input."""
+    name = file or "-"
+    try:
+        text = text_of(file)
+    except Unread as error:
+        return oracle.Verdict(name, "failed", error.args[0], hints=[error.args[1]])
+    if ways.is_slow(words) and len(text) > ways.LARGE:
+        launch.say(ways.SLOW)
+    return oracle.judged([*words, *asks.flags], name, text, asks.seconds, asks.form is not None)
+
+
+def show(told, is_only):
+    """Prints the verdict on one of several records, or on the only one. Returns whether that went well."""
+    went_well = put(told.words if is_only else f"{told.record}: {told.words or told.verdict + chr(10)}")
+    for hint in told.hints:
+        launch.say(hint if told.verdict == "failed" else f"hint: {hint}" if is_only else f"{told.record}: hint: {hint}")
+    return went_well
+
+
+def report(verdicts, asks):
+    """The last part of what is printed: a report, or the summary of several records."""
+    if asks.form == "--json":
+        return reports.json_report(verdicts, "--order" in asks.flags)
+    if asks.form == "--junit":
+        return reports.junit_report(verdicts)
+    return reports.summary(verdicts) if len(verdicts) > 1 else ""
+
+
+def judge_all(words, asks):
+    """Judges the records. Returns the status."""
+    verdicts, went_well = [], True
+    for file in asks.files or [None]:
+        verdicts.append(judge_file(words, file, asks))
+        if asks.form is None:
+            went_well &= show(verdicts[-1], len(asks.files) < 2)
+    went_well &= put(report(verdicts, asks))
+    return reports.status_of(verdicts) if went_well else oracle.FAILED
+
+
+def shrink(asks):
+    """Prints the smallest illegal record that is found. Returns the status of the record."""
+    try:
+        text = text_of((asks.files or [None])[0])
+    except Unread as error:
+        launch.say(error.args[1])
+        return error.args[0]
+    status, words, small = shrinking.shrink(oracle.many(), text, asks.seconds)
+    if small is None:
+        launch.say(words.rstrip("\n"))
+        return status
+    launch.say(words)
+    return status if put(small) else oracle.FAILED
+
+
+def check_source(asks):
+    """Ends the command if its only record cannot be opened, before a program is built."""
+    file = (asks.files or [launch.STANDARD_INPUT])[0]
+    if file != launch.STANDARD_INPUT:
+        launch.opened(file, "record").close()
+    elif sys.stdin is None:
+        launch.opened(None, "record")
+
+
+def main(words, usage):
+    launch.first_options(words, usage, OPTIONS)
+    asks = asked(words)
+    if asks.form == "--shrink":
+        return shrink(asks)
+    if asks.form is None and len(asks.files) < 2:
+        check_source(asks)
+    program = ways.command("flow_judge", may_be_node=not asks.draws)
+    if ways.is_node(program):
+        sys.stdout.flush()
+        return subprocess.run([*program, *words]).returncode
+    if asks.draws:
+        return subprocess.run([*program, *asks.flags], stdin=launch.opened((asks.files or [None])[0], "record")).returncode
+    return judge_all(program, asks)

@@ -1,0 +1,93 @@
+"""Judges the bytes of records by the fastest way that is there."""
+import importlib.util
+import signal
+import subprocess
+import time
+from dataclasses import dataclass, field
+
+from wumsnair_tools import launch, ways
+from wumsnair_tools.judging import remedies
+from wumsnair_tools.built import sources
+
+VERDICTS = {0: "legal", 1: "illegal", 2: "refused", 3: "gave up"}
+# The most bytes of a record.
+MOST_BYTES = 268_435_456
+TOO_LARGE = f"refused: the record has more than {MOST_BYTES} bytes\n  expected: at most {MOST_BYTES} bytes\n"
+# A program is out of memory, or a read or a write failed.
+FAILED = 4
+# The status of an illegal record in the library.
+ILLEGAL_IN_LIBRARY = 5
+
+
+@dataclass
+class Verdict:
+    """The verdict on a record: its word, the status, the words of the program, remedies, and the record's calls if they were read."""
+
+    record: str
+    verdict: str
+    status: int
+    words: str = ""
+    hints: list = field(default_factory=list)
+    calls: list | None = None
+    seconds: float = 0.0
+
+
+def run(words, text, seconds=None):
+    """The status and the words of a program, and a hint."""
+    try:
+        ran = launch.run([*words], text, stdout=subprocess.PIPE, timeout=seconds)
+    except subprocess.TimeoutExpired:
+        return 3, "gave up\n", [f"stopped after {seconds:g} seconds; --seconds sets the limit"]
+    if ran.returncode < 0:
+        return FAILED, "", [f"the program was ended by the signal {signal.Signals(-ran.returncode).name}"]
+    return ran.returncode, ran.stdout.decode(errors="replace"), []
+
+
+def judged(words, record, text, seconds=None, reads_calls=False):
+    """The verdict of a program on the bytes of a record."""
+    begin = time.perf_counter()
+    status, told, hints = (2, TOO_LARGE, []) if len(text) > MOST_BYTES else run(words, text, seconds)
+    verdict = Verdict(record, VERDICTS.get(status, "failed"), status, told, hints, None, round(time.perf_counter() - begin, 3))
+    if verdict.verdict == "refused" and len(text) <= MOST_BYTES:
+        verdict.hints += remedies.of_refusal(told, text)
+    elif verdict.verdict == "illegal" or reads_calls and verdict.verdict in ("legal", "gave up"):
+        verdict.calls = remedies.calls_of(text)
+        verdict.hints += remedies.of_calls(verdict.calls)
+    return verdict
+
+
+def library():
+    """The library that page/build made, as a module; None if it is older than the code."""
+    made = ways.top / "page" / "out" / "wumsnair.py"
+    if not made.exists() or made.stat().st_mtime < max(file.stat().st_mtime for file in sources("flow_calls")):
+        return None
+    spec = importlib.util.spec_from_file_location("wumsnair", made)
+    module = importlib.util.module_from_spec(spec)
+    spec.loader.exec_module(module)
+    return module
+
+
+class Stream:
+    """A process of wumsnair.mjs that judges one record after another."""
+
+    def __init__(self, words):
+        self.process = subprocess.Popen([*words, "--stream"], stdin=subprocess.PIPE, stdout=subprocess.PIPE)
+
+    def __call__(self, text):
+        self.process.stdin.write(b"%d\n" % len(text) + text)
+        self.process.stdin.flush()
+        status, length = map(int, self.process.stdout.readline().split())
+        return status, self.process.stdout.read(length).decode()
+
+
+def many():
+    """A function that judges the bytes of one record after another, and returns the status and the words."""
+    module = library()
+    if module:
+        def call(text):
+            status, words = module.check(text)
+            return 1 if status == ILLEGAL_IN_LIBRARY else status, words.decode()
+
+        return call
+    words = ways.command("flow_judge")
+    return Stream(words) if ways.is_node(words) else lambda text: run(words, text)[:2]

@@ -1,0 +1,89 @@
+"""What to do about a record that is refused, or that was recorded wrongly.
+
+The sentences are those of page/command/remedies.json, and page/command/remedies.mjs finds the same ones for wumsnair.mjs."""
+import json
+import re
+
+from wumsnair_tools.built import top
+
+TABLE = json.loads((top / "page" / "command" / "remedies.json").read_text())
+# The least number of calls of a caller of whose moments anything is said.
+FEW_CALLS = 2
+LAST_LINE = re.compile(r"refused: line (\d+), column 1: this line is no JSON")
+
+
+def place_of_other_byte(text):
+    """The line and the column, from 1, of the first byte that is no UTF-8; None if there is none."""
+    try:
+        text.decode()
+    except UnicodeDecodeError as error:
+        front = text[: error.start]
+        return {"line": front.count(b"\n") + 1, "column": error.start - front.rfind(b"\n")}
+    return None
+
+
+def is_cut_off(words, text):
+    """Whether a record is refused for its last line, which has no end."""
+    lines = text.decode(errors="replace").rstrip().split("\n")
+    refused = LAST_LINE.match(words)
+    return bool(refused) and int(refused[1]) == len(lines) and not lines[-1].rstrip().endswith("}")
+
+
+def of_refusal(words, text):
+    """What to do about a refused record, by the words of its refusal and its bytes."""
+    if is_cut_off(words, text):
+        return [TABLE["of_texts"]["cut_off"]]
+    place = place_of_other_byte(text)
+    if place:
+        return [TABLE["of_texts"]["no_utf8"].format(**place)]
+    return [row["remedy"] for row in TABLE["of_refusals"] if re.search(row["pattern"], words)][:1]
+
+
+def calls_of(text):
+    """The calls of a record that was not refused."""
+    try:
+        return json.loads(text).get("calls", [])
+    except json.JSONDecodeError:
+        return [json.loads(line) for line in text.decode().split("\n") if line.strip()][1:]
+
+
+def subscription_faults(calls):
+    """The first call of each caller that its subscription does not allow."""
+    subscribed, faults = set(), {}
+    for number, call in enumerate(calls, 1):
+        by, name = call["by"], call["call"]
+        fault = "second_subscription" if by in subscribed else "no_subscription"
+        if name in (("subscribe", "first") if by in subscribed else ("next", "unsubscribe")):
+            faults.setdefault(by, TABLE["of_calls"][fault].format(number=number, by=by, call=name))
+        if name == "subscribe":
+            subscribed.add(by)
+        elif name == "unsubscribe":
+            subscribed.discard(by)
+    return list(faults.values())
+
+
+def spans_of(calls):
+    """For each caller that made some calls its first and its last moment; a pending call has no last moment."""
+    spans = {}
+    for call in calls:
+        begin, end, count = spans.get(call["by"], (call["begin"], 0, 0))
+        over = None if "end" not in call or end is None else max(end, call["end"])
+        spans[call["by"]] = begin, over, count + 1
+    return {by: (begin, end) for by, (begin, end, count) in spans.items() if count >= FEW_CALLS}
+
+
+def clock_warnings(calls):
+    """A warning if two callers never overlap."""
+    spans = spans_of(calls)
+    ended = [(end, by) for by, (_, end) in spans.items() if end is not None]
+    if not ended:
+        return []
+    end = min(end for end, _ in ended)
+    other = next(by for over, by in ended if over == end)
+    later = next((by for by, (begin, _) in spans.items() if begin > end), None)
+    return [] if later is None else [TABLE["of_calls"]["other_clock"].format(by=later, other=other)]
+
+
+def of_calls(calls):
+    """What looks wrong in the calls of a record that was read."""
+    return [*subscription_faults(calls), *clock_warnings(calls)]

@@ -1,0 +1,52 @@
+"""Finds the fastest way to play, to draw and to judge that this machine has.
+
+It is the program that `rt ci` or `rt run` proved last; else wumsnair.mjs, which has the same code as a module, if there is Node; else a
+program that is built without a proof, for records hundreds of times slower than both."""
+import functools
+import re
+import shutil
+import sys
+
+from wumsnair_tools import launch
+from wumsnair_tools.built import top
+
+sys.path.insert(0, str(top / "page" / "make"))
+from bundle_command import sum_of_sources
+
+KEPT = top / "page" / "wumsnair.mjs"
+# The commands of wumsnair.mjs for what the programs do.
+COMMANDS = {"flow_judge": "judge", "flow_play": "play", "flow_draw": "draw"}
+# The number of bytes of a record from which on the slowest way is worth a word.
+LARGE = 50_000
+SLOW = """this program was built without a proof, and is hundreds of times slower than the proved one, which `rt run` in
+crates/flow_judge makes, and than wumsnair.mjs, which needs Node 18"""
+OTHER_CODE = "wumsnair.mjs was built from other code than crates/ has; page/build makes it anew"
+
+
+@functools.cache
+def is_kept_current():
+    """Whether wumsnair.mjs was made from the code as it is."""
+    found = re.search(r'^const SOURCES = "(\w+)";$', KEPT.read_text(), re.M)
+    return bool(found) and found[1] == sum_of_sources()
+
+
+def is_node(words):
+    return len(words) > 1 and words[1] == str(KEPT)
+
+
+def is_slow(words):
+    return str(words[0]).endswith(".unproved")
+
+
+def command(name, may_be_node=True):
+    """The words that begin a call of a program."""
+    found = launch.fresh_program(name)
+    if found is not None and not is_slow([found]):
+        return [found]
+    node = shutil.which("node") if may_be_node and KEPT.exists() else None
+    if node and is_kept_current():
+        return [node, str(KEPT), COMMANDS[name]]
+    if found is None and node and not shutil.which("rt"):
+        launch.say(OTHER_CODE)
+        return [node, str(KEPT), COMMANDS[name]]
+    return [found or launch.program(name)]
