@@ -43,9 +43,9 @@ function listed(words, calls) {
 /** Returns what a refusal says, in parts. */
 function refusalOf(words) {
   const found = /^refused: (?:line (\d+), column (\d+): )?(?:call (\d+): )?(.*)/.exec(words);
-  const line = (word) => new RegExp(`^  ${word}: (.*)$`, "m").exec(words)?.[1] ?? null;
+  const part = (pattern) => pattern.exec(words)?.[1] ?? null;
   const [place, column, call] = found.slice(1, 4).map((digits) => (digits === undefined ? null : Number(digits)));
-  return { line: place, column, call, message: found[4], expected: line("expected"), nearest: line("nearest") };
+  return { line: place, column, call, message: found[4], expected: part(/^ {2}expected: (.*)$/m), nearest: part(/^ {2}nearest: "(.*)"$/m) };
 }
 
 const momentIn = (words, pattern) => {

@@ -37,7 +37,7 @@ def listed(words, calls):
 def refusal_of(words):
     """What a refusal says, in parts."""
     line, column, call, message = REFUSED.match(words).groups()
-    parts = {name: re.search(rf"^  {name}: (.*)$", words, re.M) for name in ("expected", "nearest")}
+    parts = {"expected": re.search(r"^  expected: (.*)$", words, re.M), "nearest": re.search(r'^  nearest: "(.*)"$', words, re.M)}
     place = {"line": line and int(line), "column": column and int(column), "call": call and int(call)}
     return {**place, "message": message, **{name: part and part[1] for name, part in parts.items()}}
 

@@ -52,13 +52,17 @@ class Search:
                 low = middle + 1
         return case.cut(moments[low]) if low < len(moments) else case
 
-    def without_values(self, case):
-        """The case without the values that it stays illegal without."""
-        for value in sorted(set().union(*map(values_of, case.calls))) if not case.is_shared else []:
-            smaller = case.without_value(value)
-            if self.is_illegal(smaller):
-                case = smaller
-        return case
+    def without_values(self, case, values):
+        """The case without the values that it stays illegal without, of these; first it tries to leave out all at once."""
+        smaller = case
+        for value in values:
+            smaller = smaller and smaller.without_value(value)
+        if self.is_illegal(smaller):
+            return smaller
+        half = len(values) // 2
+        if half == 0 or self.is_over():
+            return case
+        return self.without_values(self.without_values(case, values[:half]), values[half:])
 
     def without_units(self, case, count):
         """The case without the groups of so many parts that it stays illegal without."""
@@ -76,7 +80,8 @@ class Search:
         before = None
         while case != before and not self.is_over():
             before = case
-            case = self.without_values(case)
+            if not case.is_shared:
+                case = self.without_values(case, sorted(set().union(*map(values_of, case.calls))))
             count = max(1, len(case.units()) // 2)
             while count:
                 case = self.without_units(case, count)
