@@ -48,7 +48,8 @@ def test_script(node, name):
     played = run(program("flow_play"), text=text)
     came = node("play", text=SCRIPTS[name])
     assert (came.status, came.printed, came.said) == (played.status, played.printed, drawn["draw",].said)
-    for words, wanted in drawn.items():
+    # test_page_outputs.py compares what the same module draws of the cases.
+    for words, wanted in () if name.startswith("case_") else drawn.items():
         assert node(*words, text=SCRIPTS[name]) == wanted
 
 

@@ -13,9 +13,6 @@ from wumsnair_tools.built import top
 # The commands take these from here, too.
 __all__ = ["FAILED", "fresh_program", "program", "say", "stop"]
 
-# With this `./play FILE | head` ends as other commands do.
-signal.signal(signal.SIGPIPE, signal.SIG_DFL)
-
 VERSION = (top / "VERSION").read_text().strip()
 REFUSED = 2
 # The most bytes that a program reads of a script: one more than a script may have.
@@ -28,6 +25,8 @@ GONE = -1
 
 def run_command(main):
     """Runs a command to its end. An interrupt, or a file that cannot be used, ends it without a traceback."""
+    # With this `./play FILE | head` ends as other commands do.
+    signal.signal(signal.SIGPIPE, signal.SIG_DFL)
     signal.signal(signal.SIGTERM, lambda number, _: sys.exit(128 + number))
     try:
         sys.exit(main())
@@ -77,11 +76,11 @@ def script_of(words):
 
 def run(words, script, **how):
     """Runs a program on a script. If the program does not read all of it, the broken pipe does not end this command."""
-    signal.signal(signal.SIGPIPE, signal.SIG_IGN)
+    before = signal.signal(signal.SIGPIPE, signal.SIG_IGN)
     try:
         return subprocess.run(words, input=script, **how)
     finally:
-        signal.signal(signal.SIGPIPE, signal.SIG_DFL)
+        signal.signal(signal.SIGPIPE, before)
 
 
 def watched(words):
