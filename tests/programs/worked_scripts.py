@@ -3,12 +3,15 @@
 A script of version 1 is also one of version 2, in which its flow has the name f. There a refused flow has its name before its line, and
 its steps print `no flow`."""
 import json
+import re
 from typing import NamedTuple
 
 from running import case_id, examples
 from scripts import all_cases, lines_of, text_of, versions
 
 PLAYED, REFUSED = 0, 2
+# The lines of flows that are refused when they are made; no step has one of these.
+FLOW_REFUSED = re.compile("refused (2 TooLarge|3 NeedsBuffer|3 Chain (3 NotPositive|5 TooDeep)|4 Flow 2 TooLarge)")
 
 
 class Worked(NamedTuple):
@@ -22,7 +25,7 @@ class Worked(NamedTuple):
 
 def is_refused(script, lines):
     """Whether the lines are the one line of a flow that is refused."""
-    return script["flow"]["kind"] != "none" and len(lines) == 1 and lines[0].startswith("refused ")
+    return len(lines) == 1 and FLOW_REFUSED.fullmatch(lines[0]) is not None
 
 
 def named(script):
