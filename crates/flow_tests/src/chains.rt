@@ -1,6 +1,5 @@
 //! Callers of cold chains with contracts, and tests of chains: worked examples, counts of asks, and chains as streams.
 mod asks;
-mod built;
 mod callers;
 mod gives;
 mod inner;

@@ -81,5 +81,5 @@ pub fn reads_cache<R: Wait + Abort>(
     ensures { seat.new.table_id ≡ flow.entry.now.table_id }
 {
     let cache = flow.replay_cache(rt, seat).expect(rt, "memory");
-    compare(rt, 0, cache.as_slice(), wanted);
+    compare(rt, "the replay cache", cache.as_slice(), wanted);
 }

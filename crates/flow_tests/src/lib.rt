@@ -5,9 +5,10 @@
 //! The tests with threads check what is not proved: that calls succeed, that callers wait no longer than they have to,
 //! and the results of threads that do more than `run_count`, `run_crowd` and `run_pair`, whose results are proved.
 //!
-//! A worked example is a list of calls, each with what it must return. Another module makes the calls. All tests are in
-//! this crate, since each crate of tests is linked, and proves anew how the values of flows are dropped. `limited` and
-//! `word` are not under `cfg(test)`, since `./wrong_bodies` tries edits of them, and proves only what is in the library.
+//! Rows that a script can say are in `examples/` and `cases/`: `tests/programs/test_every_flow.py` plays them over every
+//! kind of flow. Here is what no script says: threads that race, futures, refused copies and refused memory, drops,
+//! drains, readings, and laws in use. `limited` and `word` are not under `cfg(test)`, since `./wrong_bodies` tries edits
+//! of them, and proves only what is in the library.
 #![tactic(auto)]
 
 #[cfg(test)]
@@ -36,8 +37,6 @@ mod memory;
 #[cfg(test)]
 mod one_thread;
 #[cfg(test)]
-mod playing;
-#[cfg(test)]
 mod program;
 #[cfg(test)]
 mod reading;
@@ -45,8 +44,6 @@ mod reading;
 mod refusals;
 #[cfg(test)]
 mod sharing;
-#[cfg(test)]
-mod steps;
 #[cfg(test)]
 mod values;
 pub mod word;

@@ -1,7 +1,7 @@
 //! Whole runs of the program on readers and writers in memory, which give or take little, or fail. `test_cases.py` and
 //! `test_hostile_scripts.py` of `tests/programs` run the built program on the cases of `cases/`, on arguments, on texts
 //! that are no script, and on scripts at each limit and above it.
-use crate::compare::compare_named;
+use crate::compare::compare;
 use flow_program::run;
 use flow_script::Watched;
 use std::alloc::AllocGlobal;
@@ -27,12 +27,12 @@ pub fn expect<H: Host, R: Read + Drop>(rt: &H, name: &str, script: R, status: u8
     let mut output = Watched::new(&mut printed);
     let answered = run(rt, &[], &mut input, &mut output);
     compare_bytes(rt, name, printed.as_slice(), lines);
-    compare_named(rt, name, answered, status);
+    compare(rt, name, answered, status);
 }
 
 /// Compares what was printed with what is wanted.
 pub fn compare_bytes<'a, H: Host>(rt: &H, name: &str, printed: &'a [u8], wanted: &'a [u8]) {
     let printed = str::from_utf8(printed).unwrap_or("no UTF-8");
     let wanted = str::from_utf8(wanted).unwrap_or("no UTF-8");
-    compare_named(rt, name, printed, wanted);
+    compare(rt, name, printed, wanted);
 }

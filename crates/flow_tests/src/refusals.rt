@@ -5,4 +5,10 @@ mod awaiting;
 mod chains;
 mod flows;
 mod gates;
+mod player;
+mod runs;
 mod sharings;
+mod steps;
+
+/// A number greater than that of the runs of an example.
+pub const MANY: u64 = 200;

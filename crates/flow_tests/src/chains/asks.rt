@@ -3,7 +3,7 @@ ghost use Rattle.std.specs.Prelude.{⊤};
 
 use crate::chains::gives::{COLLECTIONS, begins_with};
 use crate::chains::inner::sum;
-use crate::compare::compare;
+use crate::compare::{compare, compare_step};
 use flow_cold::{Asked, Chain, ChainFault, Cold, OfRange, Terminal, law_asks_left};
 use std::cell::Cell;
 use std::process::Abort;
@@ -62,8 +62,8 @@ fn one_to_five(asks: &Cell<u32>) -> CountedAsks<'_, OfRange> {
 #[test]
 fn a_take_asks_no_more_than_it_gives(rt: HostRuntime) {
     let asks = Cell::new(0);
-    begins_with(&rt, rt.alloc(), 0, one_to_five(&asks), 2, &[1, 2]);
-    compare(&rt, 0, asks.get(), 2 * COLLECTIONS);
+    begins_with(&rt, rt.alloc(), one_to_five(&asks), 2, &[1, 2]);
+    compare(&rt, "asks of a take", asks.get(), 2 * COLLECTIONS);
 }
 
 /// A `scan` gives its initial value without an ask.
@@ -71,13 +71,13 @@ fn a_take_asks_no_more_than_it_gives(rt: HostRuntime) {
 fn a_scan_asks_once_less_than_it_gives(rt: HostRuntime) {
     let asks = Cell::new(0);
     let scanned = one_to_five(&asks).scan(0, sum);
-    begins_with(&rt, rt.alloc(), 0, scanned, 3, &[0, 1, 3]);
-    compare(&rt, 0, asks.get(), 2 * COLLECTIONS);
+    begins_with(&rt, rt.alloc(), scanned, 3, &[0, 1, 3]);
+    compare(&rt, "asks of a scan", asks.get(), 2 * COLLECTIONS);
 }
 
 /// Compares the number of asks, and counts anew.
-fn asked(rt: &impl Abort, place: usize, asks: &Cell<u32>, wanted: u32) {
-    compare(rt, place, asks.get(), wanted);
+fn asked(rt: &impl Abort, call: &str, asks: &Cell<u32>, wanted: u32) {
+    compare_step(rt, "asks", &call, asks.get(), wanted);
     asks.set(0);
 }
 
@@ -86,16 +86,16 @@ fn asked(rt: &impl Abort, place: usize, asks: &Cell<u32>, wanted: u32) {
 fn an_answer_ends_the_asks(rt: HostRuntime) {
     let asks = Cell::new(0);
     let mut chain = one_to_five(&asks);
-    compare(&rt, 0, chain.first(), Ok(Some(1)));
-    asked(&rt, 0, &asks, 1);
-    compare(&rt, 1, chain.first_where(|x| *x == 2), Ok(Some(2)));
-    asked(&rt, 1, &asks, 2);
-    compare(&rt, 2, chain.any(|x| *x == 3), Ok(true));
-    asked(&rt, 2, &asks, 3);
-    compare(&rt, 3, chain.all(|x| *x < 4), Ok(false));
-    asked(&rt, 3, &asks, 4);
-    compare(&rt, 4, chain.single(), Ok(None));
-    asked(&rt, 4, &asks, 2);
+    compare(&rt, "first", chain.first(), Ok(Some(1)));
+    asked(&rt, "first", &asks, 1);
+    compare(&rt, "of two", chain.first_where(|x| *x == 2), Ok(Some(2)));
+    asked(&rt, "of two", &asks, 2);
+    compare(&rt, "any", chain.any(|x| *x == 3), Ok(true));
+    asked(&rt, "any", &asks, 3);
+    compare(&rt, "all", chain.all(|x| *x < 4), Ok(false));
+    asked(&rt, "all", &asks, 4);
+    compare(&rt, "single", chain.single(), Ok(None));
+    asked(&rt, "single", &asks, 2);
 }
 
 /// Returns the item, or a fault in place of 3.
@@ -112,14 +112,14 @@ fn a_fault_of_a_closure_ends_the_asks(rt: HostRuntime) {
     let asks = Cell::new(0);
     let mut chain = one_to_five(&asks);
     let folded = chain.fold(0, |_, x| below_three(x));
-    compare(&rt, 0, folded, Err(ChainFault::Source(9)));
-    asked(&rt, 0, &asks, 3);
+    compare(&rt, "fold", folded, Err(ChainFault::Source(9)));
+    asked(&rt, "fold", &asks, 3);
     let reduced = chain.reduce(|_, x| below_three(x));
-    compare(&rt, 1, reduced, Err(ChainFault::Source(9)));
-    asked(&rt, 1, &asks, 3);
+    compare(&rt, "reduce", reduced, Err(ChainFault::Source(9)));
+    asked(&rt, "reduce", &asks, 3);
     let visited = chain.for_each(|x| below_three(x).map(|_| ()));
-    compare(&rt, 2, visited, Err(ChainFault::Source(9)));
-    asked(&rt, 2, &asks, 3);
+    compare(&rt, "for_each", visited, Err(ChainFault::Source(9)));
+    asked(&rt, "for_each", &asks, 3);
 }
 
 #[test]

@@ -8,26 +8,18 @@ use std::process::Abort;
 pub const COLLECTIONS: u32 = 2;
 
 /// Collects the chain twice, and compares its items and its end each time.
-pub fn gives<C: Cold<Item = i64>>(
-    rt: &impl Abort,
-    alloc: Global,
-    place: usize,
-    chain: C,
-    items: &[i64],
-    end: End,
-)
+pub fn gives<C: Cold<Item = i64>>(rt: &impl Abort, alloc: Global, chain: C, items: &[i64], end: End)
     requires { C.CanAsk chain }
 {
     let mut chain = chain;
-    gives_once(rt, alloc, place, &mut chain, items, end);
-    gives_once(rt, alloc, place, &mut chain, items, end);
+    gives_once(rt, alloc, &mut chain, items, end);
+    gives_once(rt, alloc, &mut chain, items, end);
 }
 
 /// Collects the chain, and compares its items and its end.
 pub fn gives_once<C: Cold<Item = i64>>(
     rt: &impl Abort,
     alloc: Global,
-    place: usize,
     chain: &mut C,
     items: &[i64],
     end: End,
@@ -36,15 +28,14 @@ pub fn gives_once<C: Cold<Item = i64>>(
     ensures { C.CanAsk chain.new }
 {
     let got = collect_all(alloc, chain).expect(rt, "memory");
-    compare(rt, place, got.items.as_slice(), items);
-    compare(rt, place, got.end, end);
+    compare(rt, "items", got.items.as_slice(), items);
+    compare(rt, "end", got.end, end);
 }
 
 /// Takes the first items of the chain, and compares them.
 pub fn begins_with<C: Cold<Item = i64>>(
     rt: &impl Abort,
     alloc: Global,
-    place: usize,
     chain: C,
     count: u64,
     items: &[i64],
@@ -52,7 +43,7 @@ pub fn begins_with<C: Cold<Item = i64>>(
     requires { C.CanAsk chain }
 {
     let first = chain.take(count).expect(rt, "a take");
-    gives(rt, alloc, place, first, items, End::Completed);
+    gives(rt, alloc, first, items, End::Completed);
 }
 
 /// Returns the chain of a list.

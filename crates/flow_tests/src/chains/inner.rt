@@ -28,20 +28,13 @@ fn listed(alloc: Global, x: i64) -> Result<Vec<i64>, ChainFault> {
 fn items_become_lists(rt: HostRuntime) {
     let alloc = rt.alloc();
     let chain = OfRange::new(1, 2).transform(|x| listed(alloc, x));
-    gives(&rt, alloc, 0, chain, &[1, 1, 2, 2], End::Completed);
+    gives(&rt, alloc, chain, &[1, 1, 2, 2], End::Completed);
 }
 
 #[test]
 fn items_become_chains(rt: HostRuntime) {
     let ranges = OfRange::new(1, 3).flat_map_concat(|x| Ok(OfRange::new(1, x)));
-    gives(
-        &rt,
-        rt.alloc(),
-        0,
-        ranges,
-        &[1, 1, 2, 1, 2, 3],
-        End::Completed,
-    );
+    gives(&rt, rt.alloc(), ranges, &[1, 1, 2, 1, 2, 3], End::Completed);
 }
 
 /// The closure of the inner chain captures the item.
@@ -50,14 +43,7 @@ fn items_become_chains_with_closures(rt: HostRuntime) {
     let chain = OfRange::new(1, 3).flat_map_concat(|x| {
         Ok(OfRange::new(1, x).map(move |y| y.checked_mul(x).ok_or(ChainFault::Overflow)))
     });
-    gives(
-        &rt,
-        rt.alloc(),
-        0,
-        chain,
-        &[1, 2, 4, 3, 6, 9],
-        End::Completed,
-    );
+    gives(&rt, rt.alloc(), chain, &[1, 2, 4, 3, 6, 9], End::Completed);
 }
 
 /// The second product of the second item is out of range, so nothing comes of the third one.
@@ -68,5 +54,5 @@ fn a_closure_of_an_inner_chain_fails(rt: HostRuntime) {
         Ok(OfRange::new(1, 2).map(move |y| x.checked_mul(y).ok_or(ChainFault::Overflow)))
     });
     let end = End::Failed(ChainFault::Overflow);
-    gives(&rt, alloc, 0, chain, &[1, 2, LARGE], end);
+    gives(&rt, alloc, chain, &[1, 2, LARGE], end);
 }

@@ -2,7 +2,7 @@
 
 use crate::compare::compare;
 use crate::limited::CopyLimited;
-use crate::one_thread::limited::{are, list_of};
+use crate::one_thread::{are, list_of};
 use flow_cold::{ChainFault, Cold, Distinct, End, OfList, collect_all};
 use std::alloc::Global;
 use std::cell::Cell;
@@ -22,8 +22,8 @@ fn gives<'a, C: Cold<Item = CopyLimited<'a>>>(
     let Ok(got) = collect_all(alloc, chain) else {
         panic!(rt; "memory")
     };
-    are(rt, 0, got.items.as_slice(), numbers);
-    compare(rt, 0, got.end, end);
+    are(rt, "items", got.items.as_slice(), numbers);
+    compare(rt, "end", got.end, end);
 }
 
 const WANTED: End = End::Failed(ChainFault::OutOfMemory);

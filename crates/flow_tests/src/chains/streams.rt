@@ -11,10 +11,10 @@ const FAULT: ChainFault = ChainFault::Source(7);
 #[test]
 fn a_stream_gives_the_items_and_the_fault(rt: HostRuntime) {
     let chain = script(&rt, rt.alloc(), FAILS_AFTER_TWO);
-    gives(&rt, rt.alloc(), 0, chain, &[5, 6], End::Failed(FAULT));
+    gives(&rt, rt.alloc(), chain, &[5, 6], End::Failed(FAULT));
     let stream = Streamed::new(script(&rt, rt.alloc(), FAILS_AFTER_TWO));
     let got = block_on(&rt, stream.collect(rt.alloc()));
     let got = got.expect(&rt, "a waker").expect(&rt, "memory");
     let wanted = [Ok(5), Ok(6), Err(FAULT)];
-    compare(&rt, 1, got.as_slice(), wanted.as_slice());
+    compare(&rt, "the stream", got.as_slice(), wanted.as_slice());
 }

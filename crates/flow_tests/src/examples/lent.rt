@@ -11,10 +11,10 @@ use std::sync::Wait;
 /// Checks that a subscriber receives what was emitted, and then nothing.
 fn receives_all<R: Wait + Abort>(rt: &R, subscribed: &mut Subscribed<'_>) {
     let taken = emit_one(rt, subscribed.flow, &mut subscribed.seat, 1);
-    compare(rt, 0, taken, Ok(true));
+    compare(rt, "emit_one", taken, Ok(true));
     for wanted in [Value(1), Empty] {
         let received = next_in_order(rt, subscribed.flow, &mut subscribed.subscription);
-        compare(rt, 1, received, Ok(wanted));
+        compare(rt, "next_in_order", received, Ok(wanted));
     }
 }
 
@@ -27,7 +27,7 @@ fn subscriber_of_a_lent_flow_receives_all(rt: HostRuntime) {
 #[test]
 fn reader_of_a_lent_word_state_gets_the_newest_value(rt: HostRuntime) {
     let (flow, mut seat) = new_word_state(&rt, rt.alloc(), 5, 1);
-    compare(&rt, 0, read_newest(&flow, &mut seat), 5);
+    compare(&rt, "the first value", read_newest(&flow, &mut seat), 5);
     flow.set(&mut seat, 9);
-    compare(&rt, 1, read_newest(&flow, &mut seat), 9);
+    compare(&rt, "the newest value", read_newest(&flow, &mut seat), 9);
 }

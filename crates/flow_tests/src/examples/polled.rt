@@ -24,8 +24,8 @@ where
 {
     let mut future = future;
     let task = MockTask::new(rt).expect(rt, "a task");
-    compare(rt, 0, task.poll(&mut future).is_pending(), true);
-    compare(rt, 1, task.is_woken(), true);
+    compare(rt, "pending", task.poll(&mut future).is_pending(), true);
+    compare(rt, "it asks to be polled again", task.is_woken(), true);
     future
 }
 
@@ -44,7 +44,7 @@ fn is_cancelled<R: Wait + RandomSource + AllocGlobal + Abort>(
 ) {
     let seat = subscribed.flow.seat(&mut subscribed.seat);
     let emit = asks_again(rt, EmitFuture::new(subscribed.flow, seat, 7));
-    compare(rt, 2, cancelled(rt, emit), Some(true));
+    compare(rt, "cancelled", cancelled(rt, emit), Some(true));
 }
 
 /// Checks that there is nothing to receive after the cancel, and that the future returns its subscription.
@@ -55,7 +55,7 @@ fn receives_nothing<R: Wait + RandomSource + AllocGlobal + Abort>(
     is_cancelled(rt, subscribed);
     let subscription = new_subscription(rt, subscribed.flow, &mut subscribed.seat);
     let next = asks_again(rt, NextFuture::new(subscribed.flow, subscription));
-    compare(rt, 3, next.into_subscription().is_some(), true);
+    compare(rt, "given back", next.into_subscription().is_some(), true);
 }
 
 #[test]
@@ -98,5 +98,5 @@ fn an_emission_and_its_receiver_are_awaited(rt: HostRuntime) {
         || sends(&rt, &flow, seat),
         || receives(&rt, &flow, subscription),
     );
-    compare(&rt, 4, done, (true, Some(7)));
+    compare(&rt, "sent and received", done, (true, Some(7)));
 }

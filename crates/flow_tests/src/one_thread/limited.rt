@@ -16,11 +16,11 @@ pub fn number_of(next: Result<Next<CopyLimited<'_>>, FlowFault>) -> Result<Next<
     }
 }
 
-/// Compares the numbers of the values of the call at this place.
-pub fn are(rt: &impl Abort, place: usize, values: &[CopyLimited<'_>], numbers: &[i64]) {
-    compare(rt, place, values.len(), numbers.len());
+/// Compares the numbers of the values of a row.
+pub fn are(rt: &impl Abort, row: &str, values: &[CopyLimited<'_>], numbers: &[i64]) {
+    compare(rt, row, values.len(), numbers.len());
     for (value, number) in values.iter().zip(numbers) {
-        compare(rt, place, value.number(), *number);
+        compare(rt, row, value.number(), *number);
     }
 }
 

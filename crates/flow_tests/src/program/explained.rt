@@ -1,6 +1,6 @@
 //! Explanations of scripts: of the faults and answers that no script leads to, and of one of each kind that a script
 //! does lead to.
-use crate::compare::{compare, compare_named};
+use crate::compare::compare;
 use crate::program::Host;
 use flow_law::ChainFault;
 use flow_script::{Answer, ScriptFault, Seen, Told, chain_fault_words};
@@ -46,7 +46,7 @@ static REFUSALS: &[(&str, ScriptFault, &str)] = &[
 fn a_refusal_is_told_with_its_place(rt: HostRuntime) {
     for (text, fault, words) in REFUSALS {
         let told = explain_refusal(rt.alloc(), text.as_bytes(), *fault).expect(&rt, "memory");
-        compare_named(&rt, text, told.as_str(), *words);
+        compare(&rt, text, told.as_str(), *words);
     }
 }
 
@@ -97,7 +97,7 @@ fn expect_rule<H: Host>(rt: &H, script: &str, step: &str, test: bool, rule: &str
     let [found] = rules.as_slice() else {
         panic!(rt; "a rule");
     };
-    compare_named(rt, "the rule", found.as_str(), rule);
+    compare(rt, "the rule", found.as_str(), rule);
 }
 
 #[test]
@@ -110,5 +110,5 @@ fn an_answer_has_its_rule(rt: HostRuntime) {
 #[test]
 fn a_fault_of_a_source_has_its_number(rt: HostRuntime) {
     let words = chain_fault_words(ChainFault::Source(7));
-    compare(&rt, 0, words, ("4 Source", Some(7)));
+    compare(&rt, "the words", words, ("4 Source", Some(7)));
 }

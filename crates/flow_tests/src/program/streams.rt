@@ -1,5 +1,5 @@
 //! Readers and writers that give or take little, or fail.
-use crate::compare::compare;
+use crate::compare::{compare, compare_step};
 use crate::program::{Host, compare_bytes, expect};
 use flow_program::run;
 use flow_script::{Watched, played, read_script, text_of};
@@ -79,7 +79,7 @@ fn play_to<H: Host>(rt: &H, left: usize, fails: bool, wanted: u8, lines: &[u8]) 
         fails,
     });
     let status = run(rt, &[], &mut input, &mut output);
-    compare(rt, left, status, wanted);
+    compare_step(rt, "the status after bytes", &left, status, wanted);
     compare_bytes(rt, "lines in single bytes", taken.as_slice(), lines);
 }
 
@@ -99,7 +99,7 @@ fn a_script_that_was_read_has_the_same_lines(rt: HostRuntime) {
     let script = read_script(rt.alloc(), SCRIPT.as_bytes()).expect(&rt, "a script");
     let answers = played(rt.alloc(), script).expect(&rt, "answers");
     let lines = text_of(rt.alloc(), &answers).expect(&rt, "lines");
-    compare(&rt, 0, lines.as_str(), LINES);
+    compare(&rt, "lines", lines.as_str(), LINES);
 }
 
 #[test]

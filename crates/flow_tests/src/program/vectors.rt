@@ -1,5 +1,5 @@
 //! Plays a script, and one that is refused, and compares what they print, byte for byte.
-use crate::compare::compare_named;
+use crate::compare::compare;
 use crate::program::streams::{LINES, SCRIPT};
 use crate::program::{Host, compare_bytes, played};
 use flow_script::{ScriptFault, Watched, play};
@@ -15,7 +15,7 @@ fn plays<H: Host>(rt: &H, script: &str, lines: &str, wanted: Result<(), ScriptFa
     let mut output = Watched::new(&mut printed);
     let answered = play(rt.alloc(), &mut input, &mut output);
     compare_bytes(rt, script, printed.as_slice(), lines.as_bytes());
-    compare_named(rt, script, answered, wanted);
+    compare(rt, script, answered, wanted);
 }
 
 #[test]
@@ -28,5 +28,5 @@ fn a_script_prints_its_lines_or_is_refused(rt: HostRuntime) {
 fn a_program_plays_a_script_of_its_own(rt: HostRuntime) {
     let lines = played::lines(rt.alloc()).expect(&rt, "lines");
     let wanted = "true\nsubscribed\ntrue\nvalue 10\nvalue 20\nempty\n";
-    compare_named(&rt, "the lines", lines.as_str(), wanted);
+    compare(&rt, "the lines", lines.as_str(), wanted);
 }

@@ -1,7 +1,7 @@
 //! A chain that is collected into a list to which memory is refused.
 use crate::compare::compare;
 use crate::memory::Refusing;
-use crate::playing::MANY;
+use crate::refusals::MANY;
 use flow_cold::{ChainFault, End, OfRange, collect_all};
 use std::alloc::{Allocator, Global};
 use std::process::Abort;
@@ -10,8 +10,13 @@ use std::process::Abort;
 fn gives_all<A: Allocator + Copy>(rt: &impl Abort, memory: A, chain: &mut OfRange) {
     match collect_all(memory, chain) {
         Ok(got) => {
-            compare(rt, 0, got.items.as_slice(), [1, 2, 3, 4, 5, 6].as_slice());
-            compare(rt, 1, got.end, End::Completed);
+            compare(
+                rt,
+                "items",
+                got.items.as_slice(),
+                [1, 2, 3, 4, 5, 6].as_slice(),
+            );
+            compare(rt, "end", got.end, End::Completed);
         }
         Err(fault) => panic!(rt; "{fault}"),
     }
@@ -25,14 +30,15 @@ fn refuse_each<A: Allocator + Copy>(rt: &impl Abort, memory: A, refusing: &Refus
         refusing.refuse(number);
         let refused = collect_all(memory, &mut chain).err();
         if refusing.is_waiting() {
-            compare(rt, 2, refused, None);
+            compare(rt, "nothing was refused", refused, None);
             break;
         }
-        compare(rt, 3, refused, Some(ChainFault::OutOfMemory));
+        compare(rt, "refused", refused, Some(ChainFault::OutOfMemory));
         refusals = refusals.saturating_add(1);
         gives_all(rt, memory, &mut chain);
     }
-    compare(rt, 4, refusing.is_waiting() && refusals > 0, true);
+    let is_refused_and_made = refusing.is_waiting() && refusals > 0;
+    compare(rt, "all but the last refused", is_refused_and_made, true);
     refusing.refuse(0);
     gives_all(rt, memory, &mut chain);
 }

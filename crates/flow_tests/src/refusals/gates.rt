@@ -29,7 +29,7 @@ fn refuse_each<A: Allocator + Copy>(rt: &impl Abort, memory: A, refusing: &Refus
                 seat.end();
                 panic!(rt; "it is refused")
             }
-            Err(failed) => compare(rt, 0, failed.value.name, 7),
+            Err(failed) => compare(rt, "the state that is handed back", failed.value.name, 7),
         }
     }
     match Gate::new(memory, Named { name: 7 }) {

@@ -2,24 +2,25 @@
 //! and for that the flow takes memory.
 use crate::compare::compare;
 use crate::memory::Refusing;
-use crate::playing::MANY;
-use crate::sharing::Chain::SixtySix;
-use crate::sharing::Step::{Refused, Turn, Turns};
-use crate::sharing::turn;
+use crate::refusals::MANY;
+use crate::sharing::{PUTS, STARTS, count_to};
 use flow_cold::Scripted;
-use flow_law::Command::{Keep, Start};
-use flow_law::Event::{Put, Queued, Waiting};
-use flow_law::ShareFault::{self, Flow};
-use flow_law::{FlowFault, Next, Started};
+use flow_law::{Command, Event, FlowFault, Next, Report, ShareFault, Started};
 use flow_sharing::{CoreHub, Sharing, share_in};
 use std::alloc::{Allocator, Global};
 use std::process::Abort;
 
-const OUT_OF_MEMORY: FlowFault = FlowFault::OutOfMemory;
+const OUT_OF_MEMORY: ShareFault = ShareFault::Flow(FlowFault::OutOfMemory);
 
-/// Makes a sharing. Returns why it is refused, if it is.
+/// The report of a turn of a chain that runs.
+fn reports(event: Event) -> Result<Report, ShareFault> {
+    let command = Command::Keep;
+    Ok(Report { command, event })
+}
+
+/// Makes a sharing of the numbers from 1 to 66. Returns why it is refused, if it is.
 fn refusal<A: Allocator + Copy>(rt: &impl Abort, alloc: Global, memory: A) -> Option<ShareFault> {
-    let chain = SixtySix.make(rt, alloc);
+    let chain = count_to(rt, alloc, 66);
     share_in(memory, chain, Started::Eagerly, 0, u64::MAX).err()
 }
 
@@ -36,15 +37,16 @@ fn share<A: Allocator + Copy>(
         refusing.refuse(number);
         let refused = refusal(rt, alloc, memory);
         if refusing.is_waiting() {
-            compare(rt, 0, refused, None);
+            compare(rt, "nothing was refused", refused, None);
             break;
         }
-        compare(rt, 7, refused, Some(Flow(OUT_OF_MEMORY)));
+        compare(rt, "a refused sharing", refused, Some(OUT_OF_MEMORY));
         refusals = refusals.saturating_add(1);
     }
-    compare(rt, 8, refusing.is_waiting() && refusals > 0, true);
+    let is_refused_and_made = refusing.is_waiting() && refusals > 0;
+    compare(rt, "all but the last refused", is_refused_and_made, true);
     refusing.refuse(0);
-    let chain = SixtySix.make(rt, alloc);
+    let chain = count_to(rt, alloc, 66);
     let shared = share_in(memory, chain, Started::Eagerly, 0, u64::MAX);
     put_again(rt, &mut shared.expect(rt, "a sharing"), refusing);
 }
@@ -54,18 +56,18 @@ fn put_again<A: Allocator + Copy>(
     sharing: &mut Sharing<Scripted<i64>, CoreHub<i64, A>>,
     refusing: &Refusing<Global>,
 ) {
-    let subscribed = sharing.subscribe();
-    let id = subscribed.expect(rt, "a subscription");
-    compare(rt, 1, sharing.hub().core().subscription_count(), 1);
-    turn(rt, sharing, 1, Turn(0, Start, Put));
-    turn(rt, sharing, 2, Turns(1, 63, Keep, Put));
+    let id = sharing.subscribe().expect(rt, "a subscription");
+    compare(rt, "count", sharing.hub().core().subscription_count(), 1);
+    compare(rt, "turn at 0", sharing.turn(0), Ok(STARTS));
+    for moment in 1..64 {
+        compare(rt, "a turn with room", sharing.turn(moment), Ok(PUTS));
+    }
     refusing.refuse(1);
-    turn(rt, sharing, 3, Refused(64, Flow(OUT_OF_MEMORY)));
-    turn(rt, sharing, 4, Turn(65, Keep, Queued));
-    turn(rt, sharing, 5, Turn(66, Keep, Waiting));
+    compare(rt, "turn at 64", sharing.turn(64), Err(OUT_OF_MEMORY));
+    compare(rt, "turn at 65", sharing.turn(65), reports(Event::Queued));
+    compare(rt, "turn at 66", sharing.turn(66), reports(Event::Waiting));
     for number in 1..66 {
-        let next = sharing.next(id);
-        compare(rt, 6, next, Ok(Next::Value(number)));
+        compare(rt, "next", sharing.next(id), Ok(Next::Value(number)));
     }
 }
 

@@ -86,6 +86,6 @@ where
     S: Follows<C> + Sync,
 {
     let (ran, follows) = join(rt, || sharing.run(rt, stop), || stop.follow(rt, caller));
-    compare(rt, 0, ran, Ok(()));
-    compare(rt, 1, follows, true);
+    compare(rt, "the run", ran, Ok(()));
+    compare(rt, "the caller received the right values", follows, true);
 }

@@ -1,9 +1,9 @@
 //! A sharing over a state flow, a reset and a chain that are refused with `OutOfMemory`.
 use crate::compare::compare;
 use crate::limited::CopyLimited;
-use crate::sharing::sharing_steps::{RESTS, STARTS};
+use crate::sharing::shared::STARTS;
 use flow_cold::OfList;
-use flow_law::{ChainFault, FlowFault, Report, ShareFault, Started};
+use flow_law::{ChainFault, Command, Event, FlowFault, Report, ShareFault, Started};
 use flow_sharing::{Sharing, StateHub, state_in};
 use std::alloc::Global;
 use std::cell::Cell;
@@ -19,9 +19,9 @@ fn turns(
     wanted: Result<Report, ShareFault>,
     value: i64,
 ) {
-    compare(rt, 0, sharing.turn(now), wanted);
+    compare(rt, "turn", sharing.turn(now), wanted);
     match sharing.hub().core().value() {
-        Ok(found) => compare(rt, 1, found.number(), value),
+        Ok(found) => compare(rt, "value after the turn", found.number(), value),
         Err(_fault) => panic!(rt; "no value"),
     }
 }
@@ -40,6 +40,12 @@ fn share<'a>(
     state_in(alloc, chain, started, initial, u64::MAX)
 }
 
+/// The report of a turn that has nothing to do.
+const RESTS: Report = Report {
+    command: Command::Keep,
+    event: Event::Idle,
+};
+
 const OUT_OF_MEMORY: ShareFault = ShareFault::Flow(FlowFault::OutOfMemory);
 
 /// Refuses the copy of the initial value that a sharing keeps for resets, and then makes a sharing. A refused reset
@@ -48,14 +54,14 @@ const OUT_OF_MEMORY: ShareFault = ShareFault::Flow(FlowFault::OutOfMemory);
 fn a_refused_reset_stays_due_and_a_refused_chain_ends(rt: HostRuntime) {
     let copies = Cell::new(1);
     let refused = share(&rt, rt.alloc(), &copies).err();
-    compare(&rt, 3, refused, Some(OUT_OF_MEMORY));
+    compare(&rt, "a refused sharing", refused, Some(OUT_OF_MEMORY));
     let Ok(mut sharing) = share(&rt, rt.alloc(), &copies) else {
         panic!(rt; "a sharing")
     };
     let subscribed = sharing.subscribe();
     let id = subscribed.expect(&rt, "a subscription");
     turns(&rt, &mut sharing, 0, Ok(STARTS), 3);
-    compare(&rt, 2, sharing.unsubscribe(id), true);
+    compare(&rt, "unsubscribe", sharing.unsubscribe(id), true);
     copies.set(1);
     turns(&rt, &mut sharing, 1, Err(OUT_OF_MEMORY), 3);
     turns(&rt, &mut sharing, 2, Ok(RESTS), 0);

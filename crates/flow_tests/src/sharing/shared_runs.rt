@@ -5,7 +5,7 @@ use crate::compare::compare;
 use crate::flows::{new_flow, new_reader, reads_cache};
 use crate::handle_calls::receive;
 use crate::sharing::beside::{AT_ONCE, Caller, Follows, SHORTLY, run_beside};
-use crate::sharing::playing::{Chain, share_into};
+use crate::sharing::shared::{chain_of, share_into};
 use flow_cold::Scripted;
 use flow_law::{Config, Started};
 use flow_shared::{Emitter, Reader, Seat, SharedFlow};
@@ -117,7 +117,7 @@ fn share<'a>(
 /// milliseconds after a subscriber has gone the replay cache is empty. The next subscriber starts the chain anew.
 #[test]
 fn a_shared_flows_run_is_woken_by_subscribers_and_at_the_expiry(rt: HostRuntime) {
-    let chain = Chain::List(&[3, 3, 4]).make(&rt, rt.alloc());
+    let chain = chain_of(&rt, rt.alloc(), &[3, 3, 4]);
     let (flow, seat) = new_flow(&rt, rt.alloc(), Config::new().replay(1).extra(2));
     let (mut sharing, mut emitter) = share(&flow, seat, chain, SHORTLY);
     run_beside(&rt, &mut sharing, &FlowStop::new(), &mut emitter);
@@ -127,7 +127,7 @@ fn a_shared_flows_run_is_woken_by_subscribers_and_at_the_expiry(rt: HostRuntime)
 /// an emission waits, when the chain has ended, and after the subscriber has gone.
 #[test]
 fn a_run_sleeps_while_there_is_nothing_to_do(rt: HostRuntime) {
-    let chain = Chain::List(&[1, 2, 3]).make(&rt, rt.alloc());
+    let chain = chain_of(&rt, rt.alloc(), &[1, 2, 3]);
     let (flow, seat) = new_flow(&rt, rt.alloc(), Config::new());
     let (mut sharing, mut emitter) = share(&flow, seat, chain, AT_ONCE);
     run_beside(&rt, &mut sharing, &CountedStop::new(), &mut emitter);
@@ -144,13 +144,13 @@ fn share_to_end<R: Wait + Clock + Abort>(
     ensures { seat.new.table_id ≡ flow.entry.now.table_id }
 {
     let mut sharing = share_into(flow, seat, chain, Started::Eagerly);
-    compare(rt, 0, sharing.run_to_end(rt), Ok(()));
+    compare(rt, "run_to_end", sharing.run_to_end(rt), Ok(()));
 }
 
 /// The run ends once the chain has ended. A program of use_flows has a subscriber for which it waits.
 #[test]
 fn a_run_to_the_end_emits_each_item(rt: HostRuntime) {
-    let chain = Chain::List(&[1, 2, 3]).make(&rt, rt.alloc());
+    let chain = chain_of(&rt, rt.alloc(), &[1, 2, 3]);
     let (flow, mut seat) = new_flow(&rt, rt.alloc(), Config::new().replay(3));
     share_to_end(&rt, &flow, &mut seat, chain);
     reads_cache(&rt, &flow, &mut seat, &[1, 2, 3]);

@@ -3,7 +3,7 @@ ghost use Rattle.std.specs.Prelude.{◌≡◌};
 
 use crate::flows::{new_state_flow, new_state_reader};
 use crate::sharing::beside::{AT_ONCE, Caller, Follows, SHORTLY, run_beside};
-use crate::sharing::playing::{Chain, share_into_state};
+use crate::sharing::shared::{chain_of, share_into_state};
 use flow_cold::Scripted;
 use flow_law::Started;
 use flow_shared::{Setter, StateFlow, StateReader, StateSeat};
@@ -73,7 +73,7 @@ fn share<'a>(
 /// subscriber has gone the state is the initial one, 0. The next subscriber starts the chain anew.
 #[test]
 fn a_state_flows_run_is_woken_by_subscribers_and_at_the_expiry(rt: HostRuntime) {
-    let chain = Chain::List(&[3, 3, 4]).make(&rt, rt.alloc());
+    let chain = chain_of(&rt, rt.alloc(), &[3, 3, 4]);
     let (flow, seat) = new_state_flow(&rt, rt.alloc(), 0, u64::MAX);
     let (mut sharing, mut setter) = share(&flow, seat, chain, SHORTLY);
     run_beside(&rt, &mut sharing, &FlowStop::new(), &mut setter);
@@ -97,7 +97,7 @@ fn run_often<R: Threads + Wait + Clock + Abort + Sync>(
 /// A stop ends a run, whenever it is asked for during the first turns.
 #[test]
 fn a_stop_that_comes_before_the_sleep_is_not_missed(rt: HostRuntime) {
-    let chain = Chain::List(&[1]).make(&rt, rt.alloc());
+    let chain = chain_of(&rt, rt.alloc(), &[1]);
     let (flow, seat) = new_state_flow(&rt, rt.alloc(), 0, u64::MAX);
     let (mut sharing, mut setter) = share(&flow, seat, chain, AT_ONCE);
     run_often(&rt, &mut sharing, &mut setter);

@@ -1,8 +1,7 @@
 //! Sharings over a word state that are run by one call, on a thread of their own.
 use crate::flows::{new_word_reader, new_word_state};
 use crate::sharing::beside::{Caller, Follows, SHORTLY, receives_twice, run_beside};
-use crate::sharing::playing::Chain;
-use crate::sharing::word_hubs::share_into_word;
+use crate::sharing::shared::{chain_of, share_into_word};
 use flow_sharing::WordStop;
 use flow_word::{WordReader, WordSetter};
 use std::process::Abort;
@@ -36,7 +35,7 @@ impl<'a> Follows<WordSetter<'a, i64>> for WordStop<'a, i64> {
 /// the chain anew.
 #[test]
 fn a_run_is_woken_by_subscribers_and_at_the_expiry(rt: HostRuntime) {
-    let chain = Chain::List(&[3, 3, 4]).make(&rt, rt.alloc());
+    let chain = chain_of(&rt, rt.alloc(), &[3, 3, 4]);
     let (flow, mut seat) = new_word_state(&rt, rt.alloc(), 0, u32::MAX);
     let mut sharing = share_into_word(&flow, &mut seat, chain, SHORTLY);
     let stop = WordStop::new(&flow);
