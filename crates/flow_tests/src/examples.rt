@@ -9,6 +9,5 @@ mod leaving;
 mod lent;
 mod polled;
 mod races;
-mod subscribed;
 mod threads;
 mod watchers;

@@ -1,4 +1,5 @@
-//! Tests of flows, of cold chains, of sharings, of the checker and of the program, and callers of flows with contracts.
+//! Tests of flows and of the checker, and callers of flows with contracts. `chain_tests` has those of chains, of sharings
+//! and of the player.
 //! What each call replies is proved, for every schedule; the tests compare it with values from kotlinx.coroutines'
 //! documentation.
 //!
@@ -7,20 +8,16 @@
 //!
 //! Rows that a script can say are in `examples/` and `cases/`: `tests/programs/test_every_flow.py` plays them over every
 //! kind of flow. Here is what no script says: threads that race, futures, refused copies and refused memory, drops,
-//! drains, readings, and laws in use. `limited` and `word` are not under `cfg(test)`, since `./wrong_bodies` tries edits
-//! of them, and proves only what is in the library.
+//! drains, readings, and laws in use. `word` is not under `cfg(test)`, since `./wrong_bodies` tries an edit of it, and
+//! proves only what is in the library.
 #![tactic(auto)]
 
 #[cfg(test)]
 mod awaiting;
 #[cfg(test)]
-mod chains;
-#[cfg(test)]
 mod checker;
 #[cfg(test)]
 mod compare;
-#[cfg(test)]
-mod crowds;
 #[cfg(test)]
 mod examples;
 #[cfg(test)]
@@ -31,19 +28,12 @@ mod handle_calls;
 mod handles;
 #[cfg(test)]
 mod lent;
-pub mod limited;
-#[cfg(test)]
-mod memory;
 #[cfg(test)]
 mod one_thread;
-#[cfg(test)]
-mod program;
 #[cfg(test)]
 mod reading;
 #[cfg(test)]
 mod refusals;
-#[cfg(test)]
-mod sharing;
 #[cfg(test)]
 mod values;
 pub mod word;

@@ -13,5 +13,3 @@ mod signs;
 mod state;
 mod value_traits;
 mod values;
-
-pub use limited::{are, list_of};

@@ -2,12 +2,10 @@
 //! second one, and so on, until nothing is refused in a run. The replies are always those of the documentation.
 
 mod awaiting;
-mod chains;
 mod flows;
 mod gates;
 mod player;
 mod runs;
-mod sharings;
 mod steps;
 
 /// A number greater than that of the runs of an example.

@@ -2,8 +2,7 @@
 ghost use Rattle.std.specs.Prelude.{◌≡◌};
 
 use crate::compare::compare;
-use crate::examples::subscribed::new_subscription;
-use crate::flows::{new_flow, new_state_flow};
+use crate::flows::{new_flow, new_state_flow, new_subscription};
 use crate::reading::set_and_read;
 use flow_law::Next::{Empty, Value};
 use flow_law::{Config, Next};

@@ -2,8 +2,8 @@
 //! again, so the wait returns the same as with memory.
 use crate::compare::compare;
 use crate::flows::{new_reader, new_state_reader};
-use crate::memory::Refusing;
 use flow_law::{Config, Rejected};
+use flow_refusals::Refusing;
 use flow_shared::{Emitter, Reader, SendEnd, Setter, SharedFlow, StateFlow, StateReader};
 use std::alloc::{Allocator, Global};
 use std::process::Abort;

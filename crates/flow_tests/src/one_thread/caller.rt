@@ -1,9 +1,9 @@
 //! A caller of a shared flow for one thread. Each of its calls compares what the flow answers.
 use crate::compare::{compare, compare_step};
-use crate::limited::CopyLimited;
 use crate::one_thread::limited::{are, copied, list_of, number_of};
 use flow_core::{SharedCore, SubId};
 use flow_law::{Config, Drained, Emit, FlowFault, Next};
+use flow_refusals::CopyLimited;
 use std::alloc::Global;
 use std::cell::Cell;
 use std::process::Abort;

@@ -1,7 +1,7 @@
 //! Compares values one copy of which is refused, by their numbers.
 use crate::compare::compare;
-use crate::limited::CopyLimited;
 use flow_law::{FlowFault, Next};
+use flow_refusals::CopyLimited;
 use std::alloc::Global;
 use std::cell::Cell;
 use std::process::Abort;

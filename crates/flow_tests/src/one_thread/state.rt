@@ -1,8 +1,8 @@
 //! Drains of a state flow, of which no script has one.
 use crate::compare::compare;
-use crate::memory::Refusing;
 use flow_core::{StateCore, SubId};
 use flow_law::{Drained, FlowFault};
+use flow_refusals::Refusing;
 use std::alloc::Allocator;
 use std::process::Abort;
 

@@ -1,8 +1,8 @@
 //! The traits of values that own memory: what they print, when they are equal, and that equal values have equal hashes.
 use crate::compare::compare;
-use crate::memory::Refusing;
 use crate::one_thread::values::{boxed, items};
 use flow_law::{OutOfMemory, Text};
+use flow_refusals::Refusing;
 use std::alloc::Global;
 use std::fmt::Debug;
 use std::hash::{DefaultHasher, Hash, Hasher};

@@ -3,10 +3,10 @@
 ghost use Rattle.std.specs.Prelude.{◌≡◌};
 
 use crate::compare::compare;
-use crate::memory::Refusing;
 use crate::refusals::flows::SMALL;
 use crate::values::Numbered;
 use flow_law::{Boxed, FlowFault};
+use flow_refusals::Refusing;
 use flow_shared::{EmitFuture, Emitted, NextFuture, Seat, Sent, SharedFlow, Subscription};
 use futures::task::Poll;
 use futures::test::MockTask;

@@ -2,9 +2,9 @@
 ghost use Rattle.std.specs.Prelude.{⊤};
 
 use crate::compare::compare;
-use crate::memory::Refusing;
 use flow_gate::Gate;
 use flow_law::Guarded;
+use flow_refusals::Refusing;
 use std::alloc::{Allocator, Global};
 use std::process::Abort;
 

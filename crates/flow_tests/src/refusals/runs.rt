@@ -2,11 +2,11 @@
 ghost use Rattle.std.specs.Prelude.{◌≡◌};
 
 use crate::compare::{compare, compare_step};
-use crate::memory::Refusing;
 use crate::refusals::MANY;
 use crate::refusals::player::{FlowPlayer, Played, Step};
 use crate::values::Numbered;
 use flow_law::{Boxed, Config, FlowFault};
+use flow_refusals::Refusing;
 use flow_shared::{Flow, FlowSeat, SharedFlow, StateFlow};
 use std::alloc::{Allocator, Global};
 use std::process::Abort;

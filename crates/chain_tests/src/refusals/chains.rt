@@ -1,8 +1,8 @@
 //! A chain that is collected into a list to which memory is refused.
 use crate::compare::compare;
-use crate::memory::Refusing;
 use crate::refusals::MANY;
 use flow_cold::{ChainFault, End, OfRange, collect_all};
+use flow_refusals::Refusing;
 use std::alloc::{Allocator, Global};
 use std::process::Abort;
 

@@ -1,6 +1,6 @@
 use Rattle.std.proofs.Common.{◌+ℤ◌, ℤ, rules}
 use Rattle.flow_cold.specs.Numbers.{ranged}
-use Rattle.flow_tests.proofs.chains.callers.collect_plus.Goals as goal
+use Rattle.chain_tests.proofs.chains.callers.collect_plus.Goals as goal
 
 pub returns-clause-collects : goal.returns-clause-collects
 returns-clause-collects c =

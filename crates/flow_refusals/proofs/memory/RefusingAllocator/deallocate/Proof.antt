@@ -34,11 +34,11 @@ use denote.Triple.Spec.{triple_of}
 use denote.Triple.Statement.{Triple}
 use denote.Triple.Table.{entered}
 use denote.Triple.Walked.{Stays, stay_dropped, walk_of, ends_at, walked, Goes-dropped, walk_Meets}
-use Rattle.flow_tests.specs.contracts.memory.Refusing as memory
-use Rattle.flow_tests.specs.contracts.memory.RefusingAllocator.deallocate as said
-use Rattle.flow_tests.specs.contracts.memory.RefusingAllocator.deallocate.Key as key
-use Rattle.flow_tests.proofs.memory.RefusingAllocator.deallocate.Statement as stated
-use Rattle.flow_tests.proofs.memory.RefusingAllocator.deallocate.Code as code
+use Rattle.flow_refusals.specs.contracts.memory.Refusing as memory
+use Rattle.flow_refusals.specs.contracts.memory.RefusingAllocator.deallocate as said
+use Rattle.flow_refusals.specs.contracts.memory.RefusingAllocator.deallocate.Key as key
+use Rattle.flow_refusals.proofs.memory.RefusingAllocator.deallocate.Statement as stated
+use Rattle.flow_refusals.proofs.memory.RefusingAllocator.deallocate.Code as code
 
 -- The inner allocator: the arguments of a function that passes a call on to it, and its `&self`.
 abbrev args_of : Al → Args

@@ -1,12 +1,35 @@
 //! Out of memory inside a chain: the chain ends with a fault, and the collection itself does not fail.
 
 use crate::compare::compare;
-use crate::limited::CopyLimited;
-use crate::one_thread::{are, list_of};
 use flow_cold::{ChainFault, Cold, Distinct, End, OfList, collect_all};
+use flow_refusals::CopyLimited;
 use std::alloc::Global;
 use std::cell::Cell;
 use std::process::Abort;
+
+/// Returns a list of values of these numbers.
+fn list_of<'a>(
+    rt: &impl Abort,
+    alloc: Global,
+    copies: &'a Cell<u64>,
+    numbers: &[i64],
+) -> Vec<CopyLimited<'a>> {
+    let mut values = Vec::new(alloc);
+    for number in numbers {
+        let Ok(()) = values.push(CopyLimited::new(*number, copies)) else {
+            panic!(rt; "memory")
+        };
+    }
+    values
+}
+
+/// Compares the numbers of the values.
+fn are(rt: &impl Abort, values: &[CopyLimited<'_>], numbers: &[i64]) {
+    compare(rt, "how many", values.len(), numbers.len());
+    for (value, number) in values.iter().zip(numbers) {
+        compare(rt, "an item", value.number(), *number);
+    }
+}
 
 /// Collects the chain, and compares its items and its end.
 fn gives<'a, C: Cold<Item = CopyLimited<'a>>>(
@@ -22,7 +45,7 @@ fn gives<'a, C: Cold<Item = CopyLimited<'a>>>(
     let Ok(got) = collect_all(alloc, chain) else {
         panic!(rt; "memory")
     };
-    are(rt, "items", got.items.as_slice(), numbers);
+    are(rt, got.items.as_slice(), numbers);
     compare(rt, "end", got.end, end);
 }
 

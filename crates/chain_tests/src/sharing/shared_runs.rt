@@ -3,7 +3,6 @@ ghost use Rattle.std.specs.Prelude.{◌≡◌};
 
 use crate::compare::compare;
 use crate::flows::{new_flow, new_reader, reads_cache};
-use crate::handle_calls::receive;
 use crate::sharing::beside::{AT_ONCE, Caller, Follows, SHORTLY, run_beside};
 use crate::sharing::shared::{chain_of, share_into};
 use flow_cold::Scripted;
@@ -20,7 +19,7 @@ use std::time::{Clock, Duration};
 fn receives_all<R: Wait>(rt: &R, reader: &mut Reader<'_, i64>) -> bool {
     let mut is_right = true;
     for item in [3, 3, 4] {
-        is_right &= receive(rt, reader) == Ok(item);
+        is_right &= reader.receive(rt) == Ok(item);
     }
     is_right
 }
@@ -65,7 +64,7 @@ impl CountedStop {
     fn sleeps_between<R: Wait + Clock>(&self, rt: &R, reader: &mut Reader<'_, i64>) -> bool {
         let mut is_right = true;
         for item in 1..4 {
-            is_right &= self.sleeps(rt) && receive(rt, reader) == Ok(item);
+            is_right &= self.sleeps(rt) && reader.receive(rt) == Ok(item);
         }
         is_right && self.sleeps(rt)
     }

@@ -1,7 +1,7 @@
 use Rattle.std.proofs.Common.{◌*ℤ◌, ℤ, rules, to_z-of_z}
 use Rattle.flow_cold.specs.Numbers.{ranged}
 use Rattle.flow_operators.specs.Numbers.{is_even}
-use Rattle.flow_tests.proofs.chains.callers.even_times.Goals as goal
+use Rattle.chain_tests.proofs.chains.callers.even_times.Goals as goal
 
 pub returns : goal.returns
 returns c =

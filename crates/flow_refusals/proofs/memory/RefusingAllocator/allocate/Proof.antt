@@ -36,16 +36,16 @@ use denote.Triple.Spec.{triple_of}
 use denote.Triple.Statement.{Triple, Contract}
 use denote.Triple.Table.{entered, cited}
 use denote.Triple.Walked.{Stays, stay_dropped, walk_of, ends_at, walked, Goes-dropped, walk_Meets}
-use Rattle.flow_tests.proofs.memory.refuses.Symbol as refuses_symbol
-use Rattle.flow_tests.proofs.memory.refuses.Met as refuses_met
-use Rattle.flow_tests.specs.contracts.memory.Refusing as memory
-use Rattle.flow_tests.specs.contracts.memory.RefusingAllocator.allocate as said
-use Rattle.flow_tests.specs.contracts.memory.RefusingAllocator.allocate.Key as key
-use Rattle.flow_tests.proofs.memory.RefusingAllocator.allocate.Statement as stated
-use Rattle.flow_tests.proofs.memory.RefusingAllocator.allocate.Code as code
+use Rattle.flow_refusals.proofs.memory.refuses.Symbol as refuses_symbol
+use Rattle.flow_refusals.proofs.memory.refuses.Met as refuses_met
+use Rattle.flow_refusals.specs.contracts.memory.Refusing as memory
+use Rattle.flow_refusals.specs.contracts.memory.RefusingAllocator.allocate as said
+use Rattle.flow_refusals.specs.contracts.memory.RefusingAllocator.allocate.Key as key
+use Rattle.flow_refusals.proofs.memory.RefusingAllocator.allocate.Statement as stated
+use Rattle.flow_refusals.proofs.memory.RefusingAllocator.allocate.Code as code
 use denote.Memory.{hidden_shr}
 use Rattle.std.specs.contracts.sync.atomic.AtomicU64 as AtomicU64
-use Rattle.flow_tests.specs.contracts.memory.refuses as refuses
+use Rattle.flow_refusals.specs.contracts.memory.refuses as refuses
 use denote.Param.{bounded, param}
 
 -- The inner allocator: the arguments of a function that passes a call on to it, and its `&self`.
