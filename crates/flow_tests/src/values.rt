@@ -67,10 +67,7 @@ pub fn are<T: Numbered, S: Debug>(
     numbers: &[i64],
 ) {
     compare_step(rt, row, step, values.len(), numbers.len());
-    for index in 0..numbers.len() {
-        match values.get(index) {
-            Some(value) => compare_step(rt, row, step, value.number(), numbers[index]),
-            None => panic!(rt; "too few values"),
-        }
+    for (value, number) in values.iter().zip(numbers) {
+        compare_step(rt, row, step, value.number(), *number);
     }
 }

@@ -76,10 +76,10 @@ pub fn pending(operation: StateOperation, begin: u64) -> Timed<StateEntry> {
 }
 
 /// Returns a list of the calls of each caller.
-pub fn callers_of(
+pub fn callers_of<E: Copy + Drop>(
     alloc: Global,
-    rows: &[&[Timed<StateEntry>]],
-) -> Result<Vec<Vec<Timed<StateEntry>>>, AllocError> {
+    rows: &[&[Timed<E>]],
+) -> Result<Vec<Vec<Timed<E>>>, AllocError> {
     let mut callers = Vec::new(alloc);
     for row in rows {
         callers.push(Vec::from_slice(alloc, *row)?)?;

@@ -85,12 +85,8 @@ fn a_seat_goes_to_two_threads_in_turn(rt: HostRuntime) {
     let core = flow.close(seat).expect(&rt, "no caller is inside");
     let cache = core.replay_cache().expect(&rt, "memory");
     compare(&rt, "the cache", cache.as_slice(), [1, 2].as_slice());
-    compare(
-        &rt,
-        "its subscribers, and how many values it keeps",
-        (core.subscription_count(), core.held()),
-        (0, 2),
-    );
+    let left = (core.subscription_count(), core.held());
+    compare(&rt, "subscribers, and values kept", left, (0, 2));
 }
 
 /// Lets the seat and the subscription meet, and takes the next two values.

@@ -132,12 +132,8 @@ fn a_watcher_of_another_flow_is_woken(rt: HostRuntime) {
     let (home, mut seat) = new_flow(&rt, rt.alloc(), Config::new());
     let mut watcher = home.watcher();
     watcher.watch(&rt);
-    compare(
-        &rt,
-        "home",
-        home.count_watched(&mut seat, &mut watcher),
-        Ok(0),
-    );
+    let count = home.count_watched(&mut seat, &mut watcher);
+    compare(&rt, "subscribers of its own flow", count, Ok(0));
     let (flow, mut seat) = new_flow(&rt, rt.alloc(), Config::new());
     sleep_by_anothers(&rt, &flow, &mut seat, &mut watcher);
 }

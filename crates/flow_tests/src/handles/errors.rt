@@ -49,11 +49,7 @@ fn a_rejected_value_is_told_by_its_error(rt: HostRuntime) {
         error: Busy,
     };
     let text = format!(in rt.alloc(); "{rejected}").expect(&rt, "a text");
-    compare(
-        &rt,
-        "the text",
-        text.as_str(),
-        "another caller was inside the flow",
-    );
+    let wanted = "another caller was inside the flow";
+    compare(&rt, "the text", text.as_str(), wanted);
     compare(&rt, "fault", fault_of(Err(rejected)), Err(FlowFault::Busy));
 }

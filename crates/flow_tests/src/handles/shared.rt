@@ -81,8 +81,7 @@ fn a_wait_ends_in_time(rt: HostRuntime) {
     compare(&rt, "send 7", send(&rt, &mut emitter, 7), Ok(()));
     let received = reader.receive_timeout(&rt, limit);
     compare(&rt, "a value in time", received, Ok(Some(7)));
-    let at_once = Duration::from_millis(0);
-    let received = reader.receive_timeout(&rt, at_once);
+    let received = reader.receive_timeout(&rt, Duration::from_millis(0));
     compare(&rt, "no value at once", received, Ok(None));
 }
 
@@ -159,17 +158,9 @@ fn a_reader_drains(rt: HostRuntime) {
     compare(&rt, "try_emit 1", try_emit(&rt, &mut emitter, 1), Ok(true));
     compare(&rt, "try_emit 2", try_emit(&rt, &mut emitter, 2), Ok(true));
     let mut values = Vec::new(rt.alloc());
-    compare(
-        &rt,
-        "drain of 1",
-        reader.drain(&rt, 1, &mut values),
-        Ok(DrainEnd::Most),
-    );
-    compare(
-        &rt,
-        "drain of 9",
-        reader.drain(&rt, 9, &mut values),
-        Ok(DrainEnd::Empty),
-    );
+    let end = reader.drain(&rt, 1, &mut values);
+    compare(&rt, "drain of 1", end, Ok(DrainEnd::Most));
+    let end = reader.drain(&rt, 9, &mut values);
+    compare(&rt, "drain of 9", end, Ok(DrainEnd::Empty));
     compare(&rt, "the values", values.as_slice(), [1, 2].as_slice());
 }

@@ -73,8 +73,10 @@ fn a_word_state_is_updated(rt: HostRuntime) {
     let (flow, seat) = new_word_state(&rt, rt.alloc(), 4, 0);
     let mut setter = flow.setter(seat);
     setter.update(&rt, one_more);
-    compare(&rt, "then 6", setter.get_and_update(&rt, one_more), 5);
-    compare(&rt, "now 7", setter.update_and_get(&rt, one_more), 7);
+    let before = setter.get_and_update(&rt, one_more);
+    compare(&rt, "get_and_update", before, 5);
+    let after = setter.update_and_get(&rt, one_more);
+    compare(&rt, "update_and_get", after, 7);
     compare(&rt, "value", setter.value(), 7);
 }
 

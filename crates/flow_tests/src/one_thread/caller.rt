@@ -1,6 +1,6 @@
 //! A caller of a shared flow for one thread. Each of its calls compares what the flow answers.
 use crate::compare::{compare, compare_step};
-use crate::one_thread::limited::{are, copied, list_of, number_of};
+use crate::one_thread::limited::{are, list_of, number_of};
 use flow_core::{SharedCore, SubId};
 use flow_law::{Config, Drained, Emit, FlowFault, Next};
 use flow_refusals::CopyLimited;
@@ -37,24 +37,14 @@ impl<'a> Caller<'a> {
 
     pub fn emit(&mut self, rt: &impl Abort, value: i64, wanted: Emit) {
         let emitted = CopyLimited::new(value, self.copies);
-        compare_step(
-            rt,
-            "emit",
-            &value,
-            self.flow.emit(emitted).ok(),
-            Some(wanted),
-        );
+        let came = self.flow.emit(emitted).ok();
+        compare_step(rt, "emit", &value, came, Some(wanted));
     }
 
     pub fn try_emit(&mut self, rt: &impl Abort, value: i64, wanted: bool) {
         let emitted = CopyLimited::new(value, self.copies);
-        compare_step(
-            rt,
-            "try_emit",
-            &value,
-            self.flow.try_emit(emitted).ok(),
-            Some(wanted),
-        );
+        let came = self.flow.try_emit(emitted).ok();
+        compare_step(rt, "try_emit", &value, came, Some(wanted));
     }
 
     /// Emits the numbers from the first to the last one. The flow takes each of them.
@@ -144,7 +134,9 @@ impl<'a> Caller<'a> {
 
     /// Compares the number of values in the replay cache.
     pub fn caches(&self, rt: &impl Abort, wanted: usize) {
-        let cache = copied(rt, self.flow.replay_cache());
+        let Ok(cache) = self.flow.replay_cache() else {
+            panic!(rt; "memory")
+        };
         compare(rt, "values in the cache", cache.len(), wanted);
     }
 }

@@ -24,17 +24,6 @@ pub fn are(rt: &impl Abort, row: &str, values: &[CopyLimited<'_>], numbers: &[i6
     }
 }
 
-/// Returns the copies. Ends the test if one was refused.
-pub fn copied<'a>(
-    rt: &impl Abort,
-    copies: Result<Vec<CopyLimited<'a>>, FlowFault>,
-) -> Vec<CopyLimited<'a>> {
-    let Ok(copies) = copies else {
-        panic!(rt; "memory")
-    };
-    copies
-}
-
 /// Returns a list of values of these numbers.
 pub fn list_of<'a>(
     rt: &impl Abort,

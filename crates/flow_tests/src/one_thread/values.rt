@@ -80,12 +80,8 @@ fn a_boxed_value_is_what_the_box_contains(rt: HostRuntime) {
 
 /// Checks that the next copy is refused, and the one after it is not.
 fn is_copied_again<T: FlowValue>(rt: &impl Abort, value: &T) {
-    compare(
-        rt,
-        "a refused copy",
-        value.try_copy().err(),
-        Some(FlowFault::OutOfMemory),
-    );
+    let refused = value.try_copy().err();
+    compare(rt, "a refused copy", refused, Some(FlowFault::OutOfMemory));
     compare(rt, "the next copy", value.try_copy().is_ok(), true);
 }
 

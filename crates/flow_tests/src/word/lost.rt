@@ -82,20 +82,16 @@ fn a_change_wakes_the_task_that_is_left(rt: HostRuntime) {
     let left = MockTask::new(&rt).expect(&rt, "a task");
     let before = new_idle_reader(&rt, &mut setter);
     let mut future = new_idle_reader(&rt, &mut setter).into_changed();
-    compare(&rt, "left", left.poll(&mut future).is_pending(), true);
+    compare(&rt, "left waits", left.poll(&mut future).is_pending(), true);
     compare(&rt, "lost future", lose_future(&lost, before), true);
     let after = new_idle_reader(&rt, &mut setter);
     compare(&rt, "lost stream", lose_stream(&lost, after), true);
     sleep_again(&lost);
     compare(&rt, "woken too early", left.is_woken(), false);
     setter.set(1);
-    compare(
-        &rt,
-        "woken: the task that is left, and the lost ones",
-        (left.is_woken(), lost.is_woken()),
-        (true, false),
-    );
-    compare(&rt, "ready", left.poll(&mut future).is_pending(), false);
+    let woken = (left.is_woken(), lost.is_woken());
+    compare(&rt, "woken: left, lost", woken, (true, false));
+    compare(&rt, "it waits", left.poll(&mut future).is_pending(), false);
 }
 
 /// A caller that loses futures in a thread of its own, beside others.
