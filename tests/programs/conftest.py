@@ -48,6 +48,7 @@ def program_fixture(name):
 
 
 flow_play = program_fixture("flow_play")
+flow_play_over = program_fixture("flow_play_over")
 flow_draw = program_fixture("flow_draw")
 flow_judge = program_fixture("flow_judge")
 flow_stress = program_fixture("flow_stress")

@@ -6,7 +6,9 @@ import tempfile
 
 import pytest
 
-from running import difference, Outcome
+from running import difference, ended, Outcome
+
+OUT_OF_MEMORY = ended(4, "out of memory")
 
 
 def build_shim(folder):
@@ -29,6 +31,16 @@ def runs(shim, program, words, text):
     for line in iter(told.readline, b""):
         status, is_refused, length = map(int, line.split())
         yield Outcome(status, told.read(length)), bool(is_refused)
+
+
+def prints(status, lines):
+    """Whether a run ended with this status, and printed these lines."""
+    return lambda came: came.status == status and came.printed.decode().splitlines() == lines
+
+
+def is_told(came, wanted):
+    """Whether a run with a refused request says so, and nothing else."""
+    return came == OUT_OF_MEMORY
 
 
 def refuse_each(shim, program, words, text, is_right, is_told):

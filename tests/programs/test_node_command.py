@@ -1,6 +1,6 @@
 """wumsnair.mjs, which page/build makes, prints what the programs print, with the same statuses, and its reports are those of ./judge.
 
-The scripts are those of examples/ and of cases/. The records are those of examples/records."""
+The scripts are those of examples/ and of tests/cases/. The records are those of examples/records."""
 import json
 import re
 import subprocess

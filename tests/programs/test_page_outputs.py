@@ -13,8 +13,8 @@ import pytest
 
 from wumsnair_tools.built import top
 from refusing import refuse_each
-from running import SECONDS, Outcome, case_id, ended, examples, expect, program, records, run
-from wumsnair_tools.scripts import all_cases, text_of, versions
+from running import SECONDS, Outcome, case_id, ended, expect, program, records, run
+from worked_scripts import worked_scripts
 
 # The outputs that are compared, each by its word for play.c, and the words for the native programs.
 DRAWN = {"svg": [], "text": ["--text"], "explain": ["--explain"]}
@@ -37,10 +37,7 @@ GRIND = ["valgrind", "-q", "--error-exitcode=99", "--leak-check=full"]
 
 def scripts():
     """The scripts, by their names."""
-    found = {name: path.read_bytes() for name, path in examples().items()}
-    for number, (_, case) in enumerate(all_cases()):
-        for version in versions(case):
-            found[f"case_{number}_{version}"] = text_of(case, version).encode()
+    found = {name: worked.text.encode() for name, worked in worked_scripts().items()}
     return found | {f"hard_{number}": text for number, text in enumerate(HARD)}
 
 

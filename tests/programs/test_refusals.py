@@ -6,11 +6,11 @@ with the second one, and so on, until a run makes no further request. Each run m
 `out of memory`, with status 4; in place of the latter `use_flows` prints the beginning of its lines, with status 1."""
 import pytest
 
-from refusing import refuse_each
-from running import case_id, ended, examples
-from wumsnair_tools.scripts import all_cases, lines_of, text_of, versions
+from refusing import is_told, prints, refuse_each
+from running import examples
+from worked_scripts import worked_scripts
 
-OUT_OF_MEMORY = ended(4, "out of memory")
+WORKED = worked_scripts()
 # The status of a program that ends with an error of its own.
 FAILED = 1
 # The statuses if a script was played or drawn, or was refused.
@@ -24,37 +24,19 @@ STRESS = {"flows": ["1", "4", "40"], "crowd": ["--crowd", "1", "2", "3", "1", "2
 DRAWN = {"svg": [], "text": ["--text"], "explain": ["--explain"]}
 
 
-def scripts():
-    """The scripts that are played, with their lines."""
-    for name, path in examples().items():
-        yield pytest.param(path.read_bytes(), path.with_suffix(".lines").read_text().splitlines(), id=f"example_{name}")
-    for number, (file, case) in enumerate(all_cases()):
-        for version in versions(case):
-            name = case_id("case", number, file.removesuffix(".toml"), case.get("name", ""), "version", version)
-            yield pytest.param(text_of(case, version).encode(), lines_of(case, version), id=name)
-
-
-def prints(statuses, lines):
-    """Whether a run ended with one of these statuses, and printed these lines."""
-    return lambda came: came.status in statuses and came.printed.decode().splitlines() == lines
-
-
-def is_told(came, wanted):
-    return came == OUT_OF_MEMORY
-
-
 def is_cut(came, wanted):
     return came.status == FAILED and wanted.printed.startswith(came.printed)
 
 
-@pytest.mark.parametrize("text, lines", scripts())
-def test_play(shim, flow_play, text, lines):
-    refuse_each(shim, flow_play, [], text, prints(PLAYED, lines), is_told)
+@pytest.mark.parametrize("name", WORKED)
+def test_play(shim, flow_play, name):
+    worked = WORKED[name]
+    refuse_each(shim, flow_play, [], worked.text.encode(), prints(worked.status, worked.lines), is_told)
 
 
 @pytest.mark.parametrize("words, lines", THREADS.values(), ids=THREADS)
 def test_threads(shim, flow_play, words, lines):
-    refuse_each(shim, flow_play, words, b"", prints(PLAYED, lines), is_told)
+    refuse_each(shim, flow_play, words, b"", prints(0, lines), is_told)
 
 
 @pytest.mark.parametrize("words", DRAWN.values(), ids=DRAWN)

@@ -2,22 +2,22 @@
 use std::fmt::Debug;
 use std::process::Abort;
 
-/// Ends the test unless the call at this place returned the answer that is wanted.
-pub fn compare<T: PartialEq + Debug + Drop>(rt: &impl Abort, place: usize, answer: T, wanted: T) {
-    assert_eq!(rt; answer, wanted, "call {place}");
+/// Ends the test unless what came of this row is what is wanted.
+pub fn compare<T: PartialEq + Debug + Drop>(rt: &impl Abort, row: &str, came: T, wanted: T) {
+    assert_eq!(rt; came, wanted, "{row}: left came, and right was wanted");
 }
 
-/// Ends the test unless what has this name is what is wanted.
-pub fn compare_named<T: PartialEq + Debug + Drop>(
+/// Ends the test unless what came of this step of a row is what is wanted.
+pub fn compare_step<S: Debug, T: PartialEq + Debug + Drop>(
     rt: &impl Abort,
-    name: &str,
-    found: T,
+    row: &str,
+    step: &S,
+    came: T,
     wanted: T,
 ) {
-    assert_eq!(rt; found, wanted, "{name}");
-}
-
-/// Ends the test: its table has a call that the player does not make.
-pub fn no_such_call(rt: &impl Abort, place: usize) {
-    panic!(rt; "call {place} is no such call")
+    assert_eq!(rt;
+        came,
+        wanted,
+        "{row}, {step:?}: left came, and right was wanted"
+    );
 }

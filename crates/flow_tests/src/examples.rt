@@ -1,17 +1,13 @@
-//! Worked examples by one caller with a seat for each emission. The values come from kotlinx.coroutines' documentation of
-//! `MutableSharedFlow` and `BufferOverflow`.
+//! Callers of flows that no script has: threads that race, futures that are polled by hand, calls that do not wait for
+//! other callers, dropped tokens, and gates.
 
 mod alone;
 mod asleep;
-mod at_once;
-mod emissions;
+mod dropped;
 mod gate;
 mod leaving;
 mod lent;
 mod polled;
 mod races;
-mod subscribed;
-mod subscribers;
 mod threads;
-mod timed;
 mod watchers;

@@ -1,9 +1,10 @@
-//! New flows of whole numbers, new readers of them, and their replay caches. A test ends if one of them is refused.
+//! New flows of whole numbers, and new readers of them. A test ends if one of them is refused.
 ghost use Rattle.std.specs.Prelude.{◌≡◌};
 
-use crate::compare::compare;
 use flow_law::Config;
-use flow_shared::{Emitter, Reader, Seat, Setter, SharedFlow, StateFlow, StateReader, StateSeat};
+use flow_shared::{
+    Emitter, Reader, Seat, Setter, SharedFlow, StateFlow, StateReader, StateSeat, Subscription,
+};
 use flow_word::{WordReader, WordSeat, WordSetter, WordState};
 use std::alloc::{Allocator, Global};
 use std::process::Abort;
@@ -70,16 +71,15 @@ pub fn new_word_reader<'a, R: Wait + Abort>(
     setter.subscribe(rt).expect(rt, "a reader")
 }
 
-/// Compares the replay cache that a caller reads.
-pub fn reads_cache<R: Wait + Abort>(
+/// Subscribes to a shared flow by a seat.
+pub fn new_subscription<R: Wait + Abort>(
     rt: &R,
     flow: &SharedFlow<i64>,
     seat: &mut Seat<i64>,
-    wanted: &[i64],
-)
+) -> Subscription<i64>
     requires { seat.old.table_id ≡ flow.now.table_id }
-    ensures { seat.new.table_id ≡ flow.entry.now.table_id }
+    ensures seat { seat.new.table_id ≡ flow.entry.now.table_id }
+    ensures made { result.token.table_id ≡ flow.entry.now.table_id }
 {
-    let cache = flow.replay_cache(rt, seat).expect(rt, "memory");
-    compare(rt, 0, cache.as_slice(), wanted);
+    flow.subscribe(rt, seat).expect(rt, "a subscription")
 }

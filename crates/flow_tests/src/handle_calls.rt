@@ -1,7 +1,14 @@
 //! Calls on handles of shared flows without contracts, for tests that only compare what is returned.
 use flow_law::{Exhausted, NumberError, OutOfMemory, Rejected};
 use flow_shared::{Emitter, Reader};
+use futures::executor::block_on;
+use futures::{Stream, StreamExt};
+use std::alloc::AllocGlobal;
+use std::process::Abort;
+use std::random::RandomSource;
 use std::sync::Wait;
+use std::thread::sleep;
+use std::time::{Clock, Duration};
 
 /// Takes the next value, if there is one.
 pub fn next<R: Wait>(rt: &R, reader: &mut Reader<'_, i64>) -> Result<Option<i64>, OutOfMemory> {
@@ -29,4 +36,23 @@ pub fn send<R: Wait>(
     value: i64,
 ) -> Result<(), Rejected<i64, NumberError>> {
     emitter.send(rt, value)
+}
+
+/// Pauses until another thread has probably fallen asleep.
+pub fn pause<R: Clock>(rt: &R) {
+    sleep(rt, Duration::from_millis(5));
+}
+
+/// Returns the next `count` values of a stream. Its task sleeps in an executor until the flow wakes it.
+pub fn next_of<R: Wait + Abort + RandomSource + AllocGlobal, S: Stream<Item: Drop>>(
+    rt: &R,
+    stream: S,
+    count: usize,
+) -> Vec<S::Item>
+    requires { S.can_poll stream }
+{
+    match block_on(rt, stream.take(count).collect(rt.alloc())) {
+        Ok(Ok(values)) => values,
+        _ => panic!(rt; "values"),
+    }
 }

@@ -1,22 +1,13 @@
-//! Tests of handles: each call returns what the flow's own call returns. The values are from kotlinx.coroutines'
-//! documentation.
-pub mod answers;
+//! Tests of handles: calls that no script makes, dropped handles, waits of threads and futures. The values are from
+//! kotlinx.coroutines' documentation.
 mod dropping;
 pub mod emissions;
 mod errors;
-mod players;
+mod meetings;
 mod refusals;
 mod shared;
-mod shared_calls;
-mod shared_plays;
-mod shared_reads;
 mod state;
-mod state_calls;
-mod state_examples;
-mod state_plays;
-mod streams;
+mod states;
 mod tasks;
 mod tokens;
 mod word;
-mod word_calls;
-mod word_plays;

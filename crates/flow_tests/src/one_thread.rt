@@ -1,14 +1,14 @@
-//! Tests of flows for one thread, and of values that own memory. What calls must return is from kotlinx.coroutines'
-//! documentation of `MutableSharedFlow`, `BufferOverflow` and `MutableStateFlow`.
+//! Tests of flows for one thread that no script has: drains, refused copies, many values, what a flow keeps, lags, and
+//! values that own memory. What calls must return is from kotlinx.coroutines' documentation of `MutableSharedFlow`,
+//! `BufferOverflow` and `MutableStateFlow`.
+mod caller;
 mod drains;
 mod held;
 mod hints;
 mod lags;
-pub mod limited;
+mod limited;
 mod many;
-mod own_values;
-mod shared;
-mod shared_calls;
+mod refused_copies;
 mod signs;
 mod state;
 mod value_traits;

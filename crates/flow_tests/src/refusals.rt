@@ -2,7 +2,11 @@
 //! second one, and so on, until nothing is refused in a run. The replies are always those of the documentation.
 
 mod awaiting;
-mod chains;
 mod flows;
 mod gates;
-mod sharings;
+mod player;
+mod runs;
+mod steps;
+
+/// A number greater than that of the runs of an example.
+pub const MANY: u64 = 200;

@@ -1,7 +1,8 @@
-//! Values that stand for numbers: whole numbers, and boxed numbers, whose copies take memory.
-use crate::compare::compare;
+//! Values that stand for numbers: boxed numbers, whose copies take memory.
+use crate::compare::{compare, compare_step};
 use flow_law::{Boxed, FlowValue, Next};
-use std::alloc::{Allocator, Global};
+use std::alloc::Allocator;
+use std::fmt::Debug;
 use std::process::Abort;
 
 /// A value that stands for a number.
@@ -13,18 +14,6 @@ pub trait Numbered: FlowValue {
     fn of(rt: &impl Abort, memory: Self::Memory, number: i64) -> Self;
 
     fn number(&self) -> i64;
-}
-
-impl Numbered for i64 {
-    type Memory = Global;
-
-    fn of(_rt: &impl Abort, _memory: Global, number: i64) -> i64 {
-        number
-    }
-
-    fn number(&self) -> i64 {
-        *self
-    }
 }
 
 impl<A: Allocator + Copy> Numbered for Boxed<i64, A> {
@@ -54,7 +43,7 @@ pub fn list_of<T: Numbered>(
     let mut values = Vec::new(memory);
     for number in numbers {
         if let Err(refused) = values.push(T::of(rt, memory, *number)) {
-            compare(rt, 0, values.push(refused.value).is_ok(), true);
+            compare(rt, "grown", values.push(refused.value).is_ok(), true);
         }
     }
     values
@@ -69,13 +58,16 @@ pub fn by_number<T: Numbered>(next: Next<T>) -> Next<i64> {
     }
 }
 
-/// Compares the numbers of the values of the step at this place.
-pub fn are<T: Numbered>(rt: &impl Abort, place: usize, values: &[T], numbers: &[i64]) {
-    compare(rt, place, values.len(), numbers.len());
-    for index in 0..numbers.len() {
-        match values.get(index) {
-            Some(value) => compare(rt, place, value.number(), numbers[index]),
-            None => panic!(rt; "too few values"),
-        }
+/// Compares the numbers of the values of a step.
+pub fn are<T: Numbered, S: Debug>(
+    rt: &impl Abort,
+    row: &str,
+    step: &S,
+    values: &[T],
+    numbers: &[i64],
+) {
+    compare_step(rt, row, step, values.len(), numbers.len());
+    for (value, number) in values.iter().zip(numbers) {
+        compare_step(rt, row, step, value.number(), *number);
     }
 }

@@ -1,10 +1,11 @@
 //! Short ways to write records of state flows, and their outcomes.
-use crate::compare::compare;
+use crate::compare::compare_step;
 use flow_check::{
     FaultKind, Record, StateAnswer, StateEntry, StateOperation, Timed, Verdict, check_state,
     state_goes_wrong,
 };
 use std::alloc::{AllocError, Global};
+use std::fmt::Debug;
 use std::process::Abort;
 
 /// The outcome of a record: a verdict, or why it is refused.
@@ -35,9 +36,14 @@ impl Outcome {
     }
 }
 
-/// Compares the outcome of a record with the one that a row of a test wants.
-pub fn expect(rt: &impl Abort, row: usize, found: Result<Outcome, AllocError>, wanted: Outcome) {
-    compare(rt, row, found, Ok(wanted));
+/// Compares the outcome of a record with the one that a row of a table wants.
+pub fn expect<S: Debug>(
+    rt: &impl Abort,
+    row: &S,
+    found: Result<Outcome, AllocError>,
+    wanted: Outcome,
+) {
+    compare_step(rt, "the record of", row, found, Ok(wanted));
 }
 
 /// Returns a call that began and ended at these moments.
@@ -70,10 +76,10 @@ pub fn pending(operation: StateOperation, begin: u64) -> Timed<StateEntry> {
 }
 
 /// Returns a list of the calls of each caller.
-pub fn callers_of(
+pub fn callers_of<E: Copy + Drop>(
     alloc: Global,
-    rows: &[&[Timed<StateEntry>]],
-) -> Result<Vec<Vec<Timed<StateEntry>>>, AllocError> {
+    rows: &[&[Timed<E>]],
+) -> Result<Vec<Vec<Timed<E>>>, AllocError> {
     let mut callers = Vec::new(alloc);
     for row in rows {
         callers.push(Vec::from_slice(alloc, *row)?)?;

@@ -33,8 +33,9 @@ fn rendezvous(
 /// Without a buffer an emitter waits until each subscriber has received its value.
 #[test]
 fn judges_a_rendezvous(rt: HostRuntime) {
-    for (place, (end, answer, wanted)) in RENDEZVOUS.iter().enumerate() {
-        expect(&rt, place, rendezvous(rt.alloc(), *end, *answer), *wanted);
+    for row in RENDEZVOUS {
+        let (end, answer, wanted) = row;
+        expect(&rt, row, rendezvous(rt.alloc(), *end, *answer), *wanted);
     }
 }
 
@@ -72,8 +73,9 @@ fn full(
 /// The subscriber is a full buffer behind.
 #[test]
 fn judges_full_buffers(rt: HostRuntime) {
-    for (place, (overflow, is_taken, received, wanted)) in FULL.iter().enumerate() {
+    for row in FULL {
+        let (overflow, is_taken, received, wanted) = row;
         let found = full(rt.alloc(), *overflow, *is_taken, *received);
-        expect(&rt, place, found, *wanted);
+        expect(&rt, row, found, *wanted);
     }
 }

@@ -1,5 +1,5 @@
 //! Short ways to write records of shared flows, and their outcomes.
-use crate::checker::records::Outcome;
+use crate::checker::records::{Outcome, callers_of};
 use flow_check::{
     Record, SharedAnswer, SharedEntry, SharedOperation, Timed, check_shared, shared_goes_wrong,
 };
@@ -23,15 +23,6 @@ pub fn call(
         begin,
         end: Some(end),
     }
-}
-
-/// Returns a list of the calls of each caller.
-fn callers_of(alloc: Global, rows: &[&[Recorded]]) -> Result<Vec<Vec<Recorded>>, AllocError> {
-    let mut callers = Vec::new(alloc);
-    for row in rows {
-        callers.push(Vec::from_slice(alloc, *row)?)?;
-    }
-    Ok(callers)
 }
 
 /// Judges these calls of a shared flow of this configuration.

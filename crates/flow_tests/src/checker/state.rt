@@ -22,15 +22,12 @@ const READS: &[(u64, u64, u64, Outcome)] = &[
 /// `value` returns the value that was set last.
 #[test]
 fn judges_reads(rt: HostRuntime) {
-    for (place, (end, begin, value, wanted)) in READS.iter().enumerate() {
+    for row in READS {
+        let (end, begin, value, wanted) = row;
         let set = call(Set(1), Done, 0, *end);
         let read = call(Read, Value(*value), *begin, 3);
-        expect(
-            &rt,
-            place,
-            judge(rt.alloc(), TURNS, &[&[set], &[read]]),
-            *wanted,
-        );
+        let found = judge(rt.alloc(), TURNS, &[&[set], &[read]]);
+        expect(&rt, row, found, *wanted);
     }
 }
 
@@ -40,7 +37,7 @@ fn judges_pending_calls(rt: HostRuntime) {
     for value in 0..2 {
         let read = call(Read, Value(value), 2, 3);
         let found = judge(rt.alloc(), TURNS, &[&[pending(Set(1), 0)], &[read]]);
-        expect(&rt, 0, found, Legal);
+        expect(&rt, &("a read of", value), found, Legal);
     }
 }
 
@@ -54,15 +51,12 @@ const OF_ONE_CALLER: &[(u64, u64, u64, Outcome)] = &[
 /// A record is refused if the calls of one caller overlap, or if a call ends before it begins.
 #[test]
 fn refuses_records(rt: HostRuntime) {
-    for (place, (first_end, begin, end, wanted)) in OF_ONE_CALLER.iter().enumerate() {
+    for row in OF_ONE_CALLER {
+        let (first_end, begin, end, wanted) = row;
         let first = call(Set(1), Done, 0, *first_end);
         let second = call(Set(2), Done, *begin, *end);
-        expect(
-            &rt,
-            place,
-            judge(rt.alloc(), TURNS, &[&[first, second]]),
-            *wanted,
-        );
+        let found = judge(rt.alloc(), TURNS, &[&[first, second]]);
+        expect(&rt, row, found, *wanted);
     }
 }
 
@@ -70,7 +64,7 @@ fn refuses_records(rt: HostRuntime) {
 #[test]
 fn gives_up(rt: HostRuntime) {
     let found = judge(rt.alloc(), 0, &[&[call(Set(1), Done, 0, 1)]]);
-    expect(&rt, 0, found, GaveUp);
+    expect(&rt, &"no turns", found, GaveUp);
 }
 
 /// The first read precedes the `set` that it overlaps, and the second read follows it.
@@ -79,5 +73,5 @@ fn gives_the_order(rt: HostRuntime) {
     let reads = [call(Read, Value(0), 1, 2), call(Read, Value(1), 4, 5)];
     let order = order_of(rt.alloc(), &[&[call(Set(1), Done, 0, 3)], &reads]);
     let order = order.expect(&rt, "memory").expect(&rt, "an order");
-    compare(&rt, 0, order.as_slice(), [1, 0, 1].as_slice());
+    compare(&rt, "the order", order.as_slice(), [1, 0, 1].as_slice());
 }

@@ -15,7 +15,7 @@ fn finds_when_a_read_goes_wrong(rt: HostRuntime) {
     let set = call(Set(1), Done, 0, 1);
     let reads = [call(Read, Value(0), 4, 7), call(Read, Value(1), 8, 9)];
     let found = wrong_moment(rt.alloc(), &[&[set], &reads]);
-    compare(&rt, 0, found, Ok(Some(7)));
+    compare(&rt, "the moment of the wrong read", found, Ok(Some(7)));
 }
 
 /// A `set` that has not ended may not have happened yet, so a read that overlaps it may return the old value.
@@ -23,7 +23,7 @@ fn finds_when_a_read_goes_wrong(rt: HostRuntime) {
 fn finds_nothing_wrong(rt: HostRuntime) {
     let set = call(Set(1), Done, 0, 6);
     let found = wrong_moment(rt.alloc(), &[&[set], &[call(Read, Value(0), 4, 7)]]);
-    compare(&rt, 0, found, Ok(None));
+    compare(&rt, "no wrong moment", found, Ok(None));
 }
 
 /// Without a replay a `next` receives a value from before its subscription: this is illegal when `next` ends.
@@ -48,7 +48,7 @@ fn finds_when_a_value_is_received_late(rt: HostRuntime) {
         config,
         &[&[emitted], &[subscribed, received]],
     );
-    compare(&rt, 0, found, Ok(Some(5)));
+    compare(&rt, "the moment of the late value", found, Ok(Some(5)));
 }
 
 /// The moments at which two calls ended: None if the call had not begun, Some(None) if it had not ended.
@@ -70,7 +70,7 @@ fn end_of(calls: &[Timed<StateEntry>], place: usize) -> Option<Option<u64>> {
 fn is_cut(rt: &impl Abort, alloc: Global, record: &Record<StateEntry>, cut: Cut, ends: Ends) {
     let known = known_record(alloc, record, cut).expect(rt, "memory");
     let known = known.expect(rt, "a record");
-    compare(rt, 0, ends_of(&known), ends);
+    compare(rt, "the ends of known calls", ends_of(&known), ends);
 }
 
 /// Before a moment, a call that ends at it is pending, and a call that begins at it has not begun.

@@ -76,7 +76,7 @@ fn play_at_shared_flow<R: Wait + Abort, T: FlowValue>(rt: &R, alloc: Global, val
     let mut emitter = flow.emitter(seat);
     let mut reader = emitter.subscribe(rt).expect(rt, "a reader");
     let rounds = rounds_at_shared_flow(rt, emitter, &mut reader, value);
-    compare(rt, 0, rounds, ROUNDS);
+    compare(rt, "rounds in which each call succeeded", rounds, ROUNDS);
 }
 
 /// Sets each of two values and receives it: the first one by calls that do not wait for other callers. Returns whether
@@ -102,8 +102,8 @@ fn play_at_state_flow<R: Wait + Abort, T: FlowValue>(rt: &R, alloc: Global, valu
     let mut reader = setter.subscribe(rt).expect(rt, "a reader");
     for _ in 0..ROUNDS {
         let is_done = sets_and_receives(rt, &mut setter, &mut reader, values);
-        compare(rt, 1, is_done, true);
-        compare(rt, 2, setter.try_subscription_count(), Ok(1));
+        compare(rt, "each call of a round succeeded", is_done, true);
+        compare(rt, "subscribers", setter.try_subscription_count(), Ok(1));
     }
 }
 

@@ -39,13 +39,13 @@ fn is_woken(
     send: &mut SendFuture<'_, i64>,
 ) {
     for _ in 0..2 {
-        compare(rt, 0, received(task, receive), None);
-        compare(rt, 1, task.is_woken(), false);
+        compare(rt, "the reader waits", received(task, receive), None);
+        compare(rt, "the reader sleeps", task.is_woken(), false);
     }
-    compare(rt, 0, sent(emitter_task, send), None);
-    compare(rt, 1, emitter_task.is_woken(), false);
-    compare(rt, 2, task.is_woken(), true);
-    compare(rt, 3, received(task, receive), Some(Ok(7)));
+    compare(rt, "the emitter waits", sent(emitter_task, send), None);
+    compare(rt, "the emitter sleeps", emitter_task.is_woken(), false);
+    compare(rt, "the emission wakes the reader", task.is_woken(), true);
+    compare(rt, "the reader", received(task, receive), Some(Ok(7)));
 }
 
 /// Checks that the emitter's task is woken once each subscriber has received the value.
@@ -55,10 +55,10 @@ fn wakes_emitter<R: Wait + Abort>(
     reader: &mut Reader<'_, i64>,
     send: &mut SendFuture<'_, i64>,
 ) {
-    compare(rt, 4, task.is_woken(), false);
-    compare(rt, 5, next(rt, reader), Ok(Some(7)));
-    compare(rt, 6, task.is_woken(), true);
-    compare(rt, 7, sent(task, send), Some(true));
+    compare(rt, "the emitter sleeps on", task.is_woken(), false);
+    compare(rt, "the other reader", next(rt, reader), Ok(Some(7)));
+    compare(rt, "the last reader wakes it", task.is_woken(), true);
+    compare(rt, "the emission is done", sent(task, send), Some(true));
 }
 
 /// Checks that a subscriber's task sleeps until 7 is emitted, and the emitter's task until that subscriber and a reader

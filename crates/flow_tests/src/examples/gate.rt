@@ -77,7 +77,7 @@ fn new_gate(rt: &impl Abort, alloc: Global) -> (Gate<Count>, Seat<Count>)
 /// Checks that the gate was closed without a caller inside, and had this number of events.
 fn had(rt: &impl Abort, closed: Option<Count>, events: u64) {
     match closed {
-        Some(count) => compare(rt, 2, count.events, events),
+        Some(count) => compare(rt, "events of the closed gate", count.events, events),
         None => panic!(rt; "a caller is inside"),
     }
 }

@@ -1,8 +1,7 @@
 //! Three threads whose emissions wait for room while the only subscriber unsubscribes: all three emissions end.
 use crate::compare::compare;
 use crate::flows::{new_flow, new_reader};
-use crate::handle_calls::{send, try_emit};
-use crate::handles::answers::pause;
+use crate::handle_calls::{pause, send, try_emit};
 use flow_law::Config;
 use flow_shared::{Emitter, Reader};
 use std::alloc::Global;
@@ -82,13 +81,13 @@ fn leave_once<R: Threads + Wait + Clock + Abort + Sync>(rt: &R, alloc: Global, r
     let (flow, seat) = new_flow(rt, alloc, Config::new().replay(1));
     let mut emitter = flow.emitter(seat);
     let reader = new_reader(rt, &mut emitter);
-    compare(rt, 0, try_emit(rt, &mut emitter, 1), Ok(true));
+    compare(rt, "try_emit", try_emit(rt, &mut emitter, 1), Ok(true));
     let ended = send_beside_leaving(rt, run, &mut emitter, reader);
-    compare(rt, 1, ended, 3);
-    compare(rt, 2, emitter.subscription_count(rt), 0);
+    compare(rt, "emissions that ended", ended, 3);
+    compare(rt, "subscribers", emitter.subscription_count(rt), 0);
     let cache = emitter.replay_cache(rt).expect(rt, "memory");
     let is_one = matches!(cache.as_slice(), [2] | [3] | [4]);
-    compare(rt, 3, is_one, true);
+    compare(rt, "one that waited is in the cache", is_one, true);
 }
 
 #[test]

@@ -3,8 +3,7 @@ ghost use Rattle.std.specs.Prelude.{◌≡◌};
 
 use crate::awaiting::send;
 use crate::compare::compare;
-use crate::examples::subscribed::{Subscribed, lend, new_subscription};
-use crate::flows::new_flow;
+use crate::flows::{new_flow, new_subscription};
 use flow_law::Config;
 use flow_shared::{EmitFuture, NextFuture, Seat, Sent, SharedFlow, Subscription};
 use futures::Future;
@@ -24,8 +23,8 @@ where
 {
     let mut future = future;
     let task = MockTask::new(rt).expect(rt, "a task");
-    compare(rt, 0, task.poll(&mut future).is_pending(), true);
-    compare(rt, 1, task.is_woken(), true);
+    compare(rt, "pending", task.poll(&mut future).is_pending(), true);
+    compare(rt, "it asks to be polled again", task.is_woken(), true);
     future
 }
 
@@ -37,30 +36,19 @@ fn cancelled<R: Wait>(rt: &R, emit: EmitFuture<'_, i64>) -> Option<bool> {
     }
 }
 
-/// Emits 7. Checks that the emission is pending, and still waits when it is cancelled.
-fn is_cancelled<R: Wait + RandomSource + AllocGlobal + Abort>(
-    rt: &R,
-    subscribed: &mut Subscribed<'_>,
-) {
-    let seat = subscribed.flow.seat(&mut subscribed.seat);
-    let emit = asks_again(rt, EmitFuture::new(subscribed.flow, seat, 7));
-    compare(rt, 2, cancelled(rt, emit), Some(true));
-}
-
-/// Checks that there is nothing to receive after the cancel, and that the future returns its subscription.
-fn receives_nothing<R: Wait + RandomSource + AllocGlobal + Abort>(
-    rt: &R,
-    subscribed: &mut Subscribed<'_>,
-) {
-    is_cancelled(rt, subscribed);
-    let subscription = new_subscription(rt, subscribed.flow, &mut subscribed.seat);
-    let next = asks_again(rt, NextFuture::new(subscribed.flow, subscription));
-    compare(rt, 3, next.into_subscription().is_some(), true);
-}
-
+/// The emission of 7 is pending, and still waits when it is cancelled. There is nothing to receive after that, and the
+/// future returns its subscription.
 #[test]
 fn a_cancelled_emission_is_not_received(rt: HostRuntime) {
-    lend(&rt, Config::new(), receives_nothing);
+    let (flow, mut seat) = new_flow(&rt, rt.alloc(), Config::new());
+    let _first = new_subscription(&rt, &flow, &mut seat);
+    let own = flow.seat(&mut seat);
+    let emit = asks_again(&rt, EmitFuture::new(&flow, own, 7));
+    compare(&rt, "cancelled", cancelled(&rt, emit), Some(true));
+    let subscription = new_subscription(&rt, &flow, &mut seat);
+    let next = asks_again(&rt, NextFuture::new(&flow, subscription));
+    let is_given_back = next.into_subscription().is_some();
+    compare(&rt, "the subscription is given back", is_given_back, true);
 }
 
 /// Emits 7. Returns whether the emission was done.
@@ -98,5 +86,5 @@ fn an_emission_and_its_receiver_are_awaited(rt: HostRuntime) {
         || sends(&rt, &flow, seat),
         || receives(&rt, &flow, subscription),
     );
-    compare(&rt, 4, done, (true, Some(7)));
+    compare(&rt, "sent and received", done, (true, Some(7)));
 }

@@ -64,11 +64,11 @@ fn waits_for_room<R: Threads + Wait + Abort + Sync>(
     emitter: &mut Emitter<'_, i64>,
 ) -> bool {
     let mut reader = new_reader(rt, emitter);
-    compare(rt, 0, try_emit(rt, emitter, 1), Ok(true));
+    compare(rt, "try_emit", try_emit(rt, emitter, 1), Ok(true));
     let (first, was_waiting) = read_beside_cancel(rt, run, &mut reader, emitter, 2);
-    compare(rt, 1, first, Some(1));
+    compare(rt, "the first value", first, Some(1));
     let second = if was_waiting { None } else { Some(2) };
-    compare(rt, 2, next(rt, &mut reader), Ok(second));
+    compare(rt, "the second value", next(rt, &mut reader), Ok(second));
     was_waiting
 }
 
@@ -82,10 +82,10 @@ fn is_offered<R: Threads + Wait + Abort + Sync>(
     let mut other = new_reader(rt, emitter);
     let mut reader = new_reader(rt, emitter);
     let (taken, was_waiting) = read_beside_cancel(rt, run, &mut reader, emitter, 7);
-    compare(rt, 3, was_waiting, true);
-    compare(rt, 4, taken == None || taken == Some(7), true);
-    compare(rt, 5, next(rt, &mut other), Ok(None));
-    compare(rt, 5, next(rt, &mut reader), Ok(None));
+    compare(rt, "the offer waited until the cancel", was_waiting, true);
+    compare(rt, "7 or nothing", taken == None || taken == Some(7), true);
+    compare(rt, "the other reader", next(rt, &mut other), Ok(None));
+    compare(rt, "after the race", next(rt, &mut reader), Ok(None));
     taken == None
 }
 

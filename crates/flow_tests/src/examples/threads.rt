@@ -2,8 +2,7 @@
 ghost use Rattle.std.specs.Prelude.{◌≡◌};
 
 use crate::compare::compare;
-use crate::examples::subscribed::new_subscription;
-use crate::flows::{new_flow, new_state_flow};
+use crate::flows::{new_flow, new_state_flow, new_subscription};
 use crate::reading::set_and_read;
 use flow_law::Next::{Empty, Value};
 use flow_law::{Config, Next};
@@ -39,7 +38,7 @@ fn set_from_two_threads<R: Threads + Wait + Abort + Sync>(
         || reads_what_was_set(rt, flow, seat, 9),
         || reads_what_was_set(rt, flow, &mut other, 4),
     );
-    compare(rt, 0, read, (true, true));
+    compare(rt, "both threads read 9 or 4", read, (true, true));
 }
 
 /// The core of a closed flow has the value that was set last.
@@ -50,7 +49,7 @@ fn a_thread_reads_what_it_set_or_what_another_set(rt: HostRuntime) {
     set_from_two_threads(&rt, &flow, &mut own);
     let core = flow.close(seat).expect(&rt, "no caller is inside");
     let value = core.value().expect(&rt, "a value");
-    compare(&rt, 1, value == 9 || value == 4, true);
+    compare(&rt, "the state is 9 or 4", value == 9 || value == 4, true);
 }
 
 /// Emits a value that the flow takes, and returns the seat.
@@ -59,7 +58,7 @@ fn emit<R: Wait + Abort>(rt: &R, flow: &SharedFlow<i64>, seat: Seat<i64>, value:
     ensures { result.table_id ≡ flow.now.table_id }
 {
     let mut seat = seat;
-    compare(rt, 2, flow.try_emit(rt, &mut seat, value), Ok(true));
+    compare(rt, "taken", flow.try_emit(rt, &mut seat, value), Ok(true));
     seat
 }
 
@@ -85,8 +84,9 @@ fn a_seat_goes_to_two_threads_in_turn(rt: HostRuntime) {
     let seat = emit_on_a_thread(&rt, &flow, seat, 2);
     let core = flow.close(seat).expect(&rt, "no caller is inside");
     let cache = core.replay_cache().expect(&rt, "memory");
-    compare(&rt, 3, cache.as_slice(), [1, 2].as_slice());
-    compare(&rt, 4, (core.subscription_count(), core.held()), (0, 2));
+    compare(&rt, "the cache", cache.as_slice(), [1, 2].as_slice());
+    let left = (core.subscription_count(), core.held());
+    compare(&rt, "subscribers, and values kept", left, (0, 2));
 }
 
 /// Lets the seat and the subscription meet, and takes the next two values.
@@ -112,7 +112,7 @@ fn a_subscriber_that_met_a_thread_receives_its_value(rt: HostRuntime) {
     let mut subscription = new_subscription(&rt, &flow, &mut seat);
     let seat = emit_on_a_thread(&rt, &flow, seat, 8);
     let read = meet_and_read(&rt, &flow, seat, &mut subscription);
-    compare(&rt, 5, read, [Value(8), Empty]);
+    compare(&rt, "the next two values", read, [Value(8), Empty]);
 }
 
 /// A state flow that no caller has changed gives its first value to `close`.
@@ -120,5 +120,5 @@ fn a_subscriber_that_met_a_thread_receives_its_value(rt: HostRuntime) {
 fn a_closed_state_flow_has_its_first_value(rt: HostRuntime) {
     let (flow, seat) = new_state_flow(&rt, rt.alloc(), 5, u64::MAX);
     let core = flow.close(seat).expect(&rt, "no caller is inside");
-    compare(&rt, 6, core.value(), Ok(5));
+    compare(&rt, "the value of the closed flow", core.value(), Ok(5));
 }

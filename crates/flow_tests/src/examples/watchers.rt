@@ -79,16 +79,16 @@ fn sleep_by_second<R: Threads + Wait + Clock + Abort + Sync>(
     let emission = poll_waiting(rt, flow, emission, &mut first);
     first.unwatch();
     second.watch(rt);
-    compare(rt, 0, flow.count_watched(seat, &mut second), Ok(1));
+    compare(rt, "count", flow.count_watched(seat, &mut second), Ok(1));
     let emission = poll_waiting(rt, flow, emission, &mut second);
     let woken = join(
         rt,
         || is_woken(rt, &mut second),
         || make_room(rt, flow, subscription),
     );
-    compare(rt, 1, woken, (true, true));
+    compare(rt, "woken, and received", woken, (true, true));
     let is_done = matches!(flow.poll_now(emission), PolledNow::Done(_));
-    compare(rt, 2, is_done, true);
+    compare(rt, "the emission is done", is_done, true);
 }
 
 /// The end of an emission wakes a thread that polled it by a second watcher.
@@ -96,7 +96,7 @@ fn sleep_by_second<R: Threads + Wait + Clock + Abort + Sync>(
 fn the_end_of_an_emission_wakes_each_watcher(rt: HostRuntime) {
     let (flow, mut seat) = new_flow(&rt, rt.alloc(), Config::new().extra(1));
     let mut subscription = flow.subscribe(&rt, &mut seat).expect(&rt, "a subscription");
-    compare(&rt, 3, flow.try_emit(&rt, &mut seat, 1), Ok(true));
+    compare(&rt, "try_emit", flow.try_emit(&rt, &mut seat, 1), Ok(true));
     sleep_by_second(&rt, &flow, &mut seat, &mut subscription);
 }
 
@@ -119,11 +119,11 @@ fn sleep_by_anothers<R: Threads + Wait + Clock + Abort + Sync>(
 {
     let mut own = flow.watcher();
     own.watch(rt);
-    compare(rt, 4, flow.count_watched(seat, &mut own), Ok(0));
+    compare(rt, "by its own", flow.count_watched(seat, &mut own), Ok(0));
     anothers.watch(rt);
-    compare(rt, 5, flow.count_watched(seat, anothers), Ok(0));
+    compare(rt, "another's", flow.count_watched(seat, anothers), Ok(0));
     let woken = join(rt, || is_woken(rt, anothers), || subscribe(rt, flow, seat));
-    compare(rt, 6, woken, (true, true));
+    compare(rt, "woken, and subscribed", woken, (true, true));
 }
 
 /// A watcher of one flow is woken at another flow, too, where a watcher of the same number sleeps.
@@ -132,7 +132,8 @@ fn a_watcher_of_another_flow_is_woken(rt: HostRuntime) {
     let (home, mut seat) = new_flow(&rt, rt.alloc(), Config::new());
     let mut watcher = home.watcher();
     watcher.watch(&rt);
-    compare(&rt, 7, home.count_watched(&mut seat, &mut watcher), Ok(0));
+    let count = home.count_watched(&mut seat, &mut watcher);
+    compare(&rt, "subscribers of its own flow", count, Ok(0));
     let (flow, mut seat) = new_flow(&rt, rt.alloc(), Config::new());
     sleep_by_anothers(&rt, &flow, &mut seat, &mut watcher);
 }

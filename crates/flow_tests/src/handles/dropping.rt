@@ -28,7 +28,7 @@ fn leave_waker<R: Wait + Abort>(
 {
     let mut emitter = flow.emitter(seat);
     let future = new_reader(rt, &mut emitter).into_receive();
-    compare(rt, 0, poll_and_leave(task, future), true);
+    compare(rt, "the future waits", poll_and_leave(task, future), true);
     emitter.into_seat()
 }
 
@@ -38,7 +38,7 @@ fn the_end_of_a_flow_wakes_its_sleepers(rt: HostRuntime) {
     let (flow, seat) = new_flow(&rt, rt.alloc(), Config::new());
     let task = MockTask::new(&rt).expect(&rt, "a task");
     let seat = leave_waker(&rt, &task, &flow, seat);
-    compare(&rt, 1, task.is_woken(), false);
-    compare(&rt, 2, flow.close(seat).is_some(), true);
-    compare(&rt, 3, task.is_woken(), true);
+    compare(&rt, "woken before the end", task.is_woken(), false);
+    compare(&rt, "the flow is closed", flow.close(seat).is_some(), true);
+    compare(&rt, "woken by the end", task.is_woken(), true);
 }

@@ -1,8 +1,6 @@
 //! Emissions that wait, by handles.
-use crate::compare::compare;
-use crate::handle_calls::next;
-use crate::handles::answers::pause;
-use flow_shared::{BoundEmission, EmitAnswer, Emitter, PollAnswer, Reader};
+use crate::handle_calls::pause;
+use flow_shared::{BoundEmission, EmitAnswer, Emitter, PollAnswer};
 use std::process::Abort;
 use std::sync::Wait;
 use std::time::Clock;
@@ -29,7 +27,10 @@ pub fn emission_of<'a, R: Wait + Abort>(
 }
 
 /// Polls an emission, and returns it if it still waits.
-fn poll<'a, R: Wait>(rt: &R, emission: BoundEmission<'a, i64>) -> Option<BoundEmission<'a, i64>> {
+pub fn poll<'a, R: Wait>(
+    rt: &R,
+    emission: BoundEmission<'a, i64>,
+) -> Option<BoundEmission<'a, i64>> {
     match emission.poll(rt) {
         PollAnswer::Waiting(emission) => Some(emission),
         PollAnswer::Done(_emitter) => None,
@@ -37,26 +38,12 @@ fn poll<'a, R: Wait>(rt: &R, emission: BoundEmission<'a, i64>) -> Option<BoundEm
 }
 
 /// Polls an emission without waiting for other callers, and returns it if it still waits.
-fn try_poll<'a>(emission: BoundEmission<'a, i64>) -> Option<BoundEmission<'a, i64>> {
+pub fn try_poll<'a>(emission: BoundEmission<'a, i64>) -> Option<BoundEmission<'a, i64>> {
     match emission.try_poll() {
         Ok(PollAnswer::Waiting(emission)) => Some(emission),
         Ok(PollAnswer::Done(_emitter)) => None,
         Err(_emission) => None,
     }
-}
-
-/// Emits a value without a buffer. Checks that the emission waits until the subscriber has received it.
-pub fn poll_until_received<R: Wait + Abort>(
-    rt: &R,
-    emitter: &mut Emitter<'_, i64>,
-    reader: &mut Reader<'_, i64>,
-    place: usize,
-    value: i64,
-) {
-    let emission = poll(rt, emission_of(rt, emitter, value)).expect(rt, "it waits");
-    let emission = try_poll(emission).expect(rt, "it waits");
-    compare(rt, place, next(rt, reader), Ok(Some(value)));
-    compare(rt, place, poll(rt, emission).is_none(), true);
 }
 
 /// Cancels an emission. Returns whether it waited.

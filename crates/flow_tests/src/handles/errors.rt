@@ -31,8 +31,8 @@ fn each_error_stands_for_a_fault(rt: HostRuntime) {
         ),
         (FlowFault::from(TryNextError::Busy), FlowFault::Busy),
     ];
-    for (place, (fault, wanted)) in table.iter().enumerate() {
-        compare(&rt, place, *fault, *wanted);
+    for (fault, wanted) in table {
+        compare(&rt, "the fault of an error", fault, wanted);
     }
 }
 
@@ -49,6 +49,7 @@ fn a_rejected_value_is_told_by_its_error(rt: HostRuntime) {
         error: Busy,
     };
     let text = format!(in rt.alloc(); "{rejected}").expect(&rt, "a text");
-    compare(&rt, 0, text.as_str(), "another caller was inside the flow");
-    compare(&rt, 1, fault_of(Err(rejected)), Err(FlowFault::Busy));
+    let wanted = "another caller was inside the flow";
+    compare(&rt, "the text", text.as_str(), wanted);
+    compare(&rt, "fault", fault_of(Err(rejected)), Err(FlowFault::Busy));
 }

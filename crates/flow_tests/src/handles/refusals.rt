@@ -2,8 +2,8 @@
 //! again, so the wait returns the same as with memory.
 use crate::compare::compare;
 use crate::flows::{new_reader, new_state_reader};
-use crate::memory::Refusing;
 use flow_law::{Config, Rejected};
+use flow_refusals::Refusing;
 use flow_shared::{Emitter, Reader, SendEnd, Setter, SharedFlow, StateFlow, StateReader};
 use std::alloc::{Allocator, Global};
 use std::process::Abort;
@@ -39,10 +39,10 @@ fn waits_in_vain<R: Wait + Clock + Abort, A: Allocator + Copy>(
 ) {
     let limit = a_millisecond();
     refusing.refuse(number);
-    compare(rt, 0, reader.receive_timeout(rt, limit), Ok(None));
+    compare(rt, "nothing", reader.receive_timeout(rt, limit), Ok(None));
     refusing.refuse(number);
     let sent = send_again(rt, emitter, limit);
-    compare(rt, 1, sent, Some(SendEnd::Cancelled));
+    compare(rt, "send_timeout", sent, Some(SendEnd::Cancelled));
 }
 
 /// Makes a flow and a reader without a refusal, and then refuses one request of each wait.
@@ -65,7 +65,7 @@ fn refused_waits_end_in_time(rt: HostRuntime) {
     for number in 1..=REQUESTS {
         refuse_waits(&rt, &memory, &memory, number);
     }
-    compare(&rt, 2, memory.is_waiting(), true);
+    compare(&rt, "some run asks for less", memory.is_waiting(), true);
 }
 
 fn exceeds_eight(value: &i64) -> bool {
@@ -82,12 +82,12 @@ fn changes_in_vain<R: Wait + Clock + Abort, A: Allocator + Copy>(
 ) {
     let limit = a_millisecond();
     setter.set(rt, 7);
-    compare(rt, 0, reader.next(rt), Ok(Some(7)));
+    compare(rt, "next", reader.next(rt), Ok(Some(7)));
     refusing.refuse(number);
-    compare(rt, 1, reader.changed_timeout(rt, limit), Ok(None));
+    compare(rt, "unchanged", reader.changed_timeout(rt, limit), Ok(None));
     refusing.refuse(number);
     let found = reader.wait_for_timeout(rt, limit, exceeds_eight);
-    compare(rt, 2, found, Ok(None));
+    compare(rt, "wait_for_timeout", found, Ok(None));
 }
 
 /// Makes a state flow and a reader without a refusal, and then refuses one request of each wait.
@@ -110,5 +110,5 @@ fn refused_waits_for_a_state_end_in_time(rt: HostRuntime) {
     for number in 1..=REQUESTS {
         refuse_state_waits(&rt, &memory, &memory, number);
     }
-    compare(&rt, 3, memory.is_waiting(), true);
+    compare(&rt, "some run asks for less", memory.is_waiting(), true);
 }

@@ -1,286 +1,166 @@
-//! Worked examples over emitters and readers of shared flows, on one thread and on two.
-use flow_law::{Config, OutOfMemory, Overflow};
-use flow_shared::DrainEnd;
+//! Handles of shared flows on one thread.
+ghost use Rattle.std.specs.Prelude.{◌≡◌};
 
-/// An hour in milliseconds. No test takes this long: a sleeper that is not woken fails.
-const HOUR: u64 = 3_600_000;
+use crate::compare::compare;
+use crate::flows::{new_flow, new_reader};
+use crate::handle_calls::{next, receive, send, try_emit};
+use crate::handles::emissions::{cancel, emission_of, poll, queued, try_cancel, try_poll};
+use flow_law::{Config, Exhausted, NumberError, Rejected};
+use flow_shared::{DrainEnd, Emitter, Reader, SharedFlow};
+use std::alloc::AllocGlobal;
+use std::process::Abort;
+use std::sync::Wait;
+use std::time::Duration;
 
-/// A worked example: the configuration of a flow, and calls on its handles.
-pub struct Example {
-    pub config: Config,
-    pub calls: &'static [Call],
+/// Calls that do not wait for other callers answer as the others.
+#[test]
+fn calls_at_once_answer_as_the_others(rt: HostRuntime) {
+    let (flow, seat) = new_flow(&rt, rt.alloc(), Config::new().replay(1).extra(1));
+    let mut emitter = flow.emitter(seat);
+    let mut reader = new_reader(&rt, &mut emitter);
+    compare(&rt, "try_emit", try_emit(&rt, &mut emitter, 1), Ok(true));
+    compare(&rt, "try_next", reader.try_next(), Ok(Some(1)));
+    compare(&rt, "try_next of none", reader.try_next(), Ok(None));
+    let count = emitter.try_subscription_count();
+    compare(&rt, "try_subscription_count", count, Ok(1));
+    let reset = emitter.try_reset_replay_cache();
+    compare(&rt, "try_reset_replay_cache", reset, Ok(()));
+    emitter.seen();
+    let cache = emitter.replay_cache(&rt).expect(&rt, "memory");
+    compare(&rt, "values in the cache", cache.len(), 0);
 }
 
-/// A worked example on two threads.
-pub struct Meeting {
-    pub config: Config,
-    /// The calls of an emitter, on one thread.
-    pub emits: &'static [Call],
-    /// The calls of another emitter and of the only reader, on the other thread.
-    pub reads: &'static [Call],
-    /// How the reader ends.
-    pub end: End,
+/// Subscribes, takes the subscription out of its reader, and returns a reader that is bound to it again.
+fn bound_again<'a, R: Wait + Abort>(
+    rt: &R,
+    flow: &'a SharedFlow<i64>,
+    emitter: &mut Emitter<'_, i64>,
+) -> Reader<'a, i64>
+    requires { emitter.old.flow ≡ flow.now }
+{
+    flow.reader(new_reader(rt, emitter).into_subscription())
 }
 
-/// How a reader ends.
-pub enum End {
-    Unsubscribe,
-    Drop,
-    /// Its stream gives these items.
-    Stream(&'static [Result<i64, OutOfMemory>]),
+/// Lets the emitter meet another emitter and another reader, and drops these.
+pub fn meet<R: Wait + Abort>(rt: &R, emitter: &mut Emitter<'_, i64>) {
+    let mut other = emitter.another();
+    emitter.meet(&mut other);
+    let mut reader = new_reader(rt, emitter);
+    emitter.meet_reader(&mut reader);
 }
 
-/// A call, and what it returns.
-#[derive(Drop)]
-pub enum Call {
-    /// The value, and whether the flow took it.
-    TryEmit(i64, bool),
-    /// The value, which is handed back, since no number is left.
-    TryEmitRefused(i64),
-    Send(i64),
-    /// The value, which is handed back, since no number is left.
-    SendRefused(i64),
-    /// The most milliseconds that it waits, and the value, which the flow takes.
-    SendInTime(u64, i64),
-    /// Sends the numbers from 1 to this one.
-    SendUpTo(i64),
-    /// The number of subscribers.
-    Count(u64),
-    TryCount(u64),
-    /// The number of values in the replay cache.
-    CacheLength(usize),
-    Reset,
-    TryReset,
-    Seen,
-    /// The emitter meets another emitter and another reader, which are then dropped.
-    Meet,
-    /// An emitter that is made by the reader emits the value.
-    EmitByReader(i64),
-    /// The value is emitted while there is another reader, which is dropped.
-    EmitBesideReader(i64),
-    /// Whether another reader gets a number.
-    Subscribe(bool),
-    /// Whether another reader gets a number, with an empty list of first values of its own.
-    SubscribeWith(bool),
-    Next(Option<i64>),
-    TryNext(Option<i64>),
-    Receive(i64),
-    /// The most milliseconds that it waits, and what it receives.
-    ReceiveInTime(u64, Option<i64>),
-    /// Receives the second value, and may receive the first one before it.
-    ReceiveAfter(i64, i64),
-    /// The most values that are taken, how the drain ends, and how many values it took.
-    Drain(usize, DrainEnd, usize),
-    /// Receives the numbers from 1 to this one. Another reader subscribes and is dropped before each of them.
-    ReceiveBesideReaders(i64),
-    /// The emission of the value waits until the reader has received it.
-    PollUntilReceived(i64),
-    /// The emission of the value waits, and is cancelled.
-    Cancel(i64),
-    TryCancel(i64),
-    /// The emission is cancelled once another one waits behind it.
-    CancelLate(i64),
-    DropEmission(i64),
-    /// The value that a future sends, and whether the future waits. It is dropped.
-    PollSend(i64, bool),
-    /// The value that a future of a new reader receives. The future is dropped.
-    PollReceive(Option<i64>),
-    /// A future of a new reader loses a `select` before it is polled, and is dropped.
-    LoseSelect,
-    /// Lets the other thread fall asleep.
-    Pause,
+/// An emitter that a reader made emits like the first one, and those that were met and dropped count no more.
+#[test]
+fn a_reader_makes_an_emitter(rt: HostRuntime) {
+    let (flow, seat) = new_flow(&rt, rt.alloc(), Config::new().extra(8));
+    let mut emitter = flow.emitter(seat);
+    let mut reader = bound_again(&rt, &flow, &mut emitter);
+    compare(&rt, "try_emit 1", try_emit(&rt, &mut emitter, 1), Ok(true));
+    let taken = try_emit(&rt, &mut reader.another(), 2);
+    compare(&rt, "try_emit 2", taken, Ok(true));
+    compare(&rt, "the first value", next(&rt, &mut reader), Ok(Some(1)));
+    meet(&rt, &mut emitter);
+    compare(&rt, "subscribers", emitter.subscription_count(&rt), 1);
+    compare(&rt, "the second value", next(&rt, &mut reader), Ok(Some(2)));
 }
 
-use Call::{
-    CacheLength, Cancel, CancelLate, Count, Drain, DropEmission, EmitBesideReader, EmitByReader,
-    LoseSelect, Meet, Next, Pause, PollReceive, PollSend, PollUntilReceived, Receive, ReceiveAfter,
-    ReceiveBesideReaders, ReceiveInTime, Reset, Seen, Send, SendInTime, SendRefused, SendUpTo,
-    Subscribe, SubscribeWith, TryCancel, TryCount, TryEmit, TryEmitRefused, TryNext, TryReset,
-};
+/// A value that was emitted is received at once. A wait ends in time, like `withTimeoutOrNull`: with the value, or with
+/// null if none was emitted.
+#[test]
+fn a_wait_ends_in_time(rt: HostRuntime) {
+    let (flow, seat) = new_flow(&rt, rt.alloc(), Config::new().extra(2));
+    let mut emitter = flow.emitter(seat);
+    let mut reader = new_reader(&rt, &mut emitter);
+    let limit = Duration::from_millis(1);
+    compare(&rt, "send 1", send(&rt, &mut emitter, 1), Ok(()));
+    compare(&rt, "send 2", send(&rt, &mut emitter, 2), Ok(()));
+    compare(&rt, "the first value", receive(&rt, &mut reader), Ok(1));
+    compare(&rt, "the second value", receive(&rt, &mut reader), Ok(2));
+    let received = reader.receive_timeout(&rt, limit);
+    compare(&rt, "no value in time", received, Ok(None));
+    compare(&rt, "send 7", send(&rt, &mut emitter, 7), Ok(()));
+    let received = reader.receive_timeout(&rt, limit);
+    compare(&rt, "a value in time", received, Ok(Some(7)));
+    let received = reader.receive_timeout(&rt, Duration::from_millis(0));
+    compare(&rt, "no value at once", received, Ok(None));
+}
 
-/// The configuration of a flow without a buffer (`MutableSharedFlow()`).
-const UNBUFFERED: Config = Config {
-    replay: 0,
-    extra: 0,
-    overflow: Overflow::Suspend,
-    limit: u64::MAX,
-};
+/// Subscribes with no values, and drops the reader. Returns whether it got a number.
+fn subscribe_with<R: Wait + AllocGlobal>(rt: &R, emitter: &mut Emitter<'_, i64>) -> bool {
+    emitter.subscribe_with(rt, Vec::new(rt.alloc())).is_ok()
+}
 
-pub static EXAMPLES: &[Example] = &[
-    // A reader receives what its emitter emits. The flow has a replay cache of one value and room for one more.
-    Example {
-        config: Config {
-            replay: 1,
-            extra: 1,
-            ..UNBUFFERED
-        },
-        calls: &[
-            TryEmit(1, true),
-            TryEmit(2, true),
-            TryEmit(3, false),
-            Next(Some(1)),
-            TryNext(Some(2)),
-            Next(None),
-            TryNext(None),
-            Count(1),
-            TryCount(1),
-            CacheLength(1),
-            Reset,
-            CacheLength(0),
-            TryEmit(4, true),
-            TryReset,
-            CacheLength(0),
-            Drain(1, DrainEnd::Most, 1),
-            Drain(8, DrainEnd::Empty, 0),
-            Seen,
-        ],
-    },
-    // An emitter that a reader made emits like the first one. Another reader is no longer counted once it is dropped.
-    Example {
-        config: Config {
-            extra: 8,
-            ..UNBUFFERED
-        },
-        calls: &[
-            TryEmit(1, true),
-            EmitByReader(2),
-            Next(Some(1)),
-            Meet,
-            Count(1),
-            Next(Some(2)),
-        ],
-    },
-    // A value that was emitted is received at once. A wait ends in time, like `withTimeoutOrNull`: with the value, or
-    // with null if none was emitted.
-    Example {
-        config: Config {
-            extra: 2,
-            ..UNBUFFERED
-        },
-        calls: &[
-            Send(1),
-            Send(2),
-            Receive(1),
-            Receive(2),
-            ReceiveInTime(1, None),
-            Send(7),
-            ReceiveInTime(1, Some(7)),
-            ReceiveInTime(0, None),
-        ],
-    },
-    // A refusal hands the value back. The two numbers were issued to two readers.
-    Example {
-        config: Config {
-            extra: 8,
-            limit: 2,
-            ..UNBUFFERED
-        },
-        calls: &[
-            SubscribeWith(true),
-            Subscribe(false),
-            TryEmitRefused(5),
-            SendRefused(6),
-            SubscribeWith(false),
-            Next(None),
-        ],
-    },
-    // A second reader, which receives nothing, is dropped: it is no longer counted, and emitters no longer wait for it.
-    Example {
-        config: Config {
-            extra: 1,
-            ..UNBUFFERED
-        },
-        calls: &[
-            EmitBesideReader(1),
-            Count(1),
-            TryEmit(2, false),
-            Next(Some(1)),
-            TryEmit(2, true),
-        ],
-    },
-    // A future that waits for a value ends its subscription when it is dropped, after a poll, or before its first poll
-    // if it loses a `select`. A value that one future sends is received by another one.
-    Example {
-        config: Config {
-            replay: 1,
-            ..UNBUFFERED
-        },
-        calls: &[
-            PollReceive(None),
-            Count(1),
-            LoseSelect,
-            Count(1),
-            PollSend(6, false),
-            PollReceive(Some(6)),
-            Next(Some(6)),
-        ],
-    },
-    // Without a buffer an emission waits until the subscriber has received its value. No reader receives the value of a
-    // cancelled or dropped emission or of a dropped future.
-    Example {
-        config: UNBUFFERED,
-        calls: &[
-            PollUntilReceived(1),
-            Cancel(2),
-            TryCancel(3),
-            DropEmission(4),
-            PollSend(5, true),
-            Next(None),
-        ],
-    },
-];
+/// The two numbers of the flow were issued to two readers.
+#[test]
+fn a_refusal_hands_the_value_back(rt: HostRuntime) {
+    let (flow, seat) = new_flow(&rt, rt.alloc(), Config::new().extra(8).limit(2));
+    let mut emitter = flow.emitter(seat);
+    let _reader = new_reader(&rt, &mut emitter);
+    compare(&rt, "number 2", subscribe_with(&rt, &mut emitter), true);
+    compare(&rt, "number 3", emitter.subscribe(&rt).is_ok(), false);
+    compare(&rt, "number 4", subscribe_with(&rt, &mut emitter), false);
+    let (value, error) = (5, Exhausted);
+    let refused = Err(Rejected { value, error });
+    compare(&rt, "try_emit 5", try_emit(&rt, &mut emitter, 5), refused);
+    let (value, error) = (6, NumberError::Exhausted);
+    let refused = Err(Rejected { value, error });
+    compare(&rt, "send 6", send(&rt, &mut emitter, 6), refused);
+}
 
-pub static MEETINGS: &[Meeting] = &[
-    // Without a buffer `emit` suspends until each subscriber has received the value, or has unsubscribed.
-    Meeting {
-        config: UNBUFFERED,
-        emits: &[SendInTime(HOUR, 7), Count(0)],
-        reads: &[Pause],
-        end: End::Unsubscribe,
-    },
-    Meeting {
-        config: UNBUFFERED,
-        emits: &[SendInTime(HOUR, 7), Count(0)],
-        reads: &[Pause],
-        end: End::Drop,
-    },
-    // The subscriber receives only 2, since 1 was cancelled.
-    Meeting {
-        config: UNBUFFERED,
-        emits: &[Pause, SendInTime(HOUR, 2)],
-        reads: &[CancelLate(1), ReceiveInTime(HOUR, Some(2))],
-        end: End::Drop,
-    },
-    // A reader sleeps while another reader and an emission are dropped, and receives the next value: 6 or 7, since a
-    // subscriber may receive an offered value before it is cancelled.
-    Meeting {
-        config: UNBUFFERED,
-        emits: &[Pause, Meet, DropEmission(6), SendInTime(HOUR, 7)],
-        reads: &[ReceiveAfter(6, 7)],
-        end: End::Drop,
-    },
-    // A thread that sleeps is woken long before its limit of an hour.
-    Meeting {
-        config: UNBUFFERED,
-        emits: &[Pause, Send(1)],
-        reads: &[ReceiveInTime(HOUR, Some(1))],
-        end: End::Drop,
-    },
-    // Each emission waits for every subscriber, and the other readers end only by a drop.
-    Meeting {
-        config: UNBUFFERED,
-        emits: &[SendUpTo(2000)],
-        reads: &[ReceiveBesideReaders(2000), Count(1)],
-        end: End::Drop,
-    },
-    // `take(2).toList()` of a flow that emits 1 and 2 is `[1, 2]`.
-    Meeting {
-        config: Config {
-            extra: 2,
-            ..UNBUFFERED
-        },
-        emits: &[Pause, Send(1), Pause, Send(2)],
-        reads: &[],
-        end: End::Stream(&[Ok(1), Ok(2)]),
-    },
-];
+/// A reader that is dropped is no longer counted, and emitters no longer wait for it.
+#[test]
+fn a_dropped_reader_ends_its_subscription(rt: HostRuntime) {
+    let (flow, seat) = new_flow(&rt, rt.alloc(), Config::new().extra(1));
+    let mut emitter = flow.emitter(seat);
+    let mut reader = new_reader(&rt, &mut emitter);
+    let other = new_reader(&rt, &mut emitter);
+    compare(&rt, "try_emit 1", try_emit(&rt, &mut emitter, 1), Ok(true));
+    compare(&rt, "next", next(&rt, &mut reader), Ok(Some(1)));
+    compare(&rt, "no room", try_emit(&rt, &mut emitter, 2), Ok(false));
+    drop(other);
+    compare(&rt, "subscribers", emitter.subscription_count(&rt), 1);
+    compare(&rt, "try_emit 2", try_emit(&rt, &mut emitter, 2), Ok(true));
+}
+
+/// Without a buffer an emission waits until the subscriber has received its value.
+#[test]
+fn an_emission_waits_until_it_is_received(rt: HostRuntime) {
+    let (flow, seat) = new_flow(&rt, rt.alloc(), Config::new());
+    let mut emitter = flow.emitter(seat);
+    let mut reader = new_reader(&rt, &mut emitter);
+    let emission = poll(&rt, emission_of(&rt, &mut emitter, 1)).expect(&rt, "it waits");
+    let emission = try_poll(emission).expect(&rt, "it waits");
+    compare(&rt, "next", next(&rt, &mut reader), Ok(Some(1)));
+    compare(&rt, "done", poll(&rt, emission).is_none(), true);
+}
+
+/// No reader receives the value of an emission that was dropped, or cancelled.
+#[test]
+fn a_dropped_emission_is_cancelled(rt: HostRuntime) {
+    let (flow, seat) = new_flow(&rt, rt.alloc(), Config::new());
+    let mut emitter = flow.emitter(seat);
+    let mut reader = new_reader(&rt, &mut emitter);
+    drop(emission_of(&rt, &mut emitter, 4));
+    compare(&rt, "next, dropped", next(&rt, &mut reader), Ok(None));
+    let emission = queued(&rt, emitter.another().emit_now(2));
+    compare(&rt, "cancel of an emit_now", cancel(&rt, emission), true);
+    let emission = try_poll(emission_of(&rt, &mut emitter, 3)).expect(&rt, "it waits");
+    compare(&rt, "try_cancel", try_cancel(emission), true);
+    compare(&rt, "next, cancelled", next(&rt, &mut reader), Ok(None));
+}
+
+/// A drain takes at most as many values as it is told to.
+#[test]
+fn a_reader_drains(rt: HostRuntime) {
+    let (flow, seat) = new_flow(&rt, rt.alloc(), Config::new().extra(4));
+    let mut emitter = flow.emitter(seat);
+    let mut reader = new_reader(&rt, &mut emitter);
+    compare(&rt, "try_emit 1", try_emit(&rt, &mut emitter, 1), Ok(true));
+    compare(&rt, "try_emit 2", try_emit(&rt, &mut emitter, 2), Ok(true));
+    let mut values = Vec::new(rt.alloc());
+    let end = reader.drain(&rt, 1, &mut values);
+    compare(&rt, "drain of 1", end, Ok(DrainEnd::Most));
+    let end = reader.drain(&rt, 9, &mut values);
+    compare(&rt, "drain of 9", end, Ok(DrainEnd::Empty));
+    compare(&rt, "the values", values.as_slice(), [1, 2].as_slice());
+}

@@ -1,176 +1,131 @@
-//! Worked examples over setters and readers of state flows, on one thread and on two. Each flow begins with the value 7.
+//! Handles of state flows.
+use crate::compare::compare;
+use crate::flows::{new_state_flow, new_state_reader};
+use crate::handle_calls::next_of;
+use crate::handles::states::{Reads, Sets};
+use flow_law::{OutOfMemory, Unsupported};
+use flow_shared::{DrainEnd, Setter, StateReader};
+use futures::executor::block_on;
+use std::alloc::AllocGlobal;
+use std::process::Abort;
+use std::random::RandomSource;
+use std::sync::Wait;
+use std::time::{Clock, Duration};
 
-/// A worked example on two threads. The reader has received 7 before.
-pub struct Meeting {
-    /// The calls of a setter, on one thread.
-    pub sets: &'static [Call],
-    /// The calls of the only reader, on the other thread.
-    pub reads: &'static [Call],
-    /// How the reader ends.
-    pub end: End,
+impl<'a> Sets for Setter<'a, i64> {
+    type Reader = StateReader<'a, i64>;
+
+    fn reader<R: Wait + Abort>(&mut self, rt: &R) -> StateReader<'a, i64> {
+        new_state_reader(rt, self)
+    }
+
+    fn put<R: Wait>(&mut self, rt: &R, value: i64) {
+        self.set(rt, value);
+    }
 }
 
-/// How a reader ends.
-pub enum End {
-    Drop,
-    /// Its future gives this value, and it receives no other one.
-    Changed(i64),
-    /// Its stream gives this value next.
-    Stream(i64),
+impl<'a> Reads for StateReader<'a, i64> {
+    fn take<R: Wait + Abort>(&mut self, rt: &R) -> Option<i64> {
+        self.next(rt).expect(rt, "memory")
+    }
+
+    fn wait<R: Wait + Abort>(&mut self, rt: &R) -> i64 {
+        self.changed(rt).expect(rt, "memory")
+    }
+
+    fn wait_in_time<R: Wait + Clock + Abort>(&mut self, rt: &R, limit: Duration) -> Option<i64> {
+        self.changed_timeout(rt, limit).expect(rt, "memory")
+    }
+
+    fn wait_above<R: Wait + Abort>(&mut self, rt: &R, least: i64) -> i64 {
+        let found = self.wait_for(rt, |value: &i64| *value > least);
+        found.expect(rt, "memory")
+    }
+
+    fn wait_above_in_time<R: Wait + Clock + Abort>(
+        &mut self,
+        rt: &R,
+        limit: Duration,
+        least: i64,
+    ) -> Option<i64> {
+        let found = self.wait_for_timeout(rt, limit, |value: &i64| *value > least);
+        found.expect(rt, "memory")
+    }
+
+    fn await_one<R: Wait + Abort + RandomSource + AllocGlobal>(
+        self,
+        rt: &R,
+    ) -> Option<(i64, Option<i64>)> {
+        let (mut reader, value) = block_on(rt, self.into_changed()).ok()?;
+        Some((value.ok()?, reader.next(rt).ok()?))
+    }
+
+    fn stream_one<R: Wait + Abort + RandomSource + AllocGlobal>(self, rt: &R) -> Option<i64> {
+        next_of(rt, self.into_stream(), 1).pop()?.ok()
+    }
 }
 
-/// A call of a state flow or a word state, and what it returns. Each of them has most of these calls.
-#[derive(Drop)]
-pub enum Call {
-    Value(i64),
-    Set(i64),
-    TrySet(i64),
-    TryEmit(i64),
-    /// The expected value, the new one, and whether it was set.
-    CompareAndSet(i64, i64, bool),
-    /// Sets the numbers from 8 to this one.
-    SetUpTo(i64),
-    /// A state flow refuses this call as unsupported.
-    Reset,
-    /// The number of subscribers.
-    Count(u64),
-    /// The number of values in the replay cache.
-    CacheLength(usize),
-    Seen,
-    /// Adds one, and whether that is done. The function for a state flow refuses a sum above 7 as out of memory.
-    Update(bool),
-    /// Adds one, and returns the value before.
-    GetAndUpdate(Option<i64>),
-    /// Adds one, and returns the value after.
-    UpdateAndGet(Option<i64>),
-    Next(Option<i64>),
-    TryNext(Option<i64>),
-    ReaderSeen,
-    Changed(i64),
-    /// The most milliseconds that it waits, and what it receives.
-    ChangedInTime(u64, Option<i64>),
-    /// Waits for changes until the value is this one. Each value is greater than the one before.
-    Follow(i64),
-    /// Waits for a value that is greater than the first number, and receives the second one.
-    WaitFor(i64, i64),
-    /// The most milliseconds that it waits for a value greater than the next number, and what it receives.
-    WaitInTime(u64, i64, Option<i64>),
-    /// The number of subscribers while there is another reader, which is then dropped.
-    CountBesideReader(u64),
-    /// The number of subscribers while there is a stream, which is then dropped.
-    CountBesideStream(u64),
-    /// The setter meets another setter and another reader.
-    Meet,
-    /// The number of subscribers after another reader has unsubscribed.
-    Unsubscribe(u64),
-    /// The first value of another reader, which was in a future before, and unsubscribes after it.
-    NextOfNew(i64),
-    /// Lets the other thread fall asleep.
-    Pause,
+/// Adds one. Fails with `OutOfMemory` if the sum is above 7.
+fn one_more(value: &i64) -> Result<i64, OutOfMemory> {
+    if *value < 7 {
+        Ok(value.wrapping_add(1))
+    } else {
+        Err(OutOfMemory)
+    }
 }
 
-use Call::{
-    CacheLength, Changed, ChangedInTime, CompareAndSet, Count, CountBesideStream, Follow,
-    GetAndUpdate, Next, NextOfNew, Pause, ReaderSeen, Reset, Seen, Set, SetUpTo, TryEmit, TryNext,
-    TrySet, Update, UpdateAndGet, Value, WaitFor, WaitInTime,
-};
+/// A function that fails leaves the value as it is.
+#[test]
+fn a_state_flow_is_updated(rt: HostRuntime) {
+    let (flow, seat) = new_state_flow(&rt, rt.alloc(), 4, 0);
+    let mut setter = flow.setter(seat);
+    compare(&rt, "update", setter.update(&rt, one_more).is_ok(), true);
+    let before = setter.get_and_update(&rt, one_more).ok();
+    compare(&rt, "get_and_update", before, Some(5));
+    let after = setter.update_and_get(&rt, one_more).ok();
+    compare(&rt, "update_and_get", after, Some(7));
+    compare(&rt, "update", setter.update(&rt, one_more).is_ok(), false);
+    let before = setter.get_and_update(&rt, one_more).ok();
+    compare(&rt, "a failed get_and_update", before, None);
+    let after = setter.update_and_get(&rt, one_more).ok();
+    compare(&rt, "a failed update_and_get", after, None);
+    compare(&rt, "value", setter.value(&rt), Ok(7));
+}
 
-pub static STATE: &[&[Call]] = &[
-    // A reader reads what its setter sets.
-    &[
-        Value(7),
-        Set(1),
-        TrySet(2),
-        TryEmit(3),
-        CompareAndSet(3, 4, true),
-        CompareAndSet(3, 5, false),
-        Reset,
-        Count(1),
-        Update(true),
-        GetAndUpdate(Some(5)),
-        UpdateAndGet(Some(7)),
-        Update(false),
-        GetAndUpdate(None),
-        UpdateAndGet(None),
-        Value(7),
-        CacheLength(1),
-        Seen,
-        Next(Some(7)),
-        TryNext(None),
-        ReaderSeen,
-    ],
-    // A stream that is dropped ends its subscription, and `try_unsubscribe` ends that of a reader. A new reader
-    // receives the state, and a future that was not polled returns its reader.
-    &[CountBesideStream(2), Count(1), NextOfNew(7), Count(1)],
-];
+/// Calls that do not wait for other callers answer as the others.
+#[test]
+fn calls_at_once_of_a_state_flow(rt: HostRuntime) {
+    let (flow, seat) = new_state_flow(&rt, rt.alloc(), 7, 1);
+    let mut setter = flow.setter(seat);
+    let mut reader = new_state_reader(&rt, &mut setter);
+    compare(&rt, "try_set", setter.try_set(2), Ok(()));
+    compare(&rt, "try_emit", setter.try_emit(&rt, 3), true);
+    let reset = setter.reset_replay_cache(&rt);
+    compare(&rt, "reset_replay_cache", reset, Err(Unsupported));
+    compare(&rt, "next", reader.next(&rt), Ok(Some(3)));
+    compare(&rt, "try_next", reader.try_next(), Ok(None));
+    setter.seen();
+    reader.seen();
+    setter.set(&rt, 5);
+    let mut values = Vec::new(rt.alloc());
+    let drained = reader.drain(&rt, 9, &mut values);
+    compare(&rt, "drain", drained, Ok(DrainEnd::Empty));
+    compare(&rt, "the values", values.as_slice(), [5].as_slice());
+}
 
-/// Examples that hold of state flows and of word states.
-pub static WAITS: &[&[Call]] = &[
-    // Values that are set between two calls are conflated, and an equal value is not received again.
-    &[
-        Next(Some(7)),
-        Set(1),
-        Set(7),
-        Next(None),
-        Set(5),
-        Next(Some(5)),
-    ],
-    // `StateFlow.first { }` tests the current value first, whether or not the reader has received it.
-    &[
-        WaitFor(6, 7),
-        Next(None),
-        WaitFor(6, 7),
-        Set(9),
-        Changed(9),
-        WaitInTime(3_600_000, 8, Some(9)),
-        Next(None),
-        Set(10),
-        WaitFor(8, 10),
-        WaitInTime(0, 10, None),
-        Next(None),
-    ],
-    // Like `withTimeoutOrNull`: null if no value that is waited for is there in time, and otherwise the value.
-    &[
-        ChangedInTime(1, Some(7)),
-        ChangedInTime(1, None),
-        Set(8),
-        WaitInTime(1, 8, None),
-        Set(9),
-        WaitInTime(1, 8, Some(9)),
-        ChangedInTime(0, None),
-    ],
-];
-
-/// Examples on two threads that hold of state flows and of word states.
-pub static MEETINGS: &[Meeting] = &[
-    // A reader sleeps until the value changes.
-    Meeting {
-        sets: &[Pause, Set(8)],
-        reads: &[Changed(8)],
-        end: End::Drop,
-    },
-    // `StateFlow.first { it > 9 }` is 10 if the values are set one after the other, up to 10.
-    Meeting {
-        sets: &[Pause, Set(8), Pause, Set(9), Pause, Set(10)],
-        reads: &[WaitFor(9, 10)],
-        end: End::Drop,
-    },
-    // A reader skips values, and receives none twice.
-    Meeting {
-        sets: &[SetUpTo(2000)],
-        reads: &[Follow(2000)],
-        end: End::Drop,
-    },
-    // A task sleeps in the executor until the other thread sets a value.
-    Meeting {
-        sets: &[Pause, Set(8)],
-        reads: &[],
-        end: End::Changed(8),
-    },
-    // `drop(1).take(1)` of a state that begins with 7 and is set to 8 gives 8.
-    Meeting {
-        sets: &[Pause, Set(8)],
-        reads: &[],
-        end: End::Stream(8),
-    },
-];
+/// A stream that is dropped ends its subscription, and `try_unsubscribe` ends that of a reader. A new reader receives
+/// the state, and a future that was not polled returns its reader.
+#[test]
+fn a_dropped_stream_of_a_state_ends_its_subscription(rt: HostRuntime) {
+    let (flow, seat) = new_state_flow(&rt, rt.alloc(), 7, 2);
+    let mut setter = flow.setter(seat);
+    let stream = new_state_reader(&rt, &mut setter).into_stream();
+    compare(&rt, "subscribers", setter.subscription_count(&rt), 1);
+    drop(stream);
+    compare(&rt, "after the drop", setter.subscription_count(&rt), 0);
+    let future = new_state_reader(&rt, &mut setter).into_changed();
+    let mut reader = future.into_reader().expect(&rt, "a reader");
+    compare(&rt, "next", reader.next(&rt), Ok(Some(7)));
+    compare(&rt, "unsubscribed", reader.try_unsubscribe().is_ok(), true);
+    compare(&rt, "after it", setter.subscription_count(&rt), 0);
+}

@@ -1,5 +1,8 @@
 //! Futures of an emitter and of readers of one shared flow, on one thread.
-use crate::flows::new_reader;
+use crate::compare::compare;
+use crate::flows::{new_flow, new_reader};
+use crate::handle_calls::next;
+use flow_law::Config;
 use flow_shared::{Emitter, ReceiveFuture, Received};
 use futures::Future;
 use futures::future::{ready, select};
@@ -22,7 +25,7 @@ fn poll_and_drop<R: Wait + Abort + RandomSource + AllocGlobal, F: Future<Output:
 }
 
 /// Polls a future that sends this value, and drops it. Returns whether it waited.
-pub fn poll_send<R: Wait + Abort + RandomSource + AllocGlobal>(
+fn poll_send<R: Wait + Abort + RandomSource + AllocGlobal>(
     rt: &R,
     emitter: &mut Emitter<'_, i64>,
     value: i64,
@@ -47,7 +50,7 @@ fn received(poll: Poll<Received<i64>>) -> Option<i64> {
 }
 
 /// Polls a future of a new reader, and drops it. Returns what it received.
-pub fn poll_receive<R: Wait + Abort + RandomSource + AllocGlobal>(
+fn poll_receive<R: Wait + Abort + RandomSource + AllocGlobal>(
     rt: &R,
     emitter: &mut Emitter<'_, i64>,
 ) -> Option<i64> {
@@ -57,9 +60,35 @@ pub fn poll_receive<R: Wait + Abort + RandomSource + AllocGlobal>(
 
 /// Drops a future of a new reader before it is polled, since another future wins a `select`. Returns whether that one
 /// won at once.
-pub fn lose_select<R: Wait + Abort + RandomSource + AllocGlobal>(
+fn lose_select<R: Wait + Abort + RandomSource + AllocGlobal>(
     rt: &R,
     emitter: &mut Emitter<'_, i64>,
 ) -> bool {
     !poll_and_drop(rt, select(ready(7), new_future(rt, emitter)))
+}
+
+/// A future that waits for a value ends its subscription when it is dropped, after a poll, or before its first poll if
+/// it loses a `select`. A value that one future sends is received by another one.
+#[test]
+fn a_dropped_future_ends_its_subscription(rt: HostRuntime) {
+    let (flow, seat) = new_flow(&rt, rt.alloc(), Config::new().replay(1));
+    let mut emitter = flow.emitter(seat);
+    let mut reader = new_reader(&rt, &mut emitter);
+    compare(&rt, "no value", poll_receive(&rt, &mut emitter), None);
+    compare(&rt, "subscribers", emitter.subscription_count(&rt), 1);
+    compare(&rt, "it loses", lose_select(&rt, &mut emitter), true);
+    compare(&rt, "subscribers", emitter.subscription_count(&rt), 1);
+    compare(&rt, "6 waits", poll_send(&rt, &mut emitter, 6), false);
+    compare(&rt, "a value", poll_receive(&rt, &mut emitter), Some(6));
+    compare(&rt, "next", next(&rt, &mut reader), Ok(Some(6)));
+}
+
+/// Without a buffer no reader receives the value of a dropped future.
+#[test]
+fn a_dropped_future_that_sends_is_cancelled(rt: HostRuntime) {
+    let (flow, seat) = new_flow(&rt, rt.alloc(), Config::new());
+    let mut emitter = flow.emitter(seat);
+    let mut reader = new_reader(&rt, &mut emitter);
+    compare(&rt, "5 waits", poll_send(&rt, &mut emitter, 5), true);
+    compare(&rt, "next", next(&rt, &mut reader), Ok(None));
 }

@@ -21,6 +21,6 @@ fn is_bound_again<R: Wait>(rt: &R, flow: &SharedFlow<i64>, seat: Seat<i64>) -> b
 #[test]
 fn an_emission_gives_its_token_back(rt: HostRuntime) {
     let (flow, mut seat) = new_flow(&rt, rt.alloc(), Config::new());
-    compare(&rt, 0, flow.subscribe(&rt, &mut seat).is_ok(), true);
-    compare(&rt, 1, is_bound_again(&rt, &flow, seat), true);
+    compare(&rt, "made", flow.subscribe(&rt, &mut seat).is_ok(), true);
+    compare(&rt, "it waited", is_bound_again(&rt, &flow, seat), true);
 }

@@ -1,69 +1,57 @@
-//! Worked examples of drains. The values are those that kotlinx.coroutines documents for the same collector.
-use crate::one_thread::shared_calls::Call::{
-    Drain, Emit, RefuseCopy, Subscribe, TryEmit, Unsubscribe, Values,
-};
-use crate::one_thread::shared_calls::{Example, ROOM_FOR_ONE, UNBUFFERED};
+//! Drains, of which no script has one. The values are those that kotlinx.coroutines documents for the same collector.
+use crate::one_thread::caller::Caller;
 use flow_law::Drained::{Empty, Gone, Most};
 use flow_law::Emit::{Done, Queued};
 use flow_law::{Config, FlowFault};
+use std::cell::Cell;
 
-/// A cache of three values.
-const THREE: Config = Config {
-    replay: 3,
-    ..UNBUFFERED
-};
+/// A drain takes all values that the subscriber can receive, and none once it has unsubscribed.
+#[test]
+fn a_drain_takes_what_there_is(rt: HostRuntime) {
+    let copies = Cell::new(0);
+    let mut flow = Caller::new(&rt, rt.alloc(), Config::new().replay(3), &copies);
+    flow.emit_all(&rt, 1, 3);
+    let id = flow.subscribe(&rt);
+    flow.drain(&rt, id, 2, Ok(Most), &[1, 2]);
+    flow.drain(&rt, id, 10, Ok(Empty), &[1, 2, 3]);
+    flow.unsubscribe(&rt, id);
+    flow.drain(&rt, id, 10, Ok(Gone), &[1, 2, 3]);
+    flow.drain(&rt, id, 0, Ok(Most), &[1, 2, 3]);
+}
 
-pub static DRAINS: &[Example] = &[
-    // A drain takes all values that the subscriber can receive.
-    Example {
-        config: THREE,
-        calls: &[
-            TryEmit(1, true),
-            TryEmit(2, true),
-            TryEmit(3, true),
-            Subscribe(4),
-            Drain(0, 2, Ok(Most)),
-            Values(&[1, 2]),
-            Drain(0, 10, Ok(Empty)),
-            Values(&[1, 2, 3]),
-            Unsubscribe(0, true),
-            Drain(0, 10, Ok(Gone)),
-            Drain(0, 0, Ok(Most)),
-            Values(&[1, 2, 3]),
-        ],
-    },
-    // A drain makes room, so it also takes a value that waited in the queue. A refused drain loses nothing: the second
-    // value stays in the flow, and the first one in the list.
-    Example {
-        config: ROOM_FOR_ONE,
-        calls: &[
-            Subscribe(1),
-            Emit(1, Done),
-            Emit(2, Queued(3)),
-            Emit(3, Queued(4)),
-            Drain(0, 10, Ok(Empty)),
-            Values(&[1, 2, 3]),
-            Emit(4, Done),
-            Emit(5, Queued(6)),
-            Emit(6, Queued(7)),
-            RefuseCopy(2),
-            Drain(0, 10, Err(FlowFault::OutOfMemory)),
-            Values(&[1, 2, 3, 4]),
-            Drain(0, 10, Ok(Empty)),
-            Values(&[1, 2, 3, 4, 5, 6]),
-        ],
-    },
-    // A copy that is refused once is made again by the same drain.
-    Example {
-        config: THREE,
-        calls: &[
-            Emit(1, Done),
-            Emit(2, Done),
-            Emit(3, Done),
-            Subscribe(4),
-            RefuseCopy(2),
-            Drain(0, 10, Ok(Empty)),
-            Values(&[1, 2, 3]),
-        ],
-    },
-];
+/// A drain makes room, so it also takes values that waited in the queue.
+#[test]
+fn a_drain_takes_what_waits(rt: HostRuntime) {
+    let copies = Cell::new(0);
+    let mut flow = Caller::new(&rt, rt.alloc(), Config::new().extra(1), &copies);
+    let id = flow.subscribe(&rt);
+    flow.emit(&rt, 1, Done);
+    flow.emit(&rt, 2, Queued(3));
+    flow.emit(&rt, 3, Queued(4));
+    flow.drain(&rt, id, 10, Ok(Empty), &[1, 2, 3]);
+}
+
+/// A refused drain loses nothing: the second value stays in the flow, and the first one in the list.
+#[test]
+fn a_refused_drain_loses_nothing(rt: HostRuntime) {
+    let copies = Cell::new(0);
+    let mut flow = Caller::new(&rt, rt.alloc(), Config::new().extra(1), &copies);
+    let id = flow.subscribe(&rt);
+    flow.emit(&rt, 4, Done);
+    flow.emit(&rt, 5, Queued(3));
+    flow.emit(&rt, 6, Queued(4));
+    flow.refuse_copy(2);
+    flow.drain(&rt, id, 10, Err(FlowFault::OutOfMemory), &[4]);
+    flow.drain(&rt, id, 10, Ok(Empty), &[4, 5, 6]);
+}
+
+/// A copy that is refused once is made again by the same drain.
+#[test]
+fn a_drain_copies_again(rt: HostRuntime) {
+    let copies = Cell::new(0);
+    let mut flow = Caller::new(&rt, rt.alloc(), Config::new().replay(3), &copies);
+    flow.emit_all(&rt, 1, 3);
+    let id = flow.subscribe(&rt);
+    flow.refuse_copy(2);
+    flow.drain(&rt, id, 10, Ok(Empty), &[1, 2, 3]);
+}

@@ -1,49 +1,43 @@
 //! How many values a shared flow keeps after each call: those that a new or an old subscriber may still receive.
-use crate::one_thread::shared_calls::Call::{Emit, Held, Next, Reset, Subscribe, TryEmit};
-use crate::one_thread::shared_calls::{Example, UNBUFFERED};
+use crate::one_thread::caller::Caller;
 use flow_law::Config;
 use flow_law::Emit::Queued;
-use flow_law::Next::Value;
+use std::cell::Cell;
 
-pub static HELD: &[Example] = &[
-    // A value is kept for the replay cache or for a subscriber.
-    Example {
-        config: Config {
-            replay: 1,
-            extra: 1,
-            ..UNBUFFERED
-        },
-        calls: &[
-            Held(0),
-            Subscribe(1),
-            Held(0),
-            TryEmit(1, true),
-            Held(1),
-            TryEmit(2, true),
-            Held(2),
-            Emit(3, Queued(4)),
-            Held(2),
-            Next(0, Value(1)),
-            Held(2),
-            Next(0, Value(2)),
-            Held(1),
-            Next(0, Value(3)),
-            Held(1),
-            Reset,
-            Held(0),
-        ],
-    },
-    // Without a buffer only an offered value is kept.
-    Example {
-        config: UNBUFFERED,
-        calls: &[
-            TryEmit(5, true),
-            Held(0),
-            Subscribe(2),
-            Emit(7, Queued(3)),
-            Held(1),
-            Next(0, Value(7)),
-            Held(0),
-        ],
-    },
-];
+/// A value is kept for the replay cache or for a subscriber.
+#[test]
+fn values_that_a_shared_flow_keeps(rt: HostRuntime) {
+    let copies = Cell::new(0);
+    let mut flow = Caller::new(&rt, rt.alloc(), Config::new().replay(1).extra(1), &copies);
+    flow.keeps(&rt, "the making", 0);
+    let id = flow.subscribe(&rt);
+    flow.keeps(&rt, "subscribe", 0);
+    flow.try_emit(&rt, 1, true);
+    flow.keeps(&rt, "1", 1);
+    flow.try_emit(&rt, 2, true);
+    flow.keeps(&rt, "2", 2);
+    flow.emit(&rt, 3, Queued(4));
+    flow.keeps(&rt, "3, which waits", 2);
+    flow.receive(&rt, id, 1);
+    flow.keeps(&rt, "the receipt of 1", 2);
+    flow.receive(&rt, id, 2);
+    flow.keeps(&rt, "the receipt of 2", 1);
+    flow.receive(&rt, id, 3);
+    flow.keeps(&rt, "the receipt of 3", 1);
+    flow.reset();
+    flow.keeps(&rt, "the reset", 0);
+}
+
+/// Without a buffer only an offered value is kept.
+#[test]
+fn an_offered_value_is_kept(rt: HostRuntime) {
+    let copies = Cell::new(0);
+    let mut flow = Caller::new(&rt, rt.alloc(), Config::new(), &copies);
+    flow.try_emit(&rt, 5, true);
+    flow.keeps(&rt, "5, without a subscriber", 0);
+    let id = flow.subscribe(&rt);
+    flow.emit(&rt, 7, Queued(3));
+    flow.keeps(&rt, "7, which is offered", 1);
+    flow.receive(&rt, id, 7);
+    flow.keeps(&rt, "the receipt of 7", 0);
+}

@@ -6,9 +6,9 @@ use std::alloc::Global;
 use std::process::Abort;
 
 /// Compares the text that `Debug` prints of a subscription.
-fn is_printed(rt: &impl Abort, alloc: Global, place: usize, id: SubId, wanted: &str) {
+fn is_printed(rt: &impl Abort, alloc: Global, id: SubId, wanted: &str) {
     let printed = format!(in alloc; "{id:?}").expect(rt, "memory");
-    compare(rt, place, printed.as_str(), wanted);
+    compare(rt, "the text of a subscription", printed.as_str(), wanted);
 }
 
 /// Adds three subscribers, removes the second, and adds a fourth. Checks that the fourth has the place of the second.
@@ -16,12 +16,12 @@ fn subscribe_four<S: SubscriberCalls>(rt: &impl Abort, alloc: Global, core: &mut
     let first = core.subscribe().expect(rt, "a subscription");
     let second = core.subscribe().expect(rt, "a subscription");
     let third = core.subscribe().expect(rt, "a subscription");
-    compare(rt, 0, core.unsubscribe(second), true);
+    compare(rt, "unsubscribe", core.unsubscribe(second), true);
     let fourth = core.subscribe().expect(rt, "a subscription");
-    is_printed(rt, alloc, 1, first, "SubId { number: 1, key: 0 }");
-    is_printed(rt, alloc, 2, second, "SubId { number: 2, key: 1 }");
-    is_printed(rt, alloc, 3, third, "SubId { number: 3, key: 2 }");
-    is_printed(rt, alloc, 4, fourth, "SubId { number: 4, key: 1 }");
+    is_printed(rt, alloc, first, "SubId { number: 1, key: 0 }");
+    is_printed(rt, alloc, second, "SubId { number: 2, key: 1 }");
+    is_printed(rt, alloc, third, "SubId { number: 3, key: 2 }");
+    is_printed(rt, alloc, fourth, "SubId { number: 4, key: 1 }");
 }
 
 #[test]

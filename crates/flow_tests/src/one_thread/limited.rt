@@ -1,7 +1,7 @@
 //! Compares values one copy of which is refused, by their numbers.
 use crate::compare::compare;
-use crate::limited::CopyLimited;
 use flow_law::{FlowFault, Next};
+use flow_refusals::CopyLimited;
 use std::alloc::Global;
 use std::cell::Cell;
 use std::process::Abort;
@@ -16,23 +16,12 @@ pub fn number_of(next: Result<Next<CopyLimited<'_>>, FlowFault>) -> Result<Next<
     }
 }
 
-/// Compares the numbers of the values of the call at this place.
-pub fn are(rt: &impl Abort, place: usize, values: &[CopyLimited<'_>], numbers: &[i64]) {
-    compare(rt, place, values.len(), numbers.len());
+/// Compares the numbers of the values of a row.
+pub fn are(rt: &impl Abort, row: &str, values: &[CopyLimited<'_>], numbers: &[i64]) {
+    compare(rt, row, values.len(), numbers.len());
     for (value, number) in values.iter().zip(numbers) {
-        compare(rt, place, value.number(), *number);
+        compare(rt, row, value.number(), *number);
     }
-}
-
-/// Returns the copies. Ends the test if one was refused.
-pub fn copied<'a>(
-    rt: &impl Abort,
-    copies: Result<Vec<CopyLimited<'a>>, FlowFault>,
-) -> Vec<CopyLimited<'a>> {
-    let Ok(copies) = copies else {
-        panic!(rt; "memory")
-    };
-    copies
 }
 
 /// Returns a list of values of these numbers.

@@ -1,8 +1,8 @@
 //! The traits of values that own memory: what they print, when they are equal, and that equal values have equal hashes.
 use crate::compare::compare;
-use crate::memory::Refusing;
 use crate::one_thread::values::{boxed, items};
 use flow_law::{OutOfMemory, Text};
+use flow_refusals::Refusing;
 use std::alloc::Global;
 use std::fmt::Debug;
 use std::hash::{DefaultHasher, Hash, Hasher};
@@ -30,20 +30,14 @@ fn hash_of<T: Hash>(value: &T) -> u64 {
 }
 
 /// Compares with `equal` whether two values are equal, and whether their hashes are.
-fn are_equal<T: PartialEq + Hash>(
-    rt: &impl Abort,
-    place: usize,
-    first: &T,
-    second: &T,
-    equal: bool,
-) {
-    compare(rt, place, *first == *second, equal);
-    compare(rt, place, hash_of(first) == hash_of(second), equal);
+fn are_equal<T: PartialEq + Hash>(rt: &impl Abort, row: &str, first: &T, second: &T, equal: bool) {
+    compare(rt, row, *first == *second, equal);
+    compare(rt, row, hash_of(first) == hash_of(second), equal);
 }
 
 fn is_printed<T: Debug>(rt: &impl Abort, alloc: Global, value: &T, wanted: &str) {
     let printed = format!(in alloc; "{value:?}").expect(rt, "memory");
-    compare(rt, 0, printed.as_str(), wanted);
+    compare(rt, "what is printed", printed.as_str(), wanted);
 }
 
 /// Two texts, and whether they are equal.
@@ -56,24 +50,24 @@ static TEXTS: &[(&str, &str, bool)] = &[
 
 #[test]
 fn texts_are_equal_if_their_bytes_are(rt: HostRuntime) {
-    for (place, (first, second, equal)) in TEXTS.iter().enumerate() {
+    for (first, second, equal) in TEXTS {
         let left = ready(&rt, rt.alloc(), first);
         let right = ready(&rt, rt.alloc(), second);
-        are_equal(&rt, place, &left, &right, *equal);
+        are_equal(&rt, second, &left, &right, *equal);
     }
 }
 
 #[test]
 fn a_text_is_hashed_as_a_str_is(rt: HostRuntime) {
     let page = text(&rt, rt.alloc(), "page");
-    compare(&rt, 0, hash_of(&page), hash_of(&"page"));
+    compare(&rt, "the hash", hash_of(&page), hash_of(&"page"));
 }
 
 #[test]
 fn a_text_is_printed_as_it_is(rt: HostRuntime) {
     let page = text(&rt, rt.alloc(), "page");
     let printed = format!(in rt.alloc(); "{page}, {page:>6}").expect(&rt, "memory");
-    compare(&rt, 0, printed.as_str(), "page,   page");
+    compare(&rt, "what is printed", printed.as_str(), "page,   page");
 }
 
 #[test]
@@ -88,21 +82,45 @@ fn a_text_is_refused_without_memory(rt: HostRuntime) {
     let memory = Refusing::new(rt.alloc());
     memory.refuse(1);
     let refused = Text::from_str(&memory, "page").err();
-    compare(&rt, 0, refused, Some(OutOfMemory));
+    compare(&rt, "a refused text", refused, Some(OutOfMemory));
 }
 
 #[test]
 fn a_list_is_compared_and_printed_by_its_values(rt: HostRuntime) {
     let list = items(&rt, rt.alloc(), 0, &[1, 2]);
-    are_equal(&rt, 0, &list, &items(&rt, rt.alloc(), 0, &[1, 2]), true);
-    are_equal(&rt, 1, &list, &items(&rt, rt.alloc(), 0, &[1]), false);
+    are_equal(
+        &rt,
+        "a list of the same values",
+        &list,
+        &items(&rt, rt.alloc(), 0, &[1, 2]),
+        true,
+    );
+    are_equal(
+        &rt,
+        "a shorter list",
+        &list,
+        &items(&rt, rt.alloc(), 0, &[1]),
+        false,
+    );
     is_printed(&rt, rt.alloc(), &list, "[1, 2]");
 }
 
 #[test]
 fn a_box_is_compared_and_printed_by_its_value(rt: HostRuntime) {
     let seven = boxed(&rt, rt.alloc(), 7);
-    are_equal(&rt, 0, &seven, &boxed(&rt, rt.alloc(), 7), true);
-    are_equal(&rt, 1, &seven, &boxed(&rt, rt.alloc(), 8), false);
+    are_equal(
+        &rt,
+        "a box of the same value",
+        &seven,
+        &boxed(&rt, rt.alloc(), 7),
+        true,
+    );
+    are_equal(
+        &rt,
+        "a box of another value",
+        &seven,
+        &boxed(&rt, rt.alloc(), 8),
+        false,
+    );
     is_printed(&rt, rt.alloc(), &seven, "7");
 }

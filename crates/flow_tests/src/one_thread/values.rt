@@ -1,9 +1,9 @@
 //! Lists and boxed values in flows. Two are the same if their contents are, as `StateFlow` compares by `equals`.
-use crate::compare::compare;
-use crate::limited::CopyLimited;
+use crate::compare::{compare, compare_step};
 use crate::one_thread::limited::list_of;
 use flow_core::{StateCore, SubId};
 use flow_law::{Boxed, FlowFault, FlowValue, Items, Next};
+use flow_refusals::CopyLimited;
 use std::alloc::Global;
 use std::cell::Cell;
 use std::process::Abort;
@@ -25,13 +25,13 @@ pub fn items(rt: &impl Abort, alloc: Global, room: usize, values: &[i64]) -> Ite
 }
 
 /// Compares the values of a list that was received, if there is one.
-fn is_list(rt: &impl Abort, place: usize, list: Option<Items<i64>>, values: Option<&[i64]>) {
+fn is_list(rt: &impl Abort, list: Option<Items<i64>>, values: Option<&[i64]>) {
     match list {
         Some(list) => {
-            compare(rt, place, Some(list.as_slice()), values);
-            compare(rt, place, Some(list.into_inner().as_slice()), values);
+            compare(rt, "the list", Some(list.as_slice()), values);
+            compare(rt, "its values", Some(list.into_inner().as_slice()), values);
         }
-        None => compare(rt, place, None, values),
+        None => compare(rt, "no list was received", None, values),
     }
 }
 
@@ -47,14 +47,9 @@ static LISTS: &[(usize, &[i64], Option<&[i64]>)] = &[
 fn a_list_is_its_values(rt: HostRuntime) {
     let mut flow = StateCore::new(rt.alloc(), items(&rt, rt.alloc(), 0, &[1, 2]), u64::MAX);
     let reader = flow.subscribe().expect(&rt, "a subscription");
-    for (place, (room, values, wanted)) in LISTS.iter().enumerate() {
+    for (room, values, wanted) in LISTS {
         let list = items(&rt, rt.alloc(), *room, values);
-        is_list(
-            &rt,
-            place,
-            set_and_receive(&mut flow, reader, list),
-            *wanted,
-        );
+        is_list(&rt, set_and_receive(&mut flow, reader, list), *wanted);
     }
 }
 
@@ -63,10 +58,10 @@ pub fn boxed(rt: &impl Abort, alloc: Global, number: i64) -> Boxed<i64> {
 }
 
 /// Returns the number in the box, if there is one.
-fn number_in(rt: &impl Abort, place: usize, boxed: Option<Boxed<i64>>) -> Option<i64> {
+fn number_in(rt: &impl Abort, boxed: Option<Boxed<i64>>) -> Option<i64> {
     let boxed = boxed?;
     let number = *boxed.value();
-    compare(rt, place, Box::into_inner(boxed.into_inner()), number);
+    compare(rt, "inner", Box::into_inner(boxed.into_inner()), number);
     Some(number)
 }
 
@@ -77,16 +72,17 @@ static BOXES: &[(i64, Option<i64>)] = &[(7, Some(7)), (7, None), (8, Some(8))];
 fn a_boxed_value_is_what_the_box_contains(rt: HostRuntime) {
     let mut flow = StateCore::new(rt.alloc(), boxed(&rt, rt.alloc(), 7), u64::MAX);
     let reader = flow.subscribe().expect(&rt, "a subscription");
-    for (place, (number, wanted)) in BOXES.iter().enumerate() {
+    for (number, wanted) in BOXES {
         let received = set_and_receive(&mut flow, reader, boxed(&rt, rt.alloc(), *number));
-        compare(&rt, place, number_in(&rt, place, received), *wanted);
+        compare_step(&rt, "received", number, number_in(&rt, received), *wanted);
     }
 }
 
 /// Checks that the next copy is refused, and the one after it is not.
 fn is_copied_again<T: FlowValue>(rt: &impl Abort, value: &T) {
-    compare(rt, 0, value.try_copy().err(), Some(FlowFault::OutOfMemory));
-    compare(rt, 1, value.try_copy().is_ok(), true);
+    let refused = value.try_copy().err();
+    compare(rt, "a refused copy", refused, Some(FlowFault::OutOfMemory));
+    compare(rt, "the next copy", value.try_copy().is_ok(), true);
 }
 
 #[test]

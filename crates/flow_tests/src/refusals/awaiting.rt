@@ -3,10 +3,10 @@
 ghost use Rattle.std.specs.Prelude.{◌≡◌};
 
 use crate::compare::compare;
-use crate::memory::Refusing;
 use crate::refusals::flows::SMALL;
 use crate::values::Numbered;
 use flow_law::{Boxed, FlowFault};
+use flow_refusals::Refusing;
 use flow_shared::{EmitFuture, Emitted, NextFuture, Seat, Sent, SharedFlow, Subscription};
 use futures::task::Poll;
 use futures::test::MockTask;
@@ -28,7 +28,7 @@ fn emit_now<R: Abort, T: Numbered<Memory = A>, A: Allocator + Copy>(
     refusing.refuse(1);
     match flow.emit_now(seat, value) {
         Emitted::Refused(seat, value, fault) => {
-            compare(rt, 1, fault, FlowFault::OutOfMemory);
+            compare(rt, "a refused emit_now", fault, FlowFault::OutOfMemory);
             (seat, value)
         }
         _ => panic!(rt; "it is refused"),
@@ -50,8 +50,8 @@ fn emit_later<R: Abort, T: Numbered<Memory = A>, A: Allocator + Copy>(
     refusing.refuse(1);
     match task.poll(&mut EmitFuture::new(flow, seat, value)) {
         Poll::Ready(Sent::Refused(seat, value, fault)) => {
-            compare(rt, 2, fault, FlowFault::OutOfMemory);
-            compare(rt, 2, value.number(), 3);
+            compare(rt, "a refused EmitFuture", fault, FlowFault::OutOfMemory);
+            compare(rt, "the value that it hands back", value.number(), 3);
             (seat, value)
         }
         _ => panic!(rt; "it is refused"),
@@ -71,8 +71,8 @@ fn emits<R: Abort, T: Numbered<Memory = A>, A: Allocator + Copy>(
 {
     refusing.refuse(2);
     let mut emit = EmitFuture::new(flow, seat, value);
-    compare(rt, 3, task.poll(&mut emit).is_pending(), true);
-    compare(rt, 3, refusing.is_waiting(), true);
+    compare(rt, "it waits", task.poll(&mut emit).is_pending(), true);
+    compare(rt, "one request alone", refusing.is_waiting(), true);
 }
 
 /// Polls a future that receives, which is ready. Returns its subscription, and what it received.
@@ -104,7 +104,7 @@ fn receive_later<R: Abort, T: Numbered<Memory = A>, A: Allocator + Copy>(
 {
     refusing.refuse(1);
     let (subscription, refused) = poll_next(rt, task, flow, subscription);
-    compare(rt, 5, refused.err(), Some(FlowFault::OutOfMemory));
+    compare(rt, "refused", refused.err(), Some(FlowFault::OutOfMemory));
     subscription
 }
 
@@ -121,10 +121,10 @@ fn receives<R: Abort, T: Numbered<Memory = A>, A: Allocator + Copy>(
     refusing.refuse(2);
     let (_subscription, received) = poll_next(rt, task, flow, subscription);
     match received {
-        Ok(value) => compare(rt, 6, value.number(), 1),
+        Ok(value) => compare(rt, "the first value", value.number(), 1),
         Err(_fault) => panic!(rt; "it is received"),
     }
-    compare(rt, 6, refusing.is_waiting(), true);
+    compare(rt, "one request alone", refusing.is_waiting(), true);
 }
 
 /// Emits the value with this number. Ends the test unless the flow takes it.
@@ -139,7 +139,7 @@ fn fill<R: Wait + Abort, T: Numbered<Memory = A>, A: Allocator + Copy>(
     ensures { seat.new.table_id ≡ flow.entry.now.table_id }
 {
     let taken = flow.try_emit(rt, seat, T::of(rt, memory, number));
-    compare(rt, 0, taken.ok(), Some(true));
+    compare(rt, "try_emit", taken.ok(), Some(true));
 }
 
 /// Returns a flow into which 1 and 2 were emitted, a seat of it, and a subscriber that has received neither.
@@ -174,7 +174,7 @@ fn play<R: Wait + Abort, T: Numbered<Memory = A>, A: Allocator + Copy>(
     emits(rt, task, &flow, seat, value, refusing);
     refusing.refuse(1);
     let refused = flow.next_now(&mut subscription);
-    compare(rt, 4, refused.err(), Some(FlowFault::OutOfMemory));
+    compare(rt, "at once", refused.err(), Some(FlowFault::OutOfMemory));
     let subscription = receive_later(rt, task, &flow, subscription, refusing);
     receives(rt, task, &flow, subscription, refusing);
 }

@@ -2,9 +2,9 @@
 ghost use Rattle.std.specs.Prelude.{⊤};
 
 use crate::compare::compare;
-use crate::memory::Refusing;
 use flow_gate::Gate;
 use flow_law::Guarded;
+use flow_refusals::Refusing;
 use std::alloc::{Allocator, Global};
 use std::process::Abort;
 
@@ -29,7 +29,7 @@ fn refuse_each<A: Allocator + Copy>(rt: &impl Abort, memory: A, refusing: &Refus
                 seat.end();
                 panic!(rt; "it is refused")
             }
-            Err(failed) => compare(rt, 0, failed.value.name, 7),
+            Err(failed) => compare(rt, "the state that is handed back", failed.value.name, 7),
         }
     }
     match Gate::new(memory, Named { name: 7 }) {

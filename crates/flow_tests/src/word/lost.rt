@@ -67,10 +67,10 @@ fn lost_futures_and_streams_leave_no_waker(rt: HostRuntime) {
         waited &= lose_stream(&task, new_idle_reader(&rt, &mut setter));
         waited &= leave_future(&task, new_idle_reader(&rt, &mut setter));
     }
-    compare(&rt, 0, waited, true);
+    compare(&rt, "each future and stream waited", waited, true);
     sleep_again(&task);
     setter.set(1);
-    compare(&rt, 1, task.is_woken(), false);
+    compare(&rt, "a lost task is woken", task.is_woken(), false);
 }
 
 /// A task that still sleeps is woken by the next change, after the futures of others were dropped.
@@ -82,15 +82,16 @@ fn a_change_wakes_the_task_that_is_left(rt: HostRuntime) {
     let left = MockTask::new(&rt).expect(&rt, "a task");
     let before = new_idle_reader(&rt, &mut setter);
     let mut future = new_idle_reader(&rt, &mut setter).into_changed();
-    compare(&rt, 0, left.poll(&mut future).is_pending(), true);
-    compare(&rt, 1, lose_future(&lost, before), true);
+    compare(&rt, "left waits", left.poll(&mut future).is_pending(), true);
+    compare(&rt, "lost future", lose_future(&lost, before), true);
     let after = new_idle_reader(&rt, &mut setter);
-    compare(&rt, 2, lose_stream(&lost, after), true);
+    compare(&rt, "lost stream", lose_stream(&lost, after), true);
     sleep_again(&lost);
-    compare(&rt, 3, left.is_woken(), false);
+    compare(&rt, "woken too early", left.is_woken(), false);
     setter.set(1);
-    compare(&rt, 4, (left.is_woken(), lost.is_woken()), (true, false));
-    compare(&rt, 5, left.poll(&mut future).is_pending(), false);
+    let woken = (left.is_woken(), lost.is_woken());
+    compare(&rt, "woken: left, lost", woken, (true, false));
+    compare(&rt, "it waits", left.poll(&mut future).is_pending(), false);
 }
 
 /// A caller that loses futures in a thread of its own, beside others.
@@ -156,5 +157,5 @@ fn lose_beside<R: Wait + Abort + Threads + RandomSource + AllocGlobal + Sync>(
 fn four_threads_lose_futures(rt: HostRuntime) {
     let (flow, seat) = new_word_state(&rt, rt.alloc(), 0, NUMBERS);
     let mut setter = flow.setter(seat);
-    compare(&rt, 0, lose_beside(&rt, &mut setter), false);
+    compare(&rt, "any is woken", lose_beside(&rt, &mut setter), false);
 }

@@ -9,6 +9,6 @@ fn a_reader_finds_what_a_message_tells(rt: HostRuntime) {
     let mut setter = flow.setter(seat);
     let reader = setter.another();
     let heard = pass_on(&rt, rt.alloc(), setter, reader, 7).expect(&rt, "memory");
-    compare(&rt, 0, heard.value, 7);
-    compare(&rt, 1, heard.found, 7);
+    compare(&rt, "the value of the message", heard.value, 7);
+    compare(&rt, "what its reader found", heard.found, 7);
 }

@@ -1,5 +1,4 @@
-//! Worked examples of one caller. The values are from kotlinx.coroutines' documentation of `MutableStateFlow`. The
-//! tests of handles have more examples.
+//! What one caller of a word state knows after two of its seats have met, and a word state that is refused memory.
 ghost use Rattle.std.specs.Prelude.{◌≡◌};
 
 use crate::compare::compare;
@@ -16,7 +15,7 @@ fn made_again(rt: &impl Abort, alloc: Global) -> (WordState<i64>, WordSeat<i64>)
     match WordState::new(alloc, 7, 0) {
         Ok(made) => made,
         Err(fault) => {
-            compare(rt, 0, fault, FlowFault::OutOfMemory);
+            compare(rt, "a refused flow", fault, FlowFault::OutOfMemory);
             WordState::new(alloc, 7, 0).expect(rt, "a flow")
         }
     }
@@ -25,20 +24,7 @@ fn made_again(rt: &impl Abort, alloc: Global) -> (WordState<i64>, WordSeat<i64>)
 #[test]
 fn a_word_state_is_made(rt: HostRuntime) {
     let (flow, mut seat) = made_again(&rt, rt.alloc());
-    compare(&rt, 1, flow.value(&mut seat), 7);
-}
-
-/// A second number is refused.
-#[test]
-fn subscribers_are_counted(rt: HostRuntime) {
-    let made = WordState::<i64>::new(rt.alloc(), 0, 1);
-    let (flow, mut seat) = made.expect(&rt, "a flow");
-    let subscribed = flow.subscribe(&rt, &mut seat);
-    compare(&rt, 0, flow.subscription_count(&mut seat), 1);
-    let mut other = flow.unsubscribe(subscribed.expect(&rt, "a number"));
-    let refused = flow.subscribe(&rt, &mut other).err();
-    compare(&rt, 1, refused, Some(FlowFault::Exhausted));
-    compare(&rt, 2, flow.subscription_count(&mut other), 0);
+    compare(&rt, "the first value", flow.value(&mut seat), 7);
 }
 
 /// After two seats have met, each reads what either has set before.
@@ -49,8 +35,8 @@ fn who_has_met_reads_what_the_other_one_set(rt: HostRuntime) {
     let mut other = flow.seat(&mut seat);
     flow.set(&mut other, 3);
     flow.meet(&mut seat, &mut other);
-    compare(&rt, 0, flow.value(&mut seat), 3);
-    compare(&rt, 1, flow.value(&mut other), 3);
+    compare(&rt, "what the first seat reads", flow.value(&mut seat), 3);
+    compare(&rt, "what the second seat reads", flow.value(&mut other), 3);
 }
 
 /// A subscription receives what a seat set before it met the subscription.
@@ -62,7 +48,7 @@ fn a_subscriber_that_has_met_receives_what_was_set(rt: HostRuntime) {
     let mut subscription = subscribed.expect(&rt, "a number");
     flow.set(&mut seat, 4);
     flow.meet_subscription(&mut subscription, &mut seat);
-    compare(&rt, 0, flow.next(&mut subscription), Next::Value(4));
+    compare(&rt, "next", flow.next(&mut subscription), Next::Value(4));
     flow.seen_by_subscription(&mut subscription);
-    compare(&rt, 1, flow.next(&mut subscription), Next::Empty);
+    compare(&rt, "no more", flow.next(&mut subscription), Next::Empty);
 }

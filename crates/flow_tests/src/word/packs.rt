@@ -5,34 +5,34 @@ use flow_law::Packed;
 use std::process::Abort;
 
 /// Checks that unpacking a packed value returns it.
-fn come_back<T: Packed + Copy + PartialEq + Drop>(rt: &impl Abort, place: usize, values: &[T]) {
+fn come_back<T: Packed + Copy + PartialEq + Drop>(rt: &impl Abort, row: &str, values: &[T]) {
     for value in values {
-        compare(rt, place, T::unpack((*value).pack()) == *value, true);
+        compare(rt, row, T::unpack((*value).pack()) == *value, true);
     }
 }
 
 #[test]
 fn numbers(rt: HostRuntime) {
-    come_back(&rt, 0, &[i64::MIN, -1, 0, 1, i64::MAX]);
-    come_back(&rt, 1, &[i32::MIN, -1, 0, 1, i32::MAX]);
-    come_back(&rt, 2, &[i16::MIN, -1, 0, 1, i16::MAX]);
-    come_back(&rt, 3, &[i8::MIN, -1, 0, 1, i8::MAX]);
-    come_back(&rt, 4, &[0, 1, u64::MAX]);
-    come_back(&rt, 5, &[0, 1, u32::MAX]);
-    come_back(&rt, 6, &[0, 1, u16::MAX]);
-    come_back(&rt, 7, &[0, 1, u8::MAX]);
+    come_back(&rt, "i64", &[i64::MIN, -1, 0, 1, i64::MAX]);
+    come_back(&rt, "i32", &[i32::MIN, -1, 0, 1, i32::MAX]);
+    come_back(&rt, "i16", &[i16::MIN, -1, 0, 1, i16::MAX]);
+    come_back(&rt, "i8", &[i8::MIN, -1, 0, 1, i8::MAX]);
+    come_back(&rt, "u64", &[0, 1, u64::MAX]);
+    come_back(&rt, "u32", &[0, 1, u32::MAX]);
+    come_back(&rt, "u16", &[0, 1, u16::MAX]);
+    come_back(&rt, "u8", &[0, 1, u8::MAX]);
 }
 
 #[test]
 fn other_values(rt: HostRuntime) {
-    come_back(&rt, 0, &[false, true]);
-    come_back(&rt, 1, &['\0', '\u{D7FF}', '\u{E000}', char::MAX]);
-    come_back(&rt, 2, &[()]);
-    come_back(&rt, 3, &[None, Some(0), Some(u32::MAX)]);
-    come_back(&rt, 4, &[(0, 0), (u32::MAX, i32::MIN), (0, -1)]);
+    come_back(&rt, "bool", &[false, true]);
+    come_back(&rt, "char", &['\0', '\u{D7FF}', '\u{E000}', char::MAX]);
+    come_back(&rt, "()", &[()]);
+    come_back(&rt, "Option", &[None, Some(0), Some(u32::MAX)]);
+    come_back(&rt, "a pair", &[(0, 0), (u32::MAX, i32::MIN), (0, -1)]);
     come_back(
         &rt,
-        5,
+        "Celsius",
         &[
             Celsius { degrees: -40 },
             Celsius { degrees: 0 },

@@ -59,22 +59,22 @@ fn run<R: Abort + Threads + Wait + Sync>(
 fn is_left<R: Abort + Wait>(rt: &R, maker: &mut Caller<'_>, subscribed: u32) {
     maker.value = maker.flow.value(&mut maker.seat);
     let count = maker.flow.subscription_count(&mut maker.seat);
-    compare(rt, 101, count, 0);
+    compare(rt, "subscribers that are left", count, 0);
     let refused = maker.flow.subscribe(rt, &mut maker.seat).err();
     let wanted = if subscribed == NUMBERS {
         Some(FlowFault::Exhausted)
     } else {
         None
     };
-    compare(rt, 102, refused, wanted);
+    compare(rt, "a further subscription", refused, wanted);
 }
 
 #[test]
 fn a_thread_reads_what_it_set_or_what_another_set(rt: HostRuntime) {
     let set = [Task::Set(9), Task::Set(4), Task::Read, Task::Read];
     let (read, value, _) = run(&rt, rt.alloc(), set, &Signals::new());
-    compare(&rt, 0, read == 9 || read == 4, true);
-    compare(&rt, 1, value == 9 || value == 4, true);
+    compare(&rt, "the thread read 9 or 4", read == 9 || read == 4, true);
+    compare(&rt, "the state is 9 or 4", value == 9 || value == 4, true);
 }
 
 /// The function of the update gets 0, the `set` returns while the function waits, and the update then takes the value
@@ -89,8 +89,8 @@ fn a_set_does_not_wait_for_an_update(rt: HostRuntime) {
         Task::Read,
     ];
     let (_, value, _) = run(&rt, rt.alloc(), slow, &signals);
-    compare(&rt, 0, signals.seen(), (true, true));
-    compare(&rt, 1, value, 6);
+    compare(&rt, "got 0, set meanwhile", signals.seen(), (true, true));
+    compare(&rt, "the value after the update", value, 6);
 }
 
 /// Each thread adds 1 and subscribes a thousand times, and no subscription is refused.
@@ -98,6 +98,6 @@ fn a_set_does_not_wait_for_an_update(rt: HostRuntime) {
 fn four_threads_count(rt: HostRuntime) {
     let count = [Task::CountUp(1_000); 4];
     let (_, value, subscribed) = run(&rt, rt.alloc(), count, &Signals::new());
-    compare(&rt, 0, value, 4_000);
-    compare(&rt, 1, subscribed, 4_000);
+    compare(&rt, "the value", value, 4_000);
+    compare(&rt, "subscriptions", subscribed, 4_000);
 }

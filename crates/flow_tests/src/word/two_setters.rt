@@ -221,5 +221,5 @@ fn run<R: Wait + Abort + Threads + Clock + RandomSource + AllocGlobal + Sync>(
 fn two_setters_wake_all_sleepers(rt: HostRuntime) {
     let (flow, seat) = new_word_state(&rt, rt.alloc(), 0, 100);
     let mut setter = flow.setter(seat);
-    compare(&rt, 0, run(&rt, &mut setter), 0);
+    compare(&rt, "callers that were late", run(&rt, &mut setter), 0);
 }

@@ -1,0 +1,12 @@
+//! Tests of sharings: runs in threads of their own, hubs, and refused copies. The turns of `shareIn` and of `stateIn` are
+//! rows of `tests/cases/` and `examples/`, which run over every kind of flow.
+
+mod beside;
+mod hubs;
+mod refused_reset;
+mod shared;
+mod shared_runs;
+mod state_runs;
+mod word_runs;
+
+pub use shared::{PUTS, STARTS, count_to};

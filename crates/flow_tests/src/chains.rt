@@ -1,9 +1,0 @@
-//! Callers of cold chains with contracts, and tests of chains: worked examples, counts of asks, and chains as streams.
-mod asks;
-mod built;
-mod callers;
-mod gives;
-mod inner;
-mod methods;
-mod refused_copies;
-mod streams;

@@ -1,0 +1,202 @@
+//! An emitter and a reader of a shared flow, each on a thread of its own. A wait has a limit of an hour, which no test
+//! takes: a sleeper that is not woken fails.
+use crate::compare::compare;
+use crate::flows::{new_flow, new_reader};
+use crate::handle_calls::{next_of, pause, receive, send};
+use crate::handles::emissions::{cancel_late, emission_of};
+use crate::handles::shared::meet;
+use flow_law::{Config, OutOfMemory};
+use flow_shared::{Emitter, Reader, SendEnd};
+use std::alloc::AllocGlobal;
+use std::process::Abort;
+use std::random::RandomSource;
+use std::sync::Wait;
+use std::thread::{Threads, join};
+use std::time::{Clock, Duration};
+
+fn an_hour() -> Duration {
+    Duration::from_secs(3_600)
+}
+
+/// Sends a value. Returns whether the flow took it.
+fn sends<R: Wait + Clock>(rt: &R, emitter: &mut Emitter<'_, i64>, value: i64) -> bool {
+    emitter.send_timeout(rt, value, an_hour()) == Ok(SendEnd::Done)
+}
+
+/// Sends a value to a reader that has fallen asleep.
+fn sends_late<R: Wait + Clock>(rt: &R, emitter: &mut Emitter<'_, i64>, value: i64) -> bool {
+    pause(rt);
+    sends(rt, emitter, value)
+}
+
+fn unsubscribe<R: Wait + Clock>(rt: &R, reader: Reader<'_, i64>) {
+    pause(rt);
+    drop(reader.unsubscribe(rt));
+}
+
+/// Without a buffer `emit` suspends until each subscriber has received the value, or has unsubscribed.
+#[test]
+fn a_wait_ends_when_the_subscriber_leaves(rt: HostRuntime) {
+    let (flow, seat) = new_flow(&rt, rt.alloc(), Config::new());
+    let mut emitter = flow.emitter(seat);
+    let reader = new_reader(&rt, &mut emitter);
+    let (is_sent, ()) = join(
+        &rt,
+        || sends(&rt, &mut emitter, 7),
+        || unsubscribe(&rt, reader),
+    );
+    compare(&rt, "the value was sent", is_sent, true);
+    compare(&rt, "subscribers", emitter.subscription_count(&rt), 0);
+}
+
+fn let_go<R: Clock>(rt: &R, reader: Reader<'_, i64>) {
+    pause(rt);
+    drop(reader);
+}
+
+#[test]
+fn a_wait_ends_when_the_reader_is_dropped(rt: HostRuntime) {
+    let (flow, seat) = new_flow(&rt, rt.alloc(), Config::new());
+    let mut emitter = flow.emitter(seat);
+    let reader = new_reader(&rt, &mut emitter);
+    let (is_sent, ()) = join(&rt, || sends(&rt, &mut emitter, 7), || let_go(&rt, reader));
+    compare(&rt, "the value was sent", is_sent, true);
+    compare(&rt, "subscribers", emitter.subscription_count(&rt), 0);
+}
+
+/// Returns the next value that comes in time, if any.
+fn receive_in_time<R: Wait + Clock>(rt: &R, reader: &mut Reader<'_, i64>) -> Option<i64> {
+    reader.receive_timeout(rt, an_hour()).unwrap_or(None)
+}
+
+/// A value that comes while a thread waits for it is received, although it was not there at the first call.
+#[test]
+fn a_value_that_comes_in_time_is_received(rt: HostRuntime) {
+    let (flow, seat) = new_flow(&rt, rt.alloc(), Config::new().extra(1));
+    let mut emitter = flow.emitter(seat);
+    let mut reader = new_reader(&rt, &mut emitter);
+    let came = join(
+        &rt,
+        || sends_late(&rt, &mut emitter, 7),
+        || receive_in_time(&rt, &mut reader),
+    );
+    compare(&rt, "sent, and received", came, (true, Some(7)));
+}
+
+/// Cancels an emission of 1, behind which another one waits. Returns whether it waited, and the next value.
+fn cancel_and_receive<R: Wait + Clock + Abort>(
+    rt: &R,
+    reader: &mut Reader<'_, i64>,
+) -> (bool, Option<i64>) {
+    let was_waiting = cancel_late(rt, &mut reader.another(), 1);
+    (was_waiting, receive_in_time(rt, reader))
+}
+
+/// The subscriber receives only 2, since 1 was cancelled.
+#[test]
+fn a_value_behind_a_cancelled_one_is_received(rt: HostRuntime) {
+    let (flow, seat) = new_flow(&rt, rt.alloc(), Config::new());
+    let mut emitter = flow.emitter(seat);
+    let mut reader = new_reader(&rt, &mut emitter);
+    let (is_sent, received) = join(
+        &rt,
+        || sends_late(&rt, &mut emitter, 2),
+        || cancel_and_receive(&rt, &mut reader),
+    );
+    compare(&rt, "the value was sent", is_sent, true);
+    compare(&rt, "1 waited, the next value", received, (true, Some(2)));
+}
+
+/// Meets another reader, drops it and an emission of 6, and sends 7.
+fn drop_and_send<R: Wait + Clock + Abort>(rt: &R, emitter: &mut Emitter<'_, i64>) -> bool {
+    pause(rt);
+    meet(rt, emitter);
+    drop(emission_of(rt, emitter, 6));
+    sends(rt, emitter, 7)
+}
+
+/// Returns whether the reader receives 7, either next or after 6.
+fn receive_seven<R: Wait>(rt: &R, reader: &mut Reader<'_, i64>) -> bool {
+    let received = receive(rt, reader);
+    received == Ok(7) || received == Ok(6) && receive(rt, reader) == Ok(7)
+}
+
+/// A reader sleeps while another reader and an emission are dropped, and receives the next value: 6 or 7, since a
+/// subscriber may receive an offered value before it is cancelled.
+#[test]
+fn a_drop_leaves_a_sleeper_asleep(rt: HostRuntime) {
+    let (flow, seat) = new_flow(&rt, rt.alloc(), Config::new());
+    let mut emitter = flow.emitter(seat);
+    let mut reader = new_reader(&rt, &mut emitter);
+    let came = join(
+        &rt,
+        || drop_and_send(&rt, &mut emitter),
+        || receive_seven(&rt, &mut reader),
+    );
+    compare(&rt, "7 was sent and received", came, (true, true));
+}
+
+/// Sends the numbers from 1 to 2000. Returns whether all were taken.
+fn send_many<R: Wait>(rt: &R, emitter: &mut Emitter<'_, i64>) -> bool {
+    for value in 1..=2_000 {
+        if send(rt, emitter, value).is_err() {
+            return false;
+        }
+    }
+    true
+}
+
+/// Receives the numbers from 1 to 2000; makes and drops another reader before each. Returns how many were right.
+fn receive_many<R: Wait + Abort>(rt: &R, reader: &mut Reader<'_, i64>) -> i64 {
+    let mut emitter = reader.another();
+    for value in 1..=2_000 {
+        drop(new_reader(rt, &mut emitter));
+        if receive(rt, reader) != Ok(value) {
+            return value;
+        }
+    }
+    2_000
+}
+
+/// Each emission waits for every subscriber, and the other readers end only by a drop.
+#[test]
+fn readers_come_and_go_beside_emissions(rt: HostRuntime) {
+    let (flow, seat) = new_flow(&rt, rt.alloc(), Config::new());
+    let mut emitter = flow.emitter(seat);
+    let mut reader = new_reader(&rt, &mut emitter);
+    let came = join(
+        &rt,
+        || send_many(&rt, &mut emitter),
+        || receive_many(&rt, &mut reader),
+    );
+    compare(&rt, "all were sent, and how many came", came, (true, 2_000));
+    compare(&rt, "subscribers", emitter.subscription_count(&rt), 1);
+}
+
+/// Sends 1, and 2 once the reader has fallen asleep again.
+fn send_slowly<R: Wait + Clock>(rt: &R, emitter: &mut Emitter<'_, i64>) -> bool {
+    sends_late(rt, emitter, 1) && sends_late(rt, emitter, 2)
+}
+
+/// Returns the first two items of the reader's stream.
+fn stream_two<R: Wait + Abort + RandomSource + AllocGlobal>(
+    rt: &R,
+    reader: Reader<'_, i64>,
+) -> Vec<Result<i64, OutOfMemory>> {
+    next_of(rt, reader.into_stream(), 2)
+}
+
+/// `take(2).toList()` of a flow that emits 1 and 2 is `[1, 2]`.
+#[test]
+fn a_stream_gives_what_is_sent(rt: HostRuntime) {
+    let (flow, seat) = new_flow(&rt, rt.alloc(), Config::new().extra(2));
+    let mut emitter = flow.emitter(seat);
+    let reader = new_reader(&rt, &mut emitter);
+    let (are_sent, given) = join(
+        &rt,
+        || send_slowly(&rt, &mut emitter),
+        || stream_two(&rt, reader),
+    );
+    compare(&rt, "1 and 2 were sent", are_sent, true);
+    compare(&rt, "stream", given.as_slice(), [Ok(1), Ok(2)].as_slice());
+}

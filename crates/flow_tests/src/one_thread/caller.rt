@@ -1,0 +1,142 @@
+//! A caller of a shared flow for one thread. Each of its calls compares what the flow answers.
+use crate::compare::{compare, compare_step};
+use crate::one_thread::limited::{are, list_of, number_of};
+use flow_core::{SharedCore, SubId};
+use flow_law::{Config, Drained, Emit, FlowFault, Next};
+use flow_refusals::CopyLimited;
+use std::alloc::Global;
+use std::cell::Cell;
+use std::process::Abort;
+
+/// A flow of values that count their copies, and all values that were drained.
+#[derive(Drop)]
+pub struct Caller<'a> {
+    flow: SharedCore<CopyLimited<'a>>,
+    copies: &'a Cell<u64>,
+    drained: Vec<CopyLimited<'a>>,
+}
+
+impl<'a> Caller<'a> {
+    pub fn new(
+        rt: &impl Abort,
+        alloc: Global,
+        config: Config,
+        copies: &'a Cell<u64>,
+    ) -> Caller<'a> {
+        Caller {
+            flow: SharedCore::new(alloc, config).expect(rt, "a flow"),
+            copies,
+            drained: Vec::new(alloc),
+        }
+    }
+
+    /// Refuses the copy of this number, counted from 1 from now on.
+    pub fn refuse_copy(&self, number: u64) {
+        self.copies.set(number);
+    }
+
+    pub fn emit(&mut self, rt: &impl Abort, value: i64, wanted: Emit) {
+        let emitted = CopyLimited::new(value, self.copies);
+        let came = self.flow.emit(emitted).ok();
+        compare_step(rt, "emit", &value, came, Some(wanted));
+    }
+
+    pub fn try_emit(&mut self, rt: &impl Abort, value: i64, wanted: bool) {
+        let emitted = CopyLimited::new(value, self.copies);
+        let came = self.flow.try_emit(emitted).ok();
+        compare_step(rt, "try_emit", &value, came, Some(wanted));
+    }
+
+    /// Emits the numbers from the first to the last one. The flow takes each of them.
+    pub fn emit_all(&mut self, rt: &impl Abort, first: i64, last: i64) {
+        for value in first..=last {
+            self.emit(rt, value, Emit::Done);
+        }
+    }
+
+    /// Cancels the emission of this number, which waits.
+    pub fn cancel(&mut self, rt: &impl Abort, number: u64) {
+        compare_step(rt, "cancel", &number, self.flow.cancel(number), true);
+    }
+
+    pub fn reset(&mut self) {
+        self.flow.reset_replay_cache();
+    }
+
+    pub fn subscribe(&mut self, rt: &impl Abort) -> SubId {
+        self.flow.subscribe().expect(rt, "a subscription")
+    }
+
+    /// Subscribes with first values of the subscriber's own.
+    pub fn subscribe_with(&mut self, rt: &impl Abort, alloc: Global, first: &[i64]) -> SubId {
+        let values = list_of(rt, alloc, self.copies, first);
+        match self.flow.subscribe_with(values) {
+            Ok(id) => id,
+            Err(_refused) => panic!(rt; "a subscription"),
+        }
+    }
+
+    pub fn unsubscribe(&mut self, rt: &impl Abort, id: SubId) {
+        compare(rt, "unsubscribe", self.flow.unsubscribe(id), true);
+    }
+
+    pub fn receive(&mut self, rt: &impl Abort, id: SubId, wanted: i64) {
+        let received = number_of(self.flow.next(id));
+        compare_step(rt, "next", &wanted, received, Ok(Next::Value(wanted)));
+    }
+
+    /// Receives the numbers from the first to the last one.
+    pub fn receive_all(&mut self, rt: &impl Abort, id: SubId, first: i64, last: i64) {
+        for value in first..=last {
+            self.receive(rt, id, value);
+        }
+    }
+
+    /// Makes a `next` that is refused.
+    pub fn receive_nothing(&mut self, rt: &impl Abort, id: SubId) {
+        let received = number_of(self.flow.next(id));
+        compare(rt, "a refused next", received, Err(FlowFault::OutOfMemory));
+    }
+
+    /// Takes at most `most` values, and compares why the drain stopped, and all values that were drained so far.
+    pub fn drain(
+        &mut self,
+        rt: &impl Abort,
+        id: SubId,
+        most: usize,
+        wanted: Result<Drained, FlowFault>,
+        values: &[i64],
+    ) {
+        let stopped = self.flow.drain(id, most, &mut self.drained);
+        compare_step(rt, "drain, at most", &most, stopped, wanted);
+        are(
+            rt,
+            "the values that were drained",
+            self.drained.as_slice(),
+            values,
+        );
+    }
+
+    /// Compares how many values the flow keeps.
+    pub fn keeps(&self, rt: &impl Abort, after: &str, wanted: usize) {
+        compare_step(rt, "kept after", &after, self.flow.held(), wanted);
+    }
+
+    /// Compares how many values were emitted.
+    pub fn has_emitted(&self, rt: &impl Abort, after: &str, wanted: u64) {
+        compare_step(rt, "emitted", &after, self.flow.emission_count(), wanted);
+    }
+
+    /// Compares the lag of a subscriber.
+    pub fn lags(&self, rt: &impl Abort, id: SubId, after: &str, wanted: Option<u64>) {
+        compare_step(rt, "lag after", &after, self.flow.lag(id), wanted);
+    }
+
+    /// Compares the number of values in the replay cache.
+    pub fn caches(&self, rt: &impl Abort, wanted: usize) {
+        let Ok(cache) = self.flow.replay_cache() else {
+            panic!(rt; "memory")
+        };
+        compare(rt, "values in the cache", cache.len(), wanted);
+    }
+}
