@@ -54,7 +54,7 @@ impl<S: ReaderCalls, A: Allocator + Copy> Attended<S, A> {
         ensures emitters { self.new.emitters ≡ without_emitter touches self.old.emitters }
     {
         match touches {
-            Touch::Nobody => {}
+            Touch::NoSleeper => {}
             Touch::Subscriber(number) => self.readers.wake(number),
             Touch::Subscribers => self.remove_readers(woken),
             Touch::Emission(number) => self.emitters.wake(number),
