@@ -1,5 +1,5 @@
 //! The one path of a call: enter the gate, call the core, leave with the event that names the call.
-ghost use Rattle.std.specs.Prelude.{◌≡◌, ◌≤◌, ◌∷◌, [], IfOk, IfErr, MatchResult, true, false};
+ghost use Rattle.std.specs.Prelude.{◌≡◌, ◌≤◌, ◌∷◌, [], ⊤, IfOk, IfErr, MatchResult, true, false};
 ghost use Rattle.flow_law.specs.Growth.{loses};
 ghost use Rattle.flow_law.specs.History.{MayCall};
 ghost use Rattle.flow_law.specs.Promise.{said};
@@ -16,7 +16,7 @@ use crate::token::FlowSeat;
 use flow_core::{FlowCore, ReaderCalls};
 use flow_gate::{Gate, NamesEvents, Seat};
 use flow_law::{Guarded, Said};
-use flow_sleepers::Waiter;
+use flow_sleepers::{Waiter, Wakers};
 use std::alloc::Allocator;
 use std::snapshot::Snapshot;
 use std::sync::Wait;
@@ -62,6 +62,28 @@ impl Entry for AtOnce {
     #[inline(always)]
     fn enter<S: Guarded, A: Allocator>(&self, gate: &Gate<S, A>, seat: &mut Seat<S>) -> bool {
         gate.try_enter(seat)
+    }
+}
+
+/// A caller that does not sleep: it leaves no waker, and asks again by itself.
+#[derive(Drop)]
+pub(crate) struct Sleepless;
+
+impl<A: Allocator> Waiter<A> for Sleepless {
+    ghost is_armed = { λ w. ⊤ };
+
+    ghost asks_again = { λ w. ⊤ };
+
+    ghost keeps = { λ old new. ⊤ };
+
+    ghost keeps_same = { λ w. tt };
+
+    fn leave_waker(&mut self, _alloc: A, _wakers: &mut Wakers<A>) {}
+
+    fn ask_again(&mut self) {}
+
+    fn asks_first(&self) -> bool {
+        true
     }
 }
 

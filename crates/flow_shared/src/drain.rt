@@ -14,12 +14,10 @@ ghost use Rattle.flow_shared.specs.BoundReplies.{drained_by};
 ghost use Rattle.flow_shared.specs.Calls.{HoldsFor, NextsOf};
 ghost use Rattle.flow_shared.specs.Drains.{CoreNexts, TakesInside, said_since};
 
-use crate::attended::Attended;
-use crate::calling::GateSeat;
+use crate::attended::{Attended, ToWake};
+use crate::calling::{GateSeat, Sleepless};
 use crate::flow::Flow;
-use crate::sleepless::Sleepless;
 use crate::subscriber::TakeNext;
-use crate::to_wake::ToWake;
 use crate::token::{FlowSeat, FlowSubscription};
 use flow_core::{FlowCore, SubId, SubscriberCalls};
 use flow_gate::NamesEvents;
