@@ -98,9 +98,6 @@ impl<'a, S: FlowCore, C: CoreCall<S>> NamesEvents<Said<S::Call, S::Reply>> for C
     ghost events = { λ e knows. said (C.call e.call.value (subscription_name knows)) (C.reply e.answer.now) ∷ [] };
 }
 
-/// A seat at the gate of a flow.
-pub(crate) type GateSeat<S, A> = Seat<Attended<S, A>>;
-
 impl<S: ReaderCalls + Drop, A: Allocator + Copy> Flow<S, A> {
     /// Makes a call. If its answer says that the caller has to wait for something, the caller sleeps. If another caller
     /// is inside and this one does not wait for that, returns the call; the caller then asks again.
@@ -131,7 +128,20 @@ impl<S: ReaderCalls + Drop, A: Allocator + Copy> Flow<S, A> {
             waiter.ask_again();
             return Err(call);
         }
-        Ok(self.call_inside(&mut seat.seat, call, waiter))
+        let state = seat.seat.state(&self.gate);
+        if !state.is_alone() {
+            return Ok(self.call_and_wake(&mut seat.seat, call, waiter));
+        }
+        let made = Snapshot::of(&call);
+        let answer = state.call_alone(call, waiter);
+        self.gate.leave(
+            &mut seat.seat,
+            &Called::<S, C> {
+                call: made,
+                answer: &answer,
+            },
+        );
+        Ok(answer)
     }
 
     /// Makes a call as `call_by` does. It waits while another caller is inside.
@@ -158,48 +168,13 @@ impl<S: ReaderCalls + Drop, A: Allocator + Copy> Flow<S, A> {
         }
     }
 
-    /// Makes the call of a caller inside, which then leaves.
-    #[inline(always)]
-    fn call_inside<C: CoreCall<S>, W: Waiter<A>>(
-        &self,
-        seat: &mut GateSeat<S, A>,
-        call: C,
-        waiter: &mut W,
-    ) -> C::Answer
-        requires flow { seat.old.token.table_id ≡ self.now.table_id }
-        requires stood { HoldsFor S.kind (AttendedAs S.sleeping S.stands_as)
-            self.now.first seat.old }
-        requires may { MayCall S.kind (C.call call (subscription_name seat.old.token.knows))
-            seat.old.token.knows.name seat.old.token.knows.seen }
-        ensures said { SaysIn S.kind self.now.first seat.old.token
-            (C.call call (subscription_name seat.old.token.knows)) (C.reply result) seat.new }
-        ensures also { C.also call result }
-        ensures armed { IsSleep (C.then call result) → W.is_armed waiter.new }
-        ensures kept { W.keeps waiter.old waiter.new }
-    {
-        let state = seat.state(&self.gate);
-        if !state.is_alone() {
-            return self.call_and_wake(seat, call, waiter);
-        }
-        let made = Snapshot::of(&call);
-        let answer = state.call_alone(call, waiter);
-        self.gate.leave(
-            seat,
-            &Called::<S, C> {
-                call: made,
-                answer: &answer,
-            },
-        );
-        answer
-    }
-
     /// Makes the call of a caller inside while others sleep, leaves, and wakes those that have something now. This is a
     /// separate function, so that a call while no caller sleeps saves no registers for it.
     #[cold]
     #[inline(never)]
     fn call_and_wake<C: CoreCall<S>, W: Waiter<A>>(
         &self,
-        seat: &mut GateSeat<S, A>,
+        seat: &mut Seat<Attended<S, A>>,
         call: C,
         waiter: &mut W,
     ) -> C::Answer
