@@ -163,10 +163,8 @@ impl<'a, S: ReaderCalls + Drop, A: Allocator + Copy> FlowCaller<'a, S, A> {
         ensures counted { CountsNow S.kind self.old.flow self.old.token
             (answer_by busy_fault result) self.new.token }
     {
-        match self.flow.count_now(&mut self.seat) {
-            Ok(count) => Ok(count),
-            Err(_busy) => Err(Busy),
-        }
+        let count = self.flow.count_now(&mut self.seat);
+        count.map_err(|_busy| Busy)
     }
 
     /// Joins what a caller and a reader of one flow have seen, as `meet` does.

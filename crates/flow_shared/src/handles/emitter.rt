@@ -195,10 +195,8 @@ impl<'a, T: FlowValue, A: Allocator + Copy> FlowCaller<'a, SharedCore<T, A>, A> 
         ensures called { SharedCalls self.old.flow self.old.token call.ReplayCache
             (cache_reply (answer_by memory_fault result)) self.new.token }
     {
-        match self.flow.replay_cache(rt, &mut self.seat) {
-            Ok(values) => Ok(values),
-            Err(_fault) => Err(OutOfMemory),
-        }
+        let values = self.flow.replay_cache(rt, &mut self.seat);
+        values.map_err(|_fault| OutOfMemory)
     }
 
     /// Empties the replay cache. Present subscribers still receive the values that they have not received.
@@ -216,9 +214,7 @@ impl<'a, T: FlowValue, A: Allocator + Copy> FlowCaller<'a, SharedCore<T, A>, A> 
         ensures called { ResetsNow self.old.flow self.old.token
             (answer_by busy_fault result) self.new.token }
     {
-        match self.flow.reset_now(&mut self.seat) {
-            Ok(()) => Ok(()),
-            Err(_busy) => Err(Busy),
-        }
+        let reset = self.flow.reset_now(&mut self.seat);
+        reset.map_err(|_busy| Busy)
     }
 }

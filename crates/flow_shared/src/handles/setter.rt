@@ -47,10 +47,8 @@ impl<'a, T: FlowValue, A: Allocator + Copy> FlowCaller<'a, StateCore<T, A>, A> {
             (value_reply (answer_by memory_fault result)) self.new.token }
         ensures given { T.IsAlwaysCopied → IsOk result }
     {
-        match self.flow.value(rt, &mut self.seat) {
-            Ok(value) => Ok(value),
-            Err(_fault) => Err(OutOfMemory),
-        }
+        let value = self.flow.value(rt, &mut self.seat);
+        value.map_err(|_fault| OutOfMemory)
     }
 
     /// Sets the current value. Setting a value that is equal to the current one does nothing: no subscriber gets it
@@ -215,10 +213,8 @@ impl<'a, T: FlowValue, A: Allocator + Copy> FlowCaller<'a, StateCore<T, A>, A> {
         ensures called { StateCalls self.old.flow self.old.token call.ReplayCache
             (state_cache_reply (answer_by memory_fault result)) self.new.token }
     {
-        match self.flow.replay_cache(rt, &mut self.seat) {
-            Ok(values) => Ok(values),
-            Err(_fault) => Err(OutOfMemory),
-        }
+        let values = self.flow.replay_cache(rt, &mut self.seat);
+        values.map_err(|_fault| OutOfMemory)
     }
 
     /// Returns `Unsupported`: a state flow always has a value, so its replay cache cannot be reset.
@@ -228,9 +224,7 @@ impl<'a, T: FlowValue, A: Allocator + Copy> FlowCaller<'a, StateCore<T, A>, A> {
             (reset_reply (answer_by unsupported_fault result)) self.new.token }
         ensures refused { IsErr result }
     {
-        match self.flow.reset_replay_cache(rt, &mut self.seat) {
-            Ok(()) => Ok(()),
-            Err(_fault) => Err(Unsupported),
-        }
+        let reset = self.flow.reset_replay_cache(rt, &mut self.seat);
+        reset.map_err(|_fault| Unsupported)
     }
 }
