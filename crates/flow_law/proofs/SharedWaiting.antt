@@ -48,7 +48,7 @@ module _ {T : Type 0} where
   abbrev pub touches : SharedCall T → SharedReply T → Touch
   touches (call.Unsubscribe u) r = touch.Subscriber u
   touches (call.Cancel e) r = touch.Emission e
-  touches _ _ = touch.Nobody
+  touches _ _ = touch.NoSleeper
 
   -- what holds of each state that a history leads to
   pub record Lasting (s : SharedFlowState T) : Type 0 where

@@ -24,7 +24,7 @@ module _ {T : Type 0} where
   touches (call.TryEmit x) r = touch.Subscribers
   touches (call.CompareAndSet a b) (reply.Answered true) = touch.Subscribers
   touches (call.Unsubscribe u) r = touch.Subscriber u
-  touches _ _ = touch.Nobody
+  touches _ _ = touch.NoSleeper
 
   -- a new subscriber does not change the last value of one that is subscribed
   last-snoc_some : (number : ℕ) (us : List (StateSubscriber T)) (v : StateSubscriber T) → IsSome (last_got_by number us) → last_got_by number (us ++ v ∷ []) ≡ last_got_by number us

@@ -37,10 +37,10 @@ module _ {T S C R : Type 0} (kind : Kind T S C R) where
     -- whom a call may wake, besides those of whom the mark and the first emission that waits tell
     pub touches : C → R → Touch
     -- the calls that every kind of flow has
-    pub next_touches : (u : ℕ) (r : R) → touches (kind.take_next u) r ≡ touch.Nobody
-    pub subscribe_touches : (name : List ℕ) (r : R) → touches (kind.subscribe name) r ≡ touch.Nobody
+    pub next_touches : (u : ℕ) (r : R) → touches (kind.take_next u) r ≡ touch.NoSleeper
+    pub subscribe_touches : (name : List ℕ) (r : R) → touches (kind.subscribe name) r ≡ touch.NoSleeper
     pub unsubscribe_touches : (u : ℕ) (r : R) → touches (kind.unsubscribe u) r ≡ touch.Subscriber u
-    pub count_touches : (r : R) → touches kind.count r ≡ touch.Nobody
+    pub count_touches : (r : R) → touches kind.count r ≡ touch.NoSleeper
     -- a subscriber with nothing to receive has nothing to receive until there is a new value, or a call touches it
     pub stays : (u : ℕ) (s : S) (c : C) (r : R) → kind.Replies s c r → touches c r ≢ touch.Subscriber u → touches c r ≢ touch.Subscribers
         → mark (kind.after s c r) ≡ mark s → FindsNothing u s → FindsNothing u (kind.after s c r)

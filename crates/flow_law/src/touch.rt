@@ -3,7 +3,7 @@
 /// The callers that may have something after a call, besides readers of a new value and emitters whose turn came.
 #[derive(Clone, Copy, Debug, PartialEq, Eq)]
 pub enum Touch {
-    Nobody,
+    NoSleeper,
     /// The subscriber of this number, which the call ended.
     Subscriber(u64),
     /// All subscribers: the call set the value that they see.

@@ -44,7 +44,7 @@ others P n xs all =
 
 -- the readers that are left were not touched
 readers_left : (P : ℕ → Type 0) (touches : Touch) (xs : List ℕ) → All P xs → All (λ u. P u × (touches ≢ touch.Subscriber u) × (touches ≢ touch.Subscribers)) (without_reader touches xs)
-readers_left P touch.Nobody xs all = All-weaker P (λ u. P u × (touch.Nobody ≢ touch.Subscriber u) × (touch.Nobody ≢ touch.Subscribers)) (λ u p. (p, (λ e. cc), (λ e. cc))) xs all
+readers_left P touch.NoSleeper xs all = All-weaker P (λ u. P u × (touch.NoSleeper ≢ touch.Subscriber u) × (touch.NoSleeper ≢ touch.Subscribers)) (λ u p. (p, (λ e. cc), (λ e. cc))) xs all
 readers_left P (touch.Subscriber n) xs all =
     All-weaker (λ u. P u × (u ≢ n)) (λ u. P u × (touch.Subscriber n ≢ touch.Subscriber u) × (touch.Subscriber n ≢ touch.Subscribers))
     (λ u p. (p.0, (λ e. let same : n ≡ u = cc in p.1 (sym same)), (λ e. cc))) (without_reader (touch.Subscriber n) xs) (others P n xs all)
@@ -53,7 +53,7 @@ readers_left P (touch.Emission e) xs all = All-weaker P (λ u. P u × (touch.Emi
 
 -- the emitters that are left were not touched
 emitters_left : (P : ℕ → Type 0) (touches : Touch) (xs : List ℕ) → All P xs → All (λ e. P e × (touches ≢ touch.Emission e)) (without_emitter touches xs)
-emitters_left P touch.Nobody xs all = All-weaker P (λ e. P e × (touch.Nobody ≢ touch.Emission e)) (λ e p. (p, λ is. cc)) xs all
+emitters_left P touch.NoSleeper xs all = All-weaker P (λ e. P e × (touch.NoSleeper ≢ touch.Emission e)) (λ e p. (p, λ is. cc)) xs all
 emitters_left P (touch.Subscriber n) xs all = All-weaker P (λ e. P e × (touch.Subscriber n ≢ touch.Emission e)) (λ e p. (p, λ is. cc)) xs all
 emitters_left P touch.Subscribers xs all = All-weaker P (λ e. P e × (touch.Subscribers ≢ touch.Emission e)) (λ e p. (p, λ is. cc)) xs all
 emitters_left P (touch.Emission n) xs all =

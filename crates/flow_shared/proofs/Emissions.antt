@@ -14,8 +14,8 @@ use Rattle.flow_law.proofs.SharedLawful.{shared_lawful}
 use Rattle.flow_law.proofs.TokenLemmas.{given_by, busy_is_no_event}
 use Rattle.flow_core.specs.SharedCore.{emit_reply}
 use Rattle.flow_gate.specs.Tokens.{GateOrigin}
-use Rattle.flow_shared.specs.declared.answers.Emitted.{Emitted}
-use Rattle.flow_shared.specs.declared.answers.Emitted.TheVariants as answers
+use Rattle.flow_shared.specs.declared.token.Emitted.{Emitted}
+use Rattle.flow_shared.specs.declared.token.Emitted.TheVariants as answers
 use Rattle.flow_shared.specs.SharedReplies.{SharedToken, SharedCalls, SharedCallsBy, Emits, EmitsBy, EmitsNow, EmitIsWait, IsGivenIfQueued}
 
 module _ {T : Type 0} (flow : GateOrigin (SharedFlowState T)) (before after : SharedToken T) (v : T) where

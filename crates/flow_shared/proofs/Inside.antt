@@ -71,6 +71,16 @@ module _ {K T S C R : Type 0} (kind : Kind T S C R) (start : K → S) (StandsAs 
     may_inside c may = subst (λ (z : List ℕ × List ℕ). MayCall kind (c z.0) z.1 seat.token.knows.seen) (λ i. (same_name i, sym found_name i))
         (may_grows kind law flow.first (c (subscription_name before.knows)) before.knows.name before.knows.seen seat.token.knows.seen found.2.0 found_grows may)
 
+    -- A call of the state that the seat lends made x into y. c' is the call as it was named on leaving.
+    module _ (c : List ℕ → C) (x y : K) (r : R) (lent : seat.held ≡ Some x) (documents : Documents kind StandsAs x (c (subscription_name seat.token.knows)) r y)
+        (may : MayCall kind (c (subscription_name before.knows)) before.knows.name before.knows.seen) (c' : C) (named : c' ≡ c (subscription_name seat.token.knows)) where
+      pub stands_inside : StandsForHistory kind StandsAs (start gate.first) y (seat.token.knows.seen ++ event seat.token.knows.name (said c' r) ∷ [])
+      stands_inside = subst (λ (s : S). StandsForHistory kind StandsAs s y (seat.token.knows.seen ++ event seat.token.knows.name (said c' r) ∷ [])) (sym first_is)
+          (may_leave kind StandsAs flow.first seat.token x y (c (subscription_name seat.token.knows)) c' r (lent_stands kind StandsAs flow.first seat x found lent) named documents (may_inside c may))
+
+      pub says_inside : (after : SeatState K (Said C R)) → after ≡ idle_seat (knowing seat.token (adds (said c' r ∷ []) seat.token.knows)) → SaysIn kind flow.first seat.token (c (subscription_name seat.token.knows)) r after
+      says_inside = has_said kind StandsAs flow.first seat.token x y (c (subscription_name seat.token.knows)) c' r (lent_stands kind StandsAs flow.first seat x found lent) named documents (may_inside c may)
+
     module _ (c : List ℕ → C) (r : R) (after : SeatState K (Said C R)) (says : SaysIn kind flow.first seat.token (c (subscription_name seat.token.knows)) r after) where
       abbrev call : C
       call = c (subscription_name before.knows)

@@ -25,8 +25,8 @@ use Rattle.flow_gate.specs.Tokens.{GateOrigin}
 use Rattle.flow_shared.specs.SharedReplies.{SharedToken, SharedCalls, EmitsNow, IsEmitFault, EmitRefusedIfDue, emitted_reply}
 use Rattle.flow_shared.specs.Calls.{GateNumbered, NextsNow}
 use Rattle.flow_shared.specs.StateReplies.{StateToken, StateCalls}
-use Rattle.flow_shared.specs.declared.answers.Emitted.{Emitted}
-use Rattle.flow_shared.specs.declared.answers.Emitted.TheVariants as emitted
+use Rattle.flow_shared.specs.declared.token.Emitted.{Emitted}
+use Rattle.flow_shared.specs.declared.token.Emitted.TheVariants as emitted
 
 module _ {T : Type 0} (flow : GateOrigin (SharedFlowState T)) (t u : SharedToken T) where
   pub emit_fault : (v : T) (fault : FlowFault) → SharedCalls flow t (call.Emit v) (reply.Refused fault) u → IsEmitFault fault

@@ -18,8 +18,8 @@ use Rattle.flow_shared.specs.Receiving.{NextsUntil}
 use Rattle.flow_shared.specs.Futures.{SharedNumbered}
 use Rattle.flow_shared.specs.SharedReplies.{SharedToken, SharedCalls}
 use Rattle.flow_shared.specs.EmitFutures.{EndsAfter, EmitEnds}
-use Rattle.flow_shared.specs.declared.answers.SendEnd.{SendEnd}
-use Rattle.flow_shared.specs.declared.answers.SendEnd.TheVariants as ended
+use Rattle.flow_shared.specs.declared.shared.sending.SendEnd.{SendEnd}
+use Rattle.flow_shared.specs.declared.shared.sending.SendEnd.TheVariants as ended
 use Rattle.flow_shared.specs.Sending.{SendEndsBy, LastsTo, EndsInTime, SendsInTime}
 
 module _ {T S C R : Type 0} (kind : Kind T S C R) (flow : GateOrigin S) where

@@ -13,12 +13,12 @@ use Rattle.flow_gate.specs.Tokens.{GateOrigin, GateToken}
 use Rattle.flow_shared.specs.Calls.{GateNumbered}
 use Rattle.flow_shared.specs.SharedReplies.{SharedToken}
 use Rattle.flow_shared.specs.BoundEmissions.{EmissionOf}
-use Rattle.flow_shared.specs.declared.answers.Emitted.{Emitted}
-use Rattle.flow_shared.specs.declared.answers.Emitted.TheVariants as emitted
-use Rattle.flow_shared.specs.declared.answers.Polled.{Polled}
-use Rattle.flow_shared.specs.declared.answers.Polled.TheVariants as polled
-use Rattle.flow_shared.specs.declared.answers.PolledNow.{PolledNow}
-use Rattle.flow_shared.specs.declared.answers.PolledNow.TheVariants as polled_now
+use Rattle.flow_shared.specs.declared.token.Emitted.{Emitted}
+use Rattle.flow_shared.specs.declared.token.Emitted.TheVariants as emitted
+use Rattle.flow_shared.specs.declared.token.Polled.{Polled}
+use Rattle.flow_shared.specs.declared.token.Polled.TheVariants as polled
+use Rattle.flow_shared.specs.declared.token.PolledNow.{PolledNow}
+use Rattle.flow_shared.specs.declared.token.PolledNow.TheVariants as polled_now
 use Rattle.flow_shared.specs.declared.handles.bound_emission.EmitAnswer.{EmitAnswer}
 use Rattle.flow_shared.specs.declared.handles.bound_emission.EmitAnswer.TheVariants as emit_answer
 use Rattle.flow_shared.specs.declared.handles.bound_emission.PollAnswer.{PollAnswer}

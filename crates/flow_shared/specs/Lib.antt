@@ -4,6 +4,7 @@ pub mod Calls
 pub mod Drains
 pub mod SharedReplies
 pub mod StateReplies
+pub mod SeenLaws
 pub mod EmitCounts
 pub mod Futures
 pub mod EmitFutures

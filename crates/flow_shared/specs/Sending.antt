@@ -6,8 +6,8 @@ use Rattle.flow_law.specs.declared.call.SharedReply.TheVariants as reply
 use Rattle.flow_law.specs.declared.outcome.Emit.TheVariants.{Done, Queued}
 use Rattle.flow_law.specs.declared.states.SharedFlowState.{SharedFlowState}
 use Rattle.flow_gate.specs.Tokens.{GateOrigin}
-use Rattle.flow_shared.specs.declared.answers.SendEnd.{SendEnd}
-use Rattle.flow_shared.specs.declared.answers.SendEnd.TheVariants as ended
+use Rattle.flow_shared.specs.declared.shared.sending.SendEnd.{SendEnd}
+use Rattle.flow_shared.specs.declared.shared.sending.SendEnd.TheVariants as ended
 use Rattle.flow_shared.specs.EmitFutures.{EmitsOnce}
 use Rattle.flow_shared.specs.SharedReplies.{SharedToken, SharedCalls}
 

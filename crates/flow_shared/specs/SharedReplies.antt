@@ -16,12 +16,12 @@ use Rattle.flow_law.specs.SharedHistory.{shared_flow}
 use Rattle.flow_law.specs.declared.states.SharedFlowState.{SharedFlowState}
 use Rattle.flow_law.specs.Tokens.{IsBusy}
 use Rattle.flow_gate.specs.Tokens.{GateToken, GateOrigin}
-use Rattle.flow_shared.specs.declared.answers.Emitted.{Emitted}
-use Rattle.flow_shared.specs.declared.answers.Emitted.TheVariants as emitted
-use Rattle.flow_shared.specs.declared.answers.Polled.{Polled}
-use Rattle.flow_shared.specs.declared.answers.Polled.TheVariants as polled
-use Rattle.flow_shared.specs.declared.answers.PolledNow.{PolledNow}
-use Rattle.flow_shared.specs.declared.answers.PolledNow.TheVariants as polled_now
+use Rattle.flow_shared.specs.declared.token.Emitted.{Emitted}
+use Rattle.flow_shared.specs.declared.token.Emitted.TheVariants as emitted
+use Rattle.flow_shared.specs.declared.token.Polled.{Polled}
+use Rattle.flow_shared.specs.declared.token.Polled.TheVariants as polled
+use Rattle.flow_shared.specs.declared.token.PolledNow.{PolledNow}
+use Rattle.flow_shared.specs.declared.token.PolledNow.TheVariants as polled_now
 use Rattle.flow_shared.specs.Calls.{GateNumbered}
 use Rattle.flow_shared.specs.Calls as flows
 

@@ -8,11 +8,11 @@ ghost use Rattle.flow_shared.specs.Attended.{Attends, AttendedAs, attended_stand
 mod removing;
 
 use crate::core_call::{CoreCall, Made, Then, Watching};
-use crate::to_wake::ToWake;
 use flow_core::{FlowCore, ReaderCalls};
 use flow_law::{Guarded, Said};
 use flow_sleepers::{Sleepers, Waiter};
 use futures::task::Poll;
+pub(crate) use removing::ToWake;
 use std::alloc::{Allocator, Global};
 
 /// A core, and the callers that sleep: readers under their subscribers' numbers, emitters under the numbers of their
@@ -100,10 +100,10 @@ impl<S: FlowCore, A: Allocator + Copy> Attended<S, A> {
         ensures emitters { self.new.emitters ≡ self.old.emitters }
         ensures watchers { self.new.watchers ≡ self.old.watchers }
     {
-        let nobody = self.readers.is_empty()
+        let is_alone = self.readers.is_empty()
             && self.emitters.is_empty()
             && self.watchers.is_empty();
-        self.asleep = !nobody;
+        self.asleep = !is_alone;
     }
 
     /// Returns a list of no sleepers, to which a call adds those that it removes.

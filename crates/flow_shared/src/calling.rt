@@ -1,5 +1,5 @@
 //! The one path of a call: enter the gate, call the core, leave with the event that names the call.
-ghost use Rattle.std.specs.Prelude.{◌≡◌, ◌≤◌, ◌∷◌, [], IfOk, IfErr, MatchResult, true, false};
+ghost use Rattle.std.specs.Prelude.{◌≡◌, ◌≤◌, ◌∷◌, [], ⊤, IfOk, IfErr, MatchResult, true, false};
 ghost use Rattle.flow_law.specs.Growth.{loses};
 ghost use Rattle.flow_law.specs.History.{MayCall};
 ghost use Rattle.flow_law.specs.Promise.{said};
@@ -16,7 +16,7 @@ use crate::token::FlowSeat;
 use flow_core::{FlowCore, ReaderCalls};
 use flow_gate::{Gate, NamesEvents, Seat};
 use flow_law::{Guarded, Said};
-use flow_sleepers::Waiter;
+use flow_sleepers::{Waiter, Wakers};
 use std::alloc::Allocator;
 use std::snapshot::Snapshot;
 use std::sync::Wait;
@@ -65,6 +65,28 @@ impl Entry for AtOnce {
     }
 }
 
+/// A caller that does not sleep: it leaves no waker, and asks again by itself.
+#[derive(Drop)]
+pub(crate) struct Sleepless;
+
+impl<A: Allocator> Waiter<A> for Sleepless {
+    ghost is_armed = { λ w. ⊤ };
+
+    ghost asks_again = { λ w. ⊤ };
+
+    ghost keeps = { λ old new. ⊤ };
+
+    ghost keeps_same = { λ w. tt };
+
+    fn leave_waker(&mut self, _alloc: A, _wakers: &mut Wakers<A>) {}
+
+    fn ask_again(&mut self) {}
+
+    fn asks_first(&self) -> bool {
+        true
+    }
+}
+
 /// A call that was made, and its answer: the event with which its caller leaves.
 #[derive(Drop)]
 struct Called<'a, S: FlowCore, C: CoreCall<S>> {
@@ -75,9 +97,6 @@ struct Called<'a, S: FlowCore, C: CoreCall<S>> {
 impl<'a, S: FlowCore, C: CoreCall<S>> NamesEvents<Said<S::Call, S::Reply>> for Called<'a, S, C> {
     ghost events = { λ e knows. said (C.call e.call.value (subscription_name knows)) (C.reply e.answer.now) ∷ [] };
 }
-
-/// A seat at the gate of a flow.
-pub(crate) type GateSeat<S, A> = Seat<Attended<S, A>>;
 
 impl<S: ReaderCalls + Drop, A: Allocator + Copy> Flow<S, A> {
     /// Makes a call. If its answer says that the caller has to wait for something, the caller sleeps. If another caller
@@ -109,7 +128,20 @@ impl<S: ReaderCalls + Drop, A: Allocator + Copy> Flow<S, A> {
             waiter.ask_again();
             return Err(call);
         }
-        Ok(self.call_inside(&mut seat.seat, call, waiter))
+        let state = seat.seat.state(&self.gate);
+        if !state.is_alone() {
+            return Ok(self.call_and_wake(&mut seat.seat, call, waiter));
+        }
+        let made = Snapshot::of(&call);
+        let answer = state.call_alone(call, waiter);
+        self.gate.leave(
+            &mut seat.seat,
+            &Called::<S, C> {
+                call: made,
+                answer: &answer,
+            },
+        );
+        Ok(answer)
     }
 
     /// Makes a call as `call_by` does. It waits while another caller is inside.
@@ -136,48 +168,13 @@ impl<S: ReaderCalls + Drop, A: Allocator + Copy> Flow<S, A> {
         }
     }
 
-    /// Makes the call of a caller inside, which then leaves.
-    #[inline(always)]
-    fn call_inside<C: CoreCall<S>, W: Waiter<A>>(
-        &self,
-        seat: &mut GateSeat<S, A>,
-        call: C,
-        waiter: &mut W,
-    ) -> C::Answer
-        requires flow { seat.old.token.table_id ≡ self.now.table_id }
-        requires stood { HoldsFor S.kind (AttendedAs S.sleeping S.stands_as)
-            self.now.first seat.old }
-        requires may { MayCall S.kind (C.call call (subscription_name seat.old.token.knows))
-            seat.old.token.knows.name seat.old.token.knows.seen }
-        ensures said { SaysIn S.kind self.now.first seat.old.token
-            (C.call call (subscription_name seat.old.token.knows)) (C.reply result) seat.new }
-        ensures also { C.also call result }
-        ensures armed { IsSleep (C.then call result) → W.is_armed waiter.new }
-        ensures kept { W.keeps waiter.old waiter.new }
-    {
-        let state = seat.state(&self.gate);
-        if !state.is_alone() {
-            return self.call_and_wake(seat, call, waiter);
-        }
-        let made = Snapshot::of(&call);
-        let answer = state.call_alone(call, waiter);
-        self.gate.leave(
-            seat,
-            &Called::<S, C> {
-                call: made,
-                answer: &answer,
-            },
-        );
-        answer
-    }
-
     /// Makes the call of a caller inside while others sleep, leaves, and wakes those that have something now. This is a
     /// separate function, so that a call while no caller sleeps saves no registers for it.
     #[cold]
     #[inline(never)]
     fn call_and_wake<C: CoreCall<S>, W: Waiter<A>>(
         &self,
-        seat: &mut GateSeat<S, A>,
+        seat: &mut Seat<Attended<S, A>>,
         call: C,
         waiter: &mut W,
     ) -> C::Answer

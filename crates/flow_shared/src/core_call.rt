@@ -1,7 +1,7 @@
 //! One call of a core: its arguments, what it gave, and what that means for callers that sleep.
 ghost use Rattle.std.specs.Prelude.{◌≡◌, ℕ, List};
 ghost use Rattle.flow_law.specs.Standing.{Documents};
-ghost use Rattle.flow_law.specs.declared.touch.Touch.TheVariants.{Nobody};
+ghost use Rattle.flow_law.specs.declared.touch.Touch.TheVariants.{NoSleeper};
 ghost use Rattle.flow_shared.specs.declared.core_call.Then.TheVariants.{Leave};
 ghost use Rattle.flow_shared.specs.CoreCalls.{made, after_next, after_emit, after_polling, MaySleep};
 
@@ -77,9 +77,9 @@ impl<X> Made<X> {
     /// Returns this answer of a call that wakes no sleeper, and whose caller leaves.
     #[inline(always)]
     pub(crate) fn quiet(answer: X) -> Made<X>
-        ensures { result ≡ made answer Nobody Leave }
+        ensures { result ≡ made answer NoSleeper Leave }
     {
-        Made::touching(answer, Touch::Nobody)
+        Made::touching(answer, Touch::NoSleeper)
     }
 
     /// Returns this answer of a call whose caller leaves.
@@ -97,11 +97,11 @@ impl<X> Made<X> {
     /// Returns this answer of a call that wakes no sleeper.
     #[inline(always)]
     pub(crate) fn before(answer: X, then: Then) -> Made<X>
-        ensures { result ≡ made answer Nobody then }
+        ensures { result ≡ made answer NoSleeper then }
     {
         Made {
             answer,
-            touches: Touch::Nobody,
+            touches: Touch::NoSleeper,
             then,
         }
     }

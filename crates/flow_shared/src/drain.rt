@@ -3,7 +3,6 @@ ghost use Rattle.std.specs.Prelude.{◌≡◌, ◌≢◌, ◌+◌, ◌≤◌, Ok
 ghost use Rattle.std.specs.Result.{OnErr};
 ghost use Rattle.std.specs.Vec.{vec_len, vec_capacity};
 ghost use Rattle.flow_law.specs.Draining.{DrainsBy, TakesBy, IsFull};
-ghost use Rattle.flow_law.specs.Growth.{NamesOnlyMade};
 ghost use Rattle.flow_law.specs.HandleFaults.{answer_by, memory_fault};
 ghost use Rattle.flow_law.specs.History.{IsSubscription};
 ghost use Rattle.flow_law.specs.Tokens.{numbered_token};
@@ -11,15 +10,13 @@ ghost use Rattle.flow_law.specs.declared.outcome.Drained.TheVariants.{Gone, Most
 ghost use Rattle.flow_core.specs.SubId.{number_of};
 ghost use Rattle.flow_shared.specs.Attended.{AttendedAs};
 ghost use Rattle.flow_shared.specs.BoundReplies.{drained_by};
-ghost use Rattle.flow_shared.specs.Calls.{HoldsFor, NextsOf};
-ghost use Rattle.flow_shared.specs.Drains.{CoreNexts, TakesInside, said_since};
+ghost use Rattle.flow_shared.specs.Calls.{NextsOf};
+ghost use Rattle.flow_shared.specs.Drains.{CoreNexts, said_since};
 
-use crate::attended::Attended;
-use crate::calling::GateSeat;
+use crate::attended::{Attended, ToWake};
+use crate::calling::Sleepless;
 use crate::flow::Flow;
-use crate::sleepless::Sleepless;
 use crate::subscriber::TakeNext;
-use crate::to_wake::ToWake;
 use crate::token::{FlowSeat, FlowSubscription};
 use flow_core::{FlowCore, SubId, SubscriberCalls};
 use flow_gate::NamesEvents;
@@ -113,44 +110,8 @@ impl<'a, S: FlowCore, B: Allocator> NamesEvents<Said<S::Call, S::Reply>> for Tak
 }
 
 impl<S: SubscriberCalls + Drop, A: Allocator + Copy> Flow<S, A> {
-    /// Takes values of the core of a caller inside, which then leaves with the events that name the calls.
-    fn take_inside<B: Allocator>(
-        &self,
-        seat: &mut GateSeat<S, A>,
-        id: SubId,
-        most: usize,
-        values: &mut Vec<S::Item, B>,
-    ) -> Result<Drained, FlowFault>
-        requires flow { seat.old.token.table_id ≡ self.now.table_id }
-        requires stood { HoldsFor S.kind (AttendedAs S.sleeping S.stands_as)
-            self.now.first seat.old }
-        requires subscribed { IsSubscription S.kind seat.old.token.knows (number_of id) }
-        requires names { NamesOnlyMade seat.old.token.knows.name
-            seat.old.token.knows.made seat.old.token.knows.seen }
-        requires some { most ≢ 0 }
-        requires room { vec_len values.old + most ≤ vec_capacity values.old }
-        ensures takes { TakesInside S.kind (number_of id) (AttendedAs S.sleeping S.stands_as) most
-            seat.old values.old.items result values.new.items seat.new }
-        ensures given { S.Item.IsAlwaysCopied → IsOk result }
-    {
-        let before = Snapshot::of(values);
-        let state = seat.state(&self.gate);
-        let mut woken = state.none_to_wake();
-        let ended = take_values(state, id, most, values, &mut woken);
-        self.gate.leave(
-            seat,
-            &Taken::<S, B> {
-                id,
-                before,
-                values,
-                ended: &ended,
-            },
-        );
-        woken.wake();
-        ended
-    }
-
-    /// Takes values in one entry, so that no other caller comes in between.
+    /// Takes values in one entry, so that no other caller comes in between, and leaves with the events that name the
+    /// calls.
     fn take<R: Wait, B: Allocator>(
         &self,
         rt: &R,
@@ -171,7 +132,21 @@ impl<S: SubscriberCalls + Drop, A: Allocator + Copy> Flow<S, A> {
         ensures given { S.Item.IsAlwaysCopied → IsOk result }
     {
         self.gate.enter(rt, &mut seat.seat);
-        self.take_inside(&mut seat.seat, id, most, values)
+        let before = Snapshot::of(values);
+        let state = seat.seat.state(&self.gate);
+        let mut woken = state.none_to_wake();
+        let ended = take_values(state, id, most, values, &mut woken);
+        self.gate.leave(
+            &mut seat.seat,
+            &Taken::<S, B> {
+                id,
+                before,
+                values,
+                ended: &ended,
+            },
+        );
+        woken.wake();
+        ended
     }
 
     /// Takes values, in one entry for all that the list has room for.

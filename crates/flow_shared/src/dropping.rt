@@ -6,13 +6,11 @@ ghost use Rattle.std.specs.Prelude.{◌≡◌, ◌+◌, IfOk, IfErr};
 ghost use Rattle.flow_shared.specs.Calls.{Unsubscribes, UnsubscribesNow};
 ghost use Rattle.flow_shared.specs.SharedReplies.{Cancels};
 
-use crate::answers::Emission;
-use crate::calling::AtOnce;
+use crate::calling::{AtOnce, Sleepless};
 use crate::flow::Flow;
 use crate::shared::Seat;
-use crate::sleepless::Sleepless;
 use crate::subscriber::Unsubscribe;
-use crate::token::{FlowSeat, FlowSubscription};
+use crate::token::{Emission, FlowSeat, FlowSubscription};
 use flow_core::{ReaderCalls, SharedCore};
 use flow_law::FlowValue;
 use std::alloc::Allocator;

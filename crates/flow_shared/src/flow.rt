@@ -73,6 +73,18 @@ impl<S: FlowCore + Drop, A: Allocator + Copy> Flow<S, A> {
         }
     }
 
+    /// Makes a seat through the seat of a subscription.
+    pub(crate) fn seat_by(&self, subscription: &mut FlowSubscription<S, A>) -> FlowSeat<S, A>
+        requires { subscription.old.token.table_id ≡ self.now.table_id }
+        ensures maker { subscription.new.token
+            ≡ knowing subscription.old.token (makes subscription.old.token.knows) }
+        ensures number { subscription.new.number ≡ subscription.old.number }
+        ensures made { result ≡
+            knowing subscription.old.token (child subscription.old.token.knows) }
+    {
+        self.seat(&mut subscription.seat)
+    }
+
     /// Lets two seats meet: both have then seen the same history, which has all calls so far. It makes no call of
     /// the flow and does not wait.
     ///

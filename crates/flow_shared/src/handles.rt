@@ -7,27 +7,53 @@
 //! does not wait for room. `emit_now` waits for nothing.
 //!
 //! `receive`, `changed` and `send` wait for a value and for room: the thread sleeps until another call wakes it.
+ghost use Rattle.std.specs.Prelude.{◌≡◌, ◌⊎◌};
+ghost use Rattle.flow_law.specs.HandleFaults.{number_fault, emit_now_fault, try_next_fault};
+ghost use Rattle.flow_shared.specs.SharedReplies.{IsEmitFault};
+
 mod bound_emission;
 mod caller;
 mod emitter;
-mod errors;
-mod into_futures;
-mod meet_all;
 mod reader;
-mod reader_laws;
-mod receive;
-mod receive_timeout;
-mod send;
 mod setter;
-mod state_changed;
-mod updates;
 mod values;
-mod wait_for;
+mod waits;
 
 pub use bound_emission::{BoundEmission, EmitAnswer, PollAnswer};
 pub use caller::FlowCaller;
 pub use emitter::Emitter;
+use flow_law::{EmitNowError, FlowFault, NumberError, TryNextError};
 pub use reader::{FlowReader, Reader, StateReader};
 pub use setter::Setter;
-pub use state_changed::StateChangedFuture;
-pub use values::FlowValues;
+pub use values::{FlowValues, StateChangedFuture};
+
+pub(crate) fn number_error(fault: FlowFault) -> NumberError
+    requires { IsEmitFault fault }
+    ensures { number_fault result ≡ fault }
+{
+    match fault {
+        FlowFault::Exhausted => NumberError::Exhausted,
+        _ => NumberError::OutOfMemory,
+    }
+}
+
+pub(crate) fn emit_now_error(fault: FlowFault) -> EmitNowError
+    requires { IsEmitFault fault ⊎ (fault ≡ FlowFault.Busy) }
+    ensures { emit_now_fault result ≡ fault }
+{
+    match fault {
+        FlowFault::Exhausted => EmitNowError::Exhausted,
+        FlowFault::Busy => EmitNowError::Busy,
+        _ => EmitNowError::OutOfMemory,
+    }
+}
+
+pub(crate) fn try_next_error(fault: FlowFault) -> TryNextError
+    requires { (fault ≡ FlowFault.OutOfMemory) ⊎ (fault ≡ FlowFault.Busy) }
+    ensures { try_next_fault result ≡ fault }
+{
+    match fault {
+        FlowFault::Busy => TryNextError::Busy,
+        _ => TryNextError::OutOfMemory,
+    }
+}

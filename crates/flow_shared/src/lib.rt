@@ -29,7 +29,6 @@
 //! queued or offered. Dropping a handle or a future ends the subscription or the emission that it holds.
 #![tactic(auto)]
 
-mod answers;
 mod attended;
 mod calling;
 mod core_call;
@@ -38,29 +37,23 @@ mod dropping;
 mod emit_future;
 mod flow;
 mod handles;
+mod laws;
 mod next_future;
-mod receive_future;
-mod send_future;
 mod shared;
-mod sleepless;
 mod state;
 mod subscriber;
-mod to_wake;
 mod token;
 mod watcher;
 
-pub use answers::{Emission, Emitted, Polled, PolledNow, SendEnd};
 pub use drain::DrainEnd;
-pub use emit_future::{EmitFuture, EmitStage, Sent};
+pub use emit_future::{EmitFuture, EmitStage, SendFuture, Sent};
 pub use flow::Flow;
 pub use handles::{
     BoundEmission, EmitAnswer, Emitter, FlowCaller, FlowReader, FlowValues, PollAnswer, Reader,
     Setter, StateChangedFuture, StateReader,
 };
-pub use next_future::{NextFuture, Received};
-pub use receive_future::ReceiveFuture;
-pub use send_future::SendFuture;
-pub use shared::{Seat, SharedFlow, Subscription};
+pub use next_future::{NextFuture, ReceiveFuture, Received};
+pub use shared::{Seat, SendEnd, SharedFlow, Subscription};
 pub use state::{StateFlow, StateSeat, StateSubscription};
-pub use token::{FlowSeat, FlowSubscription};
+pub use token::{Emission, Emitted, FlowSeat, FlowSubscription, Polled, PolledNow};
 pub use watcher::Watcher;

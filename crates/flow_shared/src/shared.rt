@@ -1,30 +1,30 @@
 //! A shared flow for several threads.
-ghost use Rattle.std.specs.Prelude.{◌≡◌, None, IfErr, MatchResult};
+ghost use Rattle.std.specs.Prelude.{◌≡◌, ◌⊎◌, None, IfErr, MatchResult};
+ghost use Rattle.flow_law.specs.History.{fault_alone};
 ghost use Rattle.flow_law.specs.Tokens.{Begins};
 ghost use Rattle.flow_law.specs.SharedFlow.{NoFlow, config_fault, first_state};
-ghost use Rattle.flow_law.specs.declared.fault.FlowFault.TheVariants.{OutOfMemory};
+ghost use Rattle.flow_law.specs.SharedHistory.{shared_flow};
+ghost use Rattle.flow_law.specs.declared.fault.FlowFault.TheVariants.{OutOfMemory, Exhausted};
 ghost use Rattle.flow_law.specs.declared.call.SharedCall.TheVariants as call;
 ghost use Rattle.flow_law.specs.declared.call.SharedReply.TheVariants as reply;
 ghost use Rattle.flow_core.specs.SharedCore.{cache_reply};
+ghost use Rattle.flow_shared.specs.Calls.{Subscribes};
 ghost use Rattle.flow_shared.specs.SharedReplies.{SharedCalls, ResetsNow};
 
-use crate::calling::AtOnce;
+use crate::calling::{AtOnce, Sleepless};
 use crate::flow::Flow;
-use crate::sleepless::Sleepless;
 use crate::token::{FlowSeat, FlowSubscription};
 use flow_core::SharedCore;
-use flow_law::{Config, FlowFault, FlowValue};
+use flow_law::{Config, FlowFault, FlowValue, Refused};
 use std::alloc::{Allocator, Global};
 use std::sync::Wait;
 
-mod emit_and_wait;
-mod emit_in_time;
 mod emitting;
+mod sending;
 mod shared_calls;
-mod shared_seen;
-mod subscribe;
 
-use shared_calls::{ReplayCache, ResetReplayCache};
+pub use sending::SendEnd;
+use shared_calls::{ReplayCache, ResetReplayCache, SubscribeWith};
 
 /// A shared flow (`MutableSharedFlow`) for callers on several threads. Each subscriber receives what is emitted, and a
 /// new one receives the replay cache first.
@@ -48,6 +48,27 @@ impl<T: FlowValue, A: Allocator + Copy> Flow<SharedCore<T, A>, A> {
     {
         let core = SharedCore::new(alloc, config)?;
         Flow::begin(alloc, core)
+    }
+
+    /// Adds a subscriber, as `subscribe` does. It gets these values before any value of the flow (`onSubscription`).
+    ///
+    /// They take no number, are in no replay cache, are never dropped, and block no emitter. An error returns them.
+    pub fn subscribe_with<R: Wait>(
+        &self,
+        rt: &R,
+        seat: &mut Seat<T, A>,
+        first: Vec<T, A>,
+    ) -> Result<Subscription<T, A>, Refused<Vec<T, A>>>
+        requires { seat.old.table_id ≡ self.now.table_id }
+        ensures subscribed { Subscribes shared_flow self.now
+            (λ name. call.Subscribe name first.items) seat.old (fault_alone result) seat.new }
+        ensures handed_back { IfErr result (λ refused. refused.value ≡ first) }
+        ensures refused { IfErr result (λ refused.
+            (refused.fault ≡ OutOfMemory) ⊎ (refused.fault ≡ Exhausted)) }
+    {
+        let id = self.call(rt, seat, SubscribeWith { first }, &mut Sleepless)?;
+        let made = self.seat(seat);
+        Ok(FlowSubscription { seat: made, id })
     }
 
     /// Returns the replay cache: copies of at most `replay` values. A new subscriber receives them first, unless a

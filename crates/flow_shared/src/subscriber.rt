@@ -7,10 +7,9 @@ ghost use Rattle.flow_core.specs.SubId.{number_of};
 ghost use Rattle.flow_shared.specs.Calls.{Nexts, NextsBy, NextsNow, Unsubscribes, Counts, CountsNow, Subscribes};
 ghost use Rattle.flow_shared.specs.CoreCalls.{IsWait, after_next};
 
-use crate::calling::{AtOnce, Entry, Waiting};
+use crate::calling::{AtOnce, Entry, Sleepless, Waiting};
 use crate::core_call::{CoreCall, Made, Then};
 use crate::flow::Flow;
-use crate::sleepless::Sleepless;
 use crate::token::{FlowSeat, FlowSubscription};
 use crate::watcher::Count;
 use flow_core::{FlowCore, ReaderCalls, SubId, SubscriberCalls};

@@ -4,13 +4,11 @@ ghost use Rattle.flow_shared.specs.Calls.{Counts, CountsNow};
 ghost use Rattle.flow_shared.specs.CoreCalls.{after_counting};
 ghost use Rattle.flow_shared.specs.SharedReplies.{PollsNow};
 
-use crate::answers::{Emission, PolledNow};
-use crate::calling::AtOnce;
+use crate::calling::{AtOnce, Sleepless};
 use crate::core_call::{CoreCall, Made, Then, Watching};
 use crate::flow::Flow;
 use crate::handles::FlowCaller;
-use crate::sleepless::Sleepless;
-use crate::token::FlowSeat;
+use crate::token::{Emission, FlowSeat, PolledNow};
 use flow_core::{FlowCore, ReaderCalls, SharedCore};
 use flow_law::{FlowFault, FlowValue};
 use flow_sleepers::ThreadWaiter;

@@ -1,4 +1,4 @@
-//! Removing the sleepers that have something after a call.
+//! Removing the sleepers that have something after a call, and waking them.
 ghost use Rattle.std.specs.Prelude.{◌≡◌, ◌⊎◌, ℕ, []};
 ghost use Rattle.std.specs.Bool.{OnTrue};
 ghost use Rattle.flow_shared.specs.declared.core_call.Then.TheVariants.{Watch};
@@ -7,10 +7,40 @@ ghost use Rattle.flow_shared.specs.Attended.{Attends, Rests, Lasts, Watches, wit
 
 use super::Attended;
 use crate::core_call::{Then, Watching};
-use crate::to_wake::ToWake;
 use flow_core::{ReaderCalls, Signs};
 use flow_law::Touch;
-use std::alloc::Allocator;
+use flow_sleepers::Woken;
+use std::alloc::{Allocator, Global};
+
+/// The sleepers that a call removed. They are woken after it has left the gate. It has no `Drop`: it ends by `wake`.
+pub(crate) struct ToWake<A: Allocator = Global> {
+    pub(crate) readers: Woken<A>,
+    pub(crate) emitters: Woken<A>,
+    pub(crate) watchers: Woken<A>,
+}
+
+impl<A: Allocator + Copy> ToWake<A> {
+    /// Returns a list of no sleepers. Does not allocate.
+    pub(crate) fn new(alloc: A) -> Self {
+        ToWake {
+            readers: Woken::new(alloc),
+            emitters: Woken::new(alloc),
+            watchers: Woken::new(alloc),
+        }
+    }
+
+    /// Wakes the sleepers.
+    pub(crate) fn wake(self) {
+        let Self {
+            readers,
+            emitters,
+            watchers,
+        } = self;
+        readers.wake();
+        emitters.wake();
+        watchers.wake();
+    }
+}
 
 fn is_same(one: Option<u64>, other: Option<u64>) -> bool
     ensures { OnTrue result (one ≡ other) }
@@ -54,7 +84,7 @@ impl<S: ReaderCalls, A: Allocator + Copy> Attended<S, A> {
         ensures emitters { self.new.emitters ≡ without_emitter touches self.old.emitters }
     {
         match touches {
-            Touch::Nobody => {}
+            Touch::NoSleeper => {}
             Touch::Subscriber(number) => self.readers.wake(number),
             Touch::Subscribers => self.remove_readers(woken),
             Touch::Emission(number) => self.emitters.wake(number),

@@ -8,10 +8,10 @@ ghost use Rattle.flow_shared.specs.BoundReplies.{own_polled, polled_flow, polled
 
 use super::caller::FlowCaller;
 use super::emitter::Emitter;
-use crate::answers::{Emission, Polled, PolledNow};
 use crate::dropping::TRIES;
 use crate::flow::Flow;
 use crate::shared::SharedFlow;
+use crate::token::{Emission, Polled, PolledNow};
 use flow_core::SharedCore;
 use flow_law::{FlowValue, Rejected};
 use std::alloc::{Allocator, Global};

@@ -1,32 +1,31 @@
 //! Emitting into a shared flow through a handle.
-ghost use Rattle.std.specs.Prelude.{◌≡◌, ℕ, IfErr};
+ghost use Rattle.std.specs.Prelude.{◌≡◌, IfErr};
 ghost use Rattle.flow_law.specs.HandleFaults.{answer_by, handed_by, busy_fault, emit_now_fault, limit_fault, memory_fault, number_fault};
 ghost use Rattle.flow_law.specs.Handles.{called_by, SubscribesBound};
-ghost use Rattle.flow_law.specs.History.{IsHistory, fault_alone};
-ghost use Rattle.flow_law.specs.Lagging.{EachLags};
-ghost use Rattle.flow_law.specs.Laws.{Delivers, NoIdleQueue};
-ghost use Rattle.flow_law.specs.Replaying.{EachReplays};
-ghost use Rattle.flow_law.specs.SharedHistory.{shared_flow, state_after};
-ghost use Rattle.flow_law.specs.Waiting.{EachWaits};
+ghost use Rattle.flow_law.specs.History.{fault_alone};
+ghost use Rattle.flow_law.specs.SharedHistory.{shared_flow};
 ghost use Rattle.flow_law.specs.declared.call.SharedCall.TheVariants as call;
 ghost use Rattle.flow_law.specs.declared.call.SharedReply.TheVariants as reply;
 ghost use Rattle.flow_core.specs.SharedCore.{try_emit_reply, cache_reply};
 ghost use Rattle.flow_shared.specs.SharedReplies.{SharedCalls, Emits, EmitsNow, ResetsNow};
 ghost use Rattle.flow_shared.specs.BoundReplies.{emitted_by, emitted_flow};
+ghost use Rattle.flow_shared.specs.Sending.{Sends, SendsInTime};
 
 use super::bound_emission::{BoundEmission, EmitAnswer};
 use super::caller::FlowCaller;
-use super::errors::{emit_now_error, number_error};
 use super::reader::{FlowReader, Reader};
-use crate::answers::Emitted;
+use super::{emit_now_error, number_error};
 use crate::flow::Flow;
-use crate::shared::Seat;
+use crate::shared::{Seat, SendEnd};
+use crate::token::Emitted;
 use flow_core::SharedCore;
 use flow_law::{
     Busy, EmitNowError, Exhausted, FlowValue, NumberError, OutOfMemory, Refused, Rejected,
 };
+use flow_sleepers::Limit;
 use std::alloc::{Allocator, Global};
 use std::sync::Wait;
+use std::time::{Clock, Duration};
 
 /// A caller of a shared flow.
 pub type Emitter<'a, T, A = Global> = FlowCaller<'a, SharedCore<T, A>, A>;
@@ -111,6 +110,61 @@ impl<'a, T: FlowValue, A: Allocator + Copy> FlowCaller<'a, SharedCore<T, A>, A> 
         }
     }
 
+    /// Emits a value, and waits until the emission is done. The thread asks several times, and yields in between; then
+    /// it sleeps, and the call that ends the emission wakes it. If there is no memory for its waker, it asks again.
+    ///
+    /// # Errors
+    /// `Exhausted` if the flow has issued as many numbers as its limit allows, `OutOfMemory` if the value would have to
+    /// wait and there is no memory for it. Nothing was emitted, and the error has the value.
+    ///
+    /// # Source
+    /// `MutableSharedFlow.emit`, which suspends.
+    pub fn send<R: Wait>(&mut self, rt: &R, value: T) -> Result<(), Rejected<T, NumberError>>
+        ensures flow { self.new.flow ≡ self.old.flow }
+        ensures sent { Sends self.old.flow value self.old.token
+            (handed_by number_fault result) self.new.token }
+        ensures handed_back { IfErr result (λ rejected. rejected.value ≡ value) }
+    {
+        match self.flow.send(rt, &mut self.seat, value) {
+            Ok(()) => Ok(()),
+            Err(Refused { value, fault }) => Err(Rejected {
+                value,
+                error: number_error(fault),
+            }),
+        }
+    }
+
+    /// Emits a value as `send` does, and cancels the emission if it is not done within `limit`. If the clock cannot be
+    /// read, an emission that has to wait is cancelled.
+    ///
+    /// A cancelled value is lost for the subscribers that have not received it.
+    ///
+    /// # Errors
+    /// As `send`. Nothing was emitted, and the error has the value.
+    ///
+    /// # Source
+    /// `withTimeoutOrNull` around `MutableSharedFlow.emit`.
+    pub fn send_timeout<R: Wait + Clock>(
+        &mut self,
+        rt: &R,
+        value: T,
+        limit: Duration,
+    ) -> Result<SendEnd, Rejected<T, NumberError>>
+        ensures flow { self.new.flow ≡ self.old.flow }
+        ensures sent { SendsInTime self.old.flow value self.old.token
+            (handed_by number_fault result) self.new.token }
+        ensures handed_back { IfErr result (λ rejected. rejected.value ≡ value) }
+    {
+        let limit = Limit::new(rt, limit);
+        match self.flow.send_within(rt, &mut self.seat, value, &limit) {
+            Ok(end) => Ok(end),
+            Err(Refused { value, fault }) => Err(Rejected {
+                value,
+                error: number_error(fault),
+            }),
+        }
+    }
+
     /// Subscribes. The reader gets these values before any value of the flow (`onSubscription`). An error returns them.
     pub fn subscribe_with<R: Wait>(
         &mut self,
@@ -141,10 +195,8 @@ impl<'a, T: FlowValue, A: Allocator + Copy> FlowCaller<'a, SharedCore<T, A>, A> 
         ensures called { SharedCalls self.old.flow self.old.token call.ReplayCache
             (cache_reply (answer_by memory_fault result)) self.new.token }
     {
-        match self.flow.replay_cache(rt, &mut self.seat) {
-            Ok(values) => Ok(values),
-            Err(_fault) => Err(OutOfMemory),
-        }
+        let values = self.flow.replay_cache(rt, &mut self.seat);
+        values.map_err(|_fault| OutOfMemory)
     }
 
     /// Empties the replay cache. Present subscribers still receive the values that they have not received.
@@ -162,25 +214,7 @@ impl<'a, T: FlowValue, A: Allocator + Copy> FlowCaller<'a, SharedCore<T, A>, A> 
         ensures called { ResetsNow self.old.flow self.old.token
             (answer_by busy_fault result) self.new.token }
     {
-        match self.flow.reset_now(&mut self.seat) {
-            Ok(()) => Ok(()),
-            Err(_busy) => Err(Busy),
-        }
-    }
-
-    /// Proves the laws of shared flows for what the caller has seen. It makes no call of the flow, changes nothing and
-    /// does not wait.
-    pub fn seen(&mut self)
-        ensures unchanged { self.new ≡ self.old }
-        ensures history { IsHistory shared_flow self.new.flow.first self.new.token.knows.seen }
-        ensures delivered { (u : ℕ) →
-            Delivers u self.new.flow.first.config self.new.token.knows.seen }
-        ensures no_idle_queue { NoIdleQueue
-            (state_after self.new.flow.first.config self.new.token.knows.seen) }
-        ensures admitted { EachWaits self.new.flow.first.config self.new.token.knows.seen }
-        ensures lagged { EachLags self.new.flow.first.config self.new.token.knows.seen }
-        ensures replayed { EachReplays self.new.flow.first.config self.new.token.knows.seen }
-    {
-        self.flow.seen(&mut self.seat);
+        let reset = self.flow.reset_now(&mut self.seat);
+        reset.map_err(|_busy| Busy)
     }
 }

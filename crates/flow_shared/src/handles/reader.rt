@@ -11,13 +11,13 @@ ghost use Rattle.flow_shared.specs.Calls.{NextsOf, NextsNow, Unsubscribes, Unsub
 ghost use Rattle.flow_shared.specs.BoundReplies.{drained_by, left_by, left_flow};
 
 use super::caller::FlowCaller;
-use super::errors::try_next_error;
+use super::try_next_error;
+use crate::calling::Sleepless;
 use crate::drain::DrainEnd;
 use crate::dropping::TRIES;
 use crate::flow::Flow;
-use crate::sleepless::Sleepless;
 use crate::token::FlowSubscription;
-use flow_core::{FlowCore, ReaderCalls, SharedCore, StateCore, SubscriberCalls};
+use flow_core::{ReaderCalls, SharedCore, StateCore, SubscriberCalls};
 use flow_law::{Next, OutOfMemory, TryNextError};
 use std::alloc::{Allocator, Global};
 use std::marker::Model;
@@ -179,19 +179,5 @@ impl<'a, S: SubscriberCalls + Drop, A: Allocator + Copy> FlowReader<'a, S, A> {
         ensures full { S.Item.IsAlwaysCopied → OnErr result (IsFull values.new) }
     {
         self.flow.drain(rt, &mut self.subscription, most, values)
-    }
-}
-
-impl<S: FlowCore + Drop, A: Allocator + Copy> Flow<S, A> {
-    /// Makes a seat through the seat of a subscription.
-    fn seat_by(&self, subscription: &mut FlowSubscription<S, A>) -> crate::token::FlowSeat<S, A>
-        requires { subscription.old.token.table_id ≡ self.now.table_id }
-        ensures maker { subscription.new.token
-            ≡ knowing subscription.old.token (makes subscription.old.token.knows) }
-        ensures number { subscription.new.number ≡ subscription.old.number }
-        ensures made { result ≡
-            knowing subscription.old.token (child subscription.old.token.knows) }
-    {
-        self.seat(&mut subscription.seat)
     }
 }

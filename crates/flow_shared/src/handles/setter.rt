@@ -1,10 +1,11 @@
 //! Reading and setting the value of a state flow through a handle.
-ghost use Rattle.std.specs.Prelude.{◌≡◌, ℕ, IsErr, IsOk};
-ghost use Rattle.flow_law.specs.Conflation.{Conflates};
-ghost use Rattle.flow_law.specs.Current.{Converges};
+ghost use Rattle.std.specs.Prelude.{◌≡◌, Ok, IfOk, IfErr, IsErr, IsOk, MatchResult};
+ghost use Rattle.std.specs.Fn.{FnReturnsAt};
 ghost use Rattle.flow_law.specs.HandleFaults.{answer_by, handed_by, busy_fault, memory_fault, unsupported_fault};
 ghost use Rattle.flow_law.specs.Handles.{called_by};
-ghost use Rattle.flow_law.specs.StateFlow.{IsStateHistory};
+ghost use Rattle.flow_law.specs.Promise.{CallsIn};
+ghost use Rattle.flow_law.specs.StateFlow.{state_flow};
+ghost use Rattle.flow_law.specs.Updates.{Accepts, ReadsInVain, Refuses, RefusesOrKeepsNone, StopsAt, Updates};
 ghost use Rattle.flow_law.specs.declared.call.StateCall.TheVariants as call;
 ghost use Rattle.flow_law.specs.declared.call.StateReply.TheVariants as reply;
 ghost use Rattle.flow_core.specs.StateCore.{value_reply, state_cache_reply, reset_reply};
@@ -17,6 +18,7 @@ use flow_core::StateCore;
 use flow_law::{Busy, FlowValue, OutOfMemory, Refused, Rejected, Unsupported};
 use std::alloc::{Allocator, Global};
 use std::sync::Wait;
+use std::thread;
 
 /// A caller of a state flow.
 pub type Setter<'a, T, A = Global> = FlowCaller<'a, StateCore<T, A>, A>;
@@ -45,10 +47,8 @@ impl<'a, T: FlowValue, A: Allocator + Copy> FlowCaller<'a, StateCore<T, A>, A> {
             (value_reply (answer_by memory_fault result)) self.new.token }
         ensures given { T.IsAlwaysCopied → IsOk result }
     {
-        match self.flow.value(rt, &mut self.seat) {
-            Ok(value) => Ok(value),
-            Err(_fault) => Err(OutOfMemory),
-        }
+        let value = self.flow.value(rt, &mut self.seat);
+        value.map_err(|_fault| OutOfMemory)
     }
 
     /// Sets the current value. Setting a value that is equal to the current one does nothing: no subscriber gets it
@@ -97,16 +97,124 @@ impl<'a, T: FlowValue, A: Allocator + Copy> FlowCaller<'a, StateCore<T, A>, A> {
             .compare_and_set(rt, &mut self.seat, expect, update)
     }
 
+    /// Reads the value, and returns it with the function's result for it.
+    fn answered<R: Wait, F: Fn(&T) -> Result<T, OutOfMemory>>(
+        &mut self,
+        rt: &R,
+        f: &F,
+    ) -> Result<(T, T), OutOfMemory>
+        requires callable { F.IsAlwaysCallable f.now }
+        ensures flow { self.new.flow ≡ self.old.flow }
+        ensures read { IfOk result (λ round.
+            CallsIn state_flow self.old.flow.first self.old.token call.GetValue
+            (reply.Got round.0) self.new.token × FnReturnsAt F.Fn f.now round.0 (Ok round.1)) }
+        ensures stopped { IfErr result (λ none. ReadsInVain self.old.flow.first
+            (Refuses (FnReturnsAt F.Fn f.now)) self.old.token self.new.token) }
+    {
+        let Ok(old) = self.value(rt) else {
+            return Err(OutOfMemory);
+        };
+        match f(&old) {
+            Ok(new) => Ok((old, new)),
+            Err(refused) => Err(refused),
+        }
+    }
+
+    /// Updates the value by a function of it, and returns the previous value.
+    ///
+    /// The function may be called several times: if another caller sets the value in between, the update reads again.
+    /// No other caller waits while the function runs.
+    ///
+    /// # Errors
+    /// `OutOfMemory` if the value could not be copied or the function refuses. Then the update has set nothing.
+    pub fn get_and_update<R: Wait, F: Fn(&T) -> Result<T, OutOfMemory>>(
+        &mut self,
+        rt: &R,
+        f: F,
+    ) -> Result<T, OutOfMemory>
+        requires callable { F.IsAlwaysCallable f }
+        ensures flow { self.new.flow ≡ self.old.flow }
+        ensures updates { MatchResult result
+            (λ read. (set : _) × Updates self.old.flow.first (Accepts (FnReturnsAt F.Fn f))
+            self.old.token read set self.new.token)
+            (λ none. StopsAt self.old.flow.first
+            (Accepts (FnReturnsAt F.Fn f)) (Refuses (FnReturnsAt F.Fn f))
+            self.old.token self.new.token) }
+    {
+        for _ in rt.forever() {
+            let (old, new) = match self.answered(rt, &f) {
+                Ok(round) => round,
+                Err(refused) => return Err(refused),
+            };
+            if self.compare_and_set(rt, &old, new) {
+                return Ok(old);
+            }
+            thread::yield_now();
+        }
+        unreachable!()
+    }
+
+    /// Updates the value by a function of it, as `get_and_update` does.
+    pub fn update<R: Wait, F: Fn(&T) -> Result<T, OutOfMemory>>(
+        &mut self,
+        rt: &R,
+        f: F,
+    ) -> Result<(), OutOfMemory>
+        requires callable { F.IsAlwaysCallable f }
+        ensures flow { self.new.flow ≡ self.old.flow }
+        ensures updates { MatchResult result
+            (λ none. (read : _) × (set : _) ×
+            Updates self.old.flow.first (Accepts (FnReturnsAt F.Fn f))
+            self.old.token read set self.new.token)
+            (λ none. StopsAt self.old.flow.first
+            (Accepts (FnReturnsAt F.Fn f)) (Refuses (FnReturnsAt F.Fn f))
+            self.old.token self.new.token) }
+    {
+        match self.get_and_update(rt, f) {
+            Ok(_old) => Ok(()),
+            Err(refused) => Err(refused),
+        }
+    }
+
+    /// Updates the value by a function of it, as `get_and_update` does, and returns the new value: a copy that is made
+    /// before the value is set.
+    pub fn update_and_get<R: Wait, F: Fn(&T) -> Result<T, OutOfMemory>>(
+        &mut self,
+        rt: &R,
+        f: F,
+    ) -> Result<T, OutOfMemory>
+        requires callable { F.IsAlwaysCallable f }
+        ensures flow { self.new.flow ≡ self.old.flow }
+        ensures updates { MatchResult result
+            (λ set. (read : _) × Updates self.old.flow.first (Accepts (FnReturnsAt F.Fn f))
+            self.old.token read set self.new.token)
+            (λ none. StopsAt self.old.flow.first (Accepts (FnReturnsAt F.Fn f))
+            (RefusesOrKeepsNone (FnReturnsAt F.Fn f)) self.old.token self.new.token) }
+    {
+        for _ in rt.forever() {
+            let (old, new) = match self.answered(rt, &f) {
+                Ok(round) => round,
+                Err(refused) => return Err(refused),
+            };
+            let Ok(kept) = new.try_copy() else {
+                return Err(OutOfMemory);
+            };
+            if self.compare_and_set(rt, &old, new) {
+                return Ok(kept);
+            }
+            thread::yield_now();
+        }
+        unreachable!()
+    }
+
     /// Returns a snapshot of the replay cache, which for a state flow is a list with a copy of its current value.
     pub fn replay_cache<R: Wait>(&mut self, rt: &R) -> Result<Vec<T, A>, OutOfMemory>
         ensures flow { self.new.flow ≡ self.old.flow }
         ensures called { StateCalls self.old.flow self.old.token call.ReplayCache
             (state_cache_reply (answer_by memory_fault result)) self.new.token }
     {
-        match self.flow.replay_cache(rt, &mut self.seat) {
-            Ok(values) => Ok(values),
-            Err(_fault) => Err(OutOfMemory),
-        }
+        let values = self.flow.replay_cache(rt, &mut self.seat);
+        values.map_err(|_fault| OutOfMemory)
     }
 
     /// Returns `Unsupported`: a state flow always has a value, so its replay cache cannot be reset.
@@ -116,20 +224,7 @@ impl<'a, T: FlowValue, A: Allocator + Copy> FlowCaller<'a, StateCore<T, A>, A> {
             (reset_reply (answer_by unsupported_fault result)) self.new.token }
         ensures refused { IsErr result }
     {
-        match self.flow.reset_replay_cache(rt, &mut self.seat) {
-            Ok(()) => Ok(()),
-            Err(_fault) => Err(Unsupported),
-        }
-    }
-
-    /// Proves the laws of state flows for what the caller has seen. It makes no call of the flow, changes nothing and
-    /// does not wait.
-    pub fn seen(&mut self)
-        ensures unchanged { self.new ≡ self.old }
-        ensures history { IsStateHistory self.new.flow.first self.new.token.knows.seen }
-        ensures conflated { Conflates self.new.flow.first.value self.new.token.knows.seen }
-        ensures current { (u : ℕ) → Converges u self.new.flow.first self.new.token.knows.seen }
-    {
-        self.flow.seen(&mut self.seat);
+        let reset = self.flow.reset_replay_cache(rt, &mut self.seat);
+        reset.map_err(|_fault| Unsupported)
     }
 }

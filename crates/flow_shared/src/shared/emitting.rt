@@ -8,10 +8,9 @@ ghost use Rattle.flow_shared.specs.SharedReplies.{SharedCalls, Emits, EmitsNow, 
 
 use super::Seat;
 use super::shared_calls::{Cancel, Emit as EmitCall, Poll, TryEmit};
-use crate::answers::{Emission, Emitted, Polled, PolledNow};
-use crate::calling::{AtOnce, Entry, Waiting};
+use crate::calling::{AtOnce, Entry, Sleepless, Waiting};
 use crate::flow::Flow;
-use crate::sleepless::Sleepless;
+use crate::token::{Emission, Emitted, Polled, PolledNow};
 use flow_core::SharedCore;
 use flow_law::{Emit, FlowFault, FlowValue, Refused};
 use flow_sleepers::Waiter;

@@ -1,12 +1,13 @@
 //! The calls that only shared flows have.
 ghost use Rattle.std.specs.Prelude.{◌≡◌, IfErr};
+ghost use Rattle.flow_law.specs.History.{fault_alone};
 ghost use Rattle.flow_law.specs.declared.call.SharedCall.TheVariants as call;
 ghost use Rattle.flow_law.specs.declared.call.SharedReply.TheVariants as reply;
 ghost use Rattle.flow_shared.specs.CoreCalls.{after_emit, after_polling};
-ghost use Rattle.flow_core.specs.SharedCore.{try_emit_reply, emit_reply, cache_reply};
+ghost use Rattle.flow_core.specs.SharedCore.{try_emit_reply, emit_reply, cache_reply, subscribe_reply};
 
 use crate::core_call::{CoreCall, Made, Then};
-use flow_core::SharedCore;
+use flow_core::{SharedCore, SubId};
 use flow_law::{Emit as Emission, FlowFault, FlowValue, Refused, Touch};
 use std::alloc::Allocator;
 
@@ -125,5 +126,26 @@ impl<T: FlowValue, A: Allocator + Copy> CoreCall<SharedCore<T, A>> for ReplayCac
     #[inline(always)]
     fn run(self, core: &mut SharedCore<T, A>) -> Made<Result<Vec<T, A>, FlowFault>> {
         Made::quiet(core.replay_cache())
+    }
+}
+
+#[derive(Drop)]
+pub(super) struct SubscribeWith<T: FlowValue, A: Allocator> {
+    pub(super) first: Vec<T, A>,
+}
+
+impl<T: FlowValue, A: Allocator + Copy> CoreCall<SharedCore<T, A>> for SubscribeWith<T, A> {
+    type Answer = Result<SubId, Refused<Vec<T, A>>>;
+
+    ghost call = { λ c name. call.Subscribe name c.first.items };
+
+    ghost reply = { λ answer. subscribe_reply (fault_alone answer) };
+
+    ghost also = { λ c answer. IfErr answer (λ refused. refused.value ≡ c.first) };
+
+    #[inline(always)]
+    fn run(self, core: &mut SharedCore<T, A>) -> Made<Result<SubId, Refused<Vec<T, A>>>> {
+        let SubscribeWith { first } = self;
+        Made::quiet(core.subscribe_with(first))
     }
 }

@@ -68,7 +68,7 @@ impl<'a, T: FlowValue, A: Allocator + Copy> CoreCall<StateCore<T, A>> for Compar
         let touches = if was_set {
             Touch::Subscribers
         } else {
-            Touch::Nobody
+            Touch::NoSleeper
         };
         Made::touching(was_set, touches)
     }

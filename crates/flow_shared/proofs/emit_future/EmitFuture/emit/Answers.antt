@@ -1,6 +1,6 @@
 use Rattle.std.proofs.Common.{sym, subst}
 use Rattle.futures.specs.declared.task.Poll.TheVariants.{Ready, Pending}
-use Rattle.flow_shared.specs.declared.answers.Emitted.TheVariants as emitted
+use Rattle.flow_shared.specs.declared.token.Emitted.TheVariants as emitted
 use Rattle.flow_shared.specs.declared.emit_future.EmitStage.TheVariants.{Fresh, Waiting, Ended}
 use Rattle.flow_shared.specs.declared.emit_future.Sent.TheVariants as sent
 use Rattle.flow_shared.specs.EmitFutures.{EmitPolls}

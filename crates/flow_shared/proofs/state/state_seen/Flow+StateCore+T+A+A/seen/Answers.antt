@@ -1,8 +1,0 @@
-use Rattle.flow_law.proofs.SeenLemmas.{history_conflates, history_converges}
-use Rattle.flow_shared.proofs.state.state_seen.Flow+StateCore+T+A+A.seen.Goals as goal
-
-pub returns-clause-conflated : goal.returns-clause-conflated
-returns-clause-conflated g c = history_conflates _ _ c.look.ensures.history
-
-pub returns-clause-current : goal.returns-clause-current
-returns-clause-current g c = history_converges _ _ c.look.ensures.history
