@@ -11,3 +11,4 @@ pub mod SubscribeSteps
 pub mod Finding
 pub mod Told
 pub mod Drains
+pub mod LastState

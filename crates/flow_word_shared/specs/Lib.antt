@@ -3,3 +3,4 @@ pub mod Rule
 pub mod Steps
 pub mod Tokens
 pub mod Answers
+pub mod Closing

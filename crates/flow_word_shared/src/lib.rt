@@ -26,6 +26,7 @@
 #![tactic(auto)]
 
 mod cache;
+mod closing;
 mod drain;
 mod emitting;
 mod fault;
@@ -39,6 +40,7 @@ mod subscribing;
 mod token;
 mod view;
 
+pub use closing::ClosedWordFlow;
 pub use fault::WordFlowFault;
 pub use rule::WordFlowRule;
 pub use token::{WordFlow, WordFlowSeat, WordFlowSubscription};

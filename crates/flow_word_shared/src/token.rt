@@ -44,7 +44,7 @@ impl<T: Packed> Model for WordFlow<T> {
         × (w.table.shared.key.room ≡ w.room) × (capacity_of w.table.shared.key ≡ w.capacity)
         × (w.table.shared.key.config.replay ≡ w.replay) × (w.table.shared.key.config.limit ≡ w.limit)
         × (4 + w.room < 2 ^ 63) × (w.capacity < w.room)
-        × IsPowerOfTwo w.room × (w.mask + 1 ≡ w.room) };
+        × IsPowerOfTwo w.room × (w.mask + 1 ≡ w.room) × (w.table.shared.table_id.slots ≡ 0) };
 }
 
 /// A seat at a word flow, by which a caller calls the flow. Contracts see the history that it has seen.
@@ -72,6 +72,17 @@ impl<T> Model for WordFlowSeat<T> {
     ghost view = { λ s. ring_token s.seat };
 
     ghost invariant = { λ s. IsHolding None s.seat × (s.expected % 2 ≡ 0) };
+}
+
+impl<T> WordFlowSeat<T> {
+    /// Returns the seat at the table.
+    pub(crate) fn into_inner(self) -> Seat<(), Sequence<RingKnown<T>>>
+        ensures token { ring_token result ≡ self }
+        ensures idle { IsHolding None result }
+    {
+        let WordFlowSeat { seat, expected: _ } = self;
+        seat
+    }
 }
 
 /// A subscription to a word flow: a seat of its own, its number, the position of the value that it reads next, and a
