@@ -1,10 +1,11 @@
 //! Taking all values that a subscriber can receive now.
-ghost use Rattle.std.specs.Prelude.{◌≡◌, ◌≢◌, ◌+◌, ◌-◌, ◌<◌, ◌≤◌, ◌^◌, ◌++◌, max, [], map, length, IfSome, None, Some, Ok};
+ghost use Rattle.std.specs.Prelude.{◌≡◌, ◌≢◌, ◌+◌, ◌-◌, ◌<◌, ◌≤◌, ◌^◌, ◌++◌, max, [], map, length, IfSome, IfErr, None, Some, Ok};
 ghost use Rattle.std.specs.List.{AllByRecursion};
 ghost use Rattle.std.specs.Result.{OnErr};
 ghost use Rattle.std.specs.Vec.{vec_len, vec_capacity};
 ghost use Rattle.flow_law.specs.Draining.{DrainsBy, IsFull};
 ghost use Rattle.flow_law.specs.Tokens.{numbered_token};
+ghost use Rattle.flow_law.specs.declared.fault.FlowFault.TheVariants.{OutOfMemory};
 ghost use Rattle.flow_law.specs.declared.outcome.Drained.TheVariants.{Gone};
 ghost use Rattle.flow_law.specs.declared.outcome.Next.TheVariants.{Empty};
 ghost use Rattle.flow_word_shared.specs.Answers.{IsOverrun, WordFlowNexts, NextsTaken};
@@ -16,7 +17,7 @@ use crate::reading::AHEAD;
 use crate::token::{WordFlow, WordFlowSubscription};
 use crate::view::RingKnown;
 use atomic_table::Seat;
-use flow_law::{Drained, FlowFault, Packed, Sequence};
+use flow_law::{Drained, FlowFault, Next, Packed, Sequence};
 use std::alloc::Allocator;
 use std::sync::Wait;
 
@@ -118,7 +119,45 @@ impl<T: Packed> WordFlow<T> {
         Some(taken)
     }
 
-    /// Takes values, at most `most`. Returns how many it took: none if there is nothing to receive.
+    /// Tries once to take values, as `try_take` does. If `ahead` is more than `most`, it reads that many cells, up to 64, and takes
+    /// one value.
+    fn try_some<B: Allocator>(
+        &self,
+        subscription: &mut WordFlowSubscription<T>,
+        most: usize,
+        ahead: usize,
+        values: &mut Vec<T, B>,
+    ) -> Option<usize>
+        requires flow { subscription.old.token.table_id ≡ self.now.table_id }
+        requires some { 0 < most }
+        requires room { vec_len values.old + most ≤ vec_capacity values.old }
+        ensures taken { IfSome result (λ count. (count ≤ most) × (count ≢ 0 →
+            NextsTaken (WordFlowNexts self.now.first) count subscription.old
+            values.old.items values.new.items subscription.new)) }
+        ensures empty { result ≡ Some 0 → (values.new.items ≡ values.old.items)
+            × WordFlowNexts self.now.first subscription.old (Ok Empty) subscription.new }
+        ensures late { result ≡ None → (values.new.items ≡ values.old.items)
+            × (vec_len values.new ≡ vec_len values.old)
+            × (vec_capacity values.new ≡ vec_capacity values.old)
+            × (subscription.new.number ≡ subscription.old.number)
+            × IsOverrun subscription.old.token subscription.new.token }
+    {
+        if ahead <= most {
+            return self.try_take(subscription, most, values);
+        }
+        match self.try_ahead(subscription, ahead) {
+            Some(Next::Value(value)) => {
+                values.push_reserved(value);
+                Some(1)
+            }
+            Some(Next::Empty) => Some(0),
+            Some(Next::Gone) => unreachable!(),
+            None => None,
+        }
+    }
+
+    /// Takes values, at most `most`. Returns how many it took: none if there is nothing to receive. Each try reads twice as many
+    /// cells as the one before, up to 64, or `most` if that is more.
     fn take_some<R: Wait, B: Allocator>(
         &self,
         rt: &R,
@@ -135,10 +174,11 @@ impl<T: Packed> WordFlow<T> {
         ensures empty { result ≡ 0 → (values.new.items ≡ values.old.items)
             × WordFlowNexts self.now.first subscription.old (Ok Empty) subscription.new }
     {
+        let mut ahead = most;
         for _ in rt.forever() {
-            match self.try_take(subscription, most, values) {
+            match self.try_some(subscription, most, ahead, values) {
                 Some(count) => return count,
-                None => {}
+                None => ahead = ahead.saturating_mul(2).min(most.max(AHEAD)),
             }
         }
         unreachable!()
@@ -148,7 +188,8 @@ impl<T: Packed> WordFlow<T> {
     /// `Ok` says why it stopped.
     ///
     /// Up to 64 values, or all that the list has room for, are taken at one moment: use the same list again. It waits for
-    /// no other caller; like `next`, it reads again where emitters have overwritten all that it read.
+    /// no other caller. Where emitters have overwritten all cells that it read, it tries again as `next` does, and reads
+    /// twice as many: a try fails only if at least as many values were emitted meanwhile as it read.
     ///
     /// # Errors
     /// `OutOfMemory` if the list cannot grow. The next value is still in the flow, the values before it are in the list,
@@ -167,6 +208,7 @@ impl<T: Packed> WordFlow<T> {
         ensures flow { subscription.new.token.table_id ≡ subscription.old.token.table_id }
         ensures number { subscription.new.number ≡ subscription.old.number }
         ensures live { result ≢ Ok Gone }
+        ensures refused { IfErr result (λ fault. fault ≡ OutOfMemory) }
         ensures full { OnErr result (IsFull values.new) }
     {
         let mut left = most;

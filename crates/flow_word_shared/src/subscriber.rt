@@ -48,7 +48,11 @@ impl<T: Packed> WordFlow<T> {
     /// Tries once to receive the next value, and reads `ahead` cells for it. Returns `None` if emitters have overwritten all
     /// of them meanwhile.
     #[inline(never)]
-    fn try_ahead(&self, subscription: &mut WordFlowSubscription<T>, ahead: usize) -> Option<Next<T>>
+    pub(crate) fn try_ahead(
+        &self,
+        subscription: &mut WordFlowSubscription<T>,
+        ahead: usize,
+    ) -> Option<Next<T>>
         requires { subscription.old.token.table_id ≡ self.now.table_id }
         ensures called { IfSome result (λ next. CallsAtOnceIn shared_flow self.now.first
             subscription.old.token (call.TakeNext subscription.old.number) (reply.Received next)
