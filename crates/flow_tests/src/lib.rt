@@ -50,3 +50,5 @@ mod steps;
 #[cfg(test)]
 mod values;
 pub mod word;
+#[cfg(test)]
+mod word_flows;
