@@ -1,6 +1,6 @@
 -- What the polls of a reader do. Begin with `WordFlowPolls`. A poll makes one attempt or two, each of which may be overrun. A wait of a
 -- thread does what `WordReceives` of flow_word says.
-use Rattle.std.specs.Prelude.{◌≡◌, ⊤, List, [], ◌∷◌, Option, Some, None}
+use Rattle.std.specs.Prelude.{◌≡◌, ⊤, Option, Some, None}
 use Rattle.futures.specs.declared.task.Poll.{Poll as Polled}
 use Rattle.futures.specs.declared.task.Poll.TheVariants.{Ready, Pending}
 use Rattle.flow_law.specs.declared.states.SharedFlowState.{SharedFlowState}

@@ -1,4 +1,4 @@
-use Rattle.std.proofs.Common.{subst, Ok, Option, ◌≡◌}
+use Rattle.std.proofs.Common.{subst, Ok, Option}
 use Rattle.flow_law.specs.declared.fault.FlowFault.TheVariants.{Busy}
 use Rattle.flow_law.specs.Handles.{next_of}
 use Rattle.flow_word_shared.specs.Answers.{WordNextsNow}
