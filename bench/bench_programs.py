@@ -14,7 +14,7 @@ work = pathlib.Path(tempfile.gettempdir()) / f"wumsnair-bench-{hashlib.sha256(st
 sources = top / "bench" / "flow_bench"
 crate = work / "crates" / "flow_bench"
 flow_bench = crate / "out" / "flow_bench"
-LIBRARIES = "flow_law flow_core flow_shared flow_word flow_cold flow_turns"
+LIBRARIES = "flow_law flow_core flow_shared flow_word flow_word_shared flow_cold flow_turns"
 
 peers_sources = top / "bench" / "peers"
 peers_work = work / "peers"

@@ -6,7 +6,7 @@ import shutil
 import subprocess
 import sys
 
-OF_FLOWS = {"flow", "flow_drain", "gated", "gated_drain", "gated_asleep", "plain"}
+OF_FLOWS = {"flow", "flow_drain", "gated", "gated_drain", "gated_asleep", "word", "word_drain", "plain"}
 ROUNDS = 3
 
 

@@ -60,6 +60,29 @@ def gated():
     yield Row("suspend and admit, gated, 1", "suspend_admit", reading(1), "gated", ("async_broadcast",))
 
 
+def words():
+    """The rows of the shared flow that is read without a lock, beside those that take one, and beside the gate."""
+    for subscribers in (1, 8, 64, 1024):
+        sizes = reading(subscribers)
+        for ours, way in (("word", "next"), ("word_drain", "drain")):
+            for peer in ("ref_mutex", "tokio", "async_broadcast", "gated", "gated_drain"):
+                yield Row(f"word flow {way}, {subscribers}", "emit_read", sizes, ours, (peer,))
+    for subscribers in (1, 8, 1024):
+        sizes = {"subscribers": subscribers, "count": 16_000}
+        for peer in ("ref_mutex", "tokio", "gated"):
+            yield Row(f"word flow, emit over laggards, {subscribers}", "emit_unread", sizes, "word", (peer,))
+    for subscribers in (1, 8):
+        yield Row(f"word flow, next with nothing to read, {subscribers}", "next_empty", reading(subscribers), "word", ("gated",))
+    for threads in (1, 2, 4):
+        sizes = {"threads": threads, "subscribers": threads, "count": 10_000, "room": 10_000 * threads}
+        for ours, way, peers in (
+            ("word", "next", NEXT_LOCKS),
+            ("word_drain", "drain", DRAIN_LOCKS),
+            ("word", "next", ("async_broadcast",)),
+        ):
+            yield Row(f"word crowd, {threads} and {threads}, by {way}", "crowd", sizes, ours, peers, counted=False)
+
+
 def states():
     sizes = {"count": 1_000_000}
     for call in ("set", "value", "cas", "next"):
@@ -116,6 +139,7 @@ def scripts():
 PARTS = {
     "core": one_thread,
     "gated": gated,
+    "word": words,
     "state": states,
     "crowd": crowds,
     "asleep": sleepers,

@@ -82,6 +82,8 @@ pub enum RecordedKind {
 pub enum Task {
     Stress(Size),
     Crowd(CrowdSize),
+    /// A crowd at a shared flow that is read without a lock.
+    WordCrowd(CrowdSize),
     Record(RecordedKind, Size),
 }
 
@@ -145,6 +147,7 @@ pub fn task_of(words: &[String]) -> Option<Task> {
     match words.first()?.as_str() {
         "--record" => record_of(rest),
         "--crowd" => Some(Task::Crowd(crowd_size_of(rest)?)),
+        "--word-crowd" => Some(Task::WordCrowd(crowd_size_of(rest)?)),
         _ => Some(Task::Stress(size_of(words)?)),
     }
 }

@@ -14,13 +14,13 @@ use std::thread::{sleep, yield_now};
 use std::time::{Clock, Duration};
 
 /// How long a call with a time limit waits, in microseconds.
-const LIMIT: u64 = 20;
+pub const LIMIT: u64 = 20;
 
 /// How long a pause takes, in microseconds. A waiting thread tries 32 times before it sleeps, which takes less.
 const PAUSE: u64 = 200;
 
 /// Now and then yields, or pauses for so long that waiting threads fall asleep.
-fn pause_at_random<R: Wait + Clock>(rt: &R, dice: &mut Pcg32) {
+pub fn pause_at_random<R: Wait + Clock>(rt: &R, dice: &mut Pcg32) {
     let word = dice.next_word();
     if word % 256 == 0 {
         sleep(rt, Duration::from_micros(PAUSE));

@@ -4,9 +4,11 @@ use crate::crew::{Caller, Turn, found_by_all, run_all, workers};
 use crate::found::Found;
 use crate::subscriber::Subscriber;
 use crate::word::WordSubscriber;
+use crate::word_flow::WordFlowSubscriber;
 use flow_law::{Config, Overflow};
 use flow_shared::{SharedFlow, StateFlow};
 use flow_word::WordState;
+use flow_word_shared::WordFlow;
 use std::alloc::{AllocGlobal, Global};
 use std::random::RandomSource;
 use std::sync::Wait;
@@ -117,6 +119,27 @@ where
         rounds: crowd.values,
     };
     Some(at_shared(rt, alloc, config, Job::Crowd(crowd), size)?.found)
+}
+
+/// Lets a crowd emit and receive all values through a new flow that is read without a lock and keeps as many values as
+/// `capacity` says. Returns None if memory or a thread is refused.
+pub fn word_crowd<R>(rt: &R, alloc: Global, crowd: CrowdSize) -> Option<Found>
+where
+    R: Threads + Wait + Clock + RandomSource + AllocGlobal + Sync,
+{
+    let config = Config::new()
+        .extra(crowd.capacity)
+        .overflow(Overflow::DropOldest);
+    let size = Size {
+        seed: crowd.seed,
+        threads: crowd.readers.saturating_add(crowd.emitters),
+        rounds: crowd.values,
+    };
+    let Ok((flow, seat)) = WordFlow::new(alloc, config) else {
+        return None;
+    };
+    let first = WordFlowSubscriber::new(flow.emitter(seat));
+    Some(run(rt, alloc, first, Job::Crowd(crowd), size)?.found)
 }
 
 fn config_of(kind: RecordedKind) -> Config {

@@ -3,6 +3,7 @@
 //! ```text
 //! flow_stress SEED THREADS ROUNDS
 //! flow_stress --crowd SEED EMITTERS READERS CAPACITY VALUES
+//! flow_stress --word-crowd SEED EMITTERS READERS CAPACITY VALUES
 //! flow_stress --record KIND SEED THREADS ROUNDS
 //! ```
 //!
@@ -29,6 +30,9 @@
 //! limit, and are made again after it. Each reader must receive all values, each emitter's in its order, none twice,
 //! and nothing after them; then it unsubscribes. If a sleeper is not woken, the program does not end.
 //!
+//! With `--word-crowd` the flow is one that is read without a lock. It keeps CAPACITY values, which must be all, and its
+//! emitters never wait.
+//!
 //! # What is proved
 //! Two facts are proved for every schedule. If callers only update a state flow without a lock, no update is lost
 //! (`run_count` of flow_program). If threads only emit into a flow that suspends, and each of some others receives as
@@ -52,9 +56,10 @@ mod shared;
 mod state;
 mod subscriber;
 mod word;
+mod word_flow;
 
 use arguments::{CrowdSize, RecordedKind, Size, Task, task_of};
-use flows::{crowd, record, stress};
+use flows::{crowd, record, stress, word_crowd};
 use found::Found;
 use recorder::{write_calls, write_flow};
 use std::alloc::AllocGlobal;
@@ -123,6 +128,7 @@ fn read_task(rt: &HostRuntime) -> io::Result<Option<Task>> {
 fn tell_usage(rt: &HostRuntime) -> io::Result<u8> {
     println!(rt; "usage: flow_stress SEED THREADS ROUNDS")?;
     println!(rt; "       flow_stress --crowd SEED EMITTERS READERS CAPACITY VALUES")?;
+    println!(rt; "       flow_stress --word-crowd SEED EMITTERS READERS CAPACITY VALUES")?;
     println!(rt;
         "       flow_stress --record word|state|shared|dropping|rendezvous SEED THREADS ROUNDS"
     )?;
@@ -155,6 +161,7 @@ fn do_task<R: Threads + Wait + Clock + RandomSource + AllocGlobal + Sync>(
     match task {
         Task::Stress(size) => tell(rt, size, stress(threads, alloc, size)),
         Task::Crowd(size) => tell_crowd(rt, size, crowd(threads, alloc, size)),
+        Task::WordCrowd(size) => tell_crowd(rt, size, word_crowd(threads, alloc, size)),
         Task::Record(kind, size) => tell_record(rt, threads, kind, size),
     }
 }

@@ -37,3 +37,5 @@ mod refusals;
 #[cfg(test)]
 mod values;
 pub mod word;
+#[cfg(test)]
+mod word_flows;

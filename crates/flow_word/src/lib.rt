@@ -36,7 +36,7 @@ mod meeting;
 mod plays;
 mod rule;
 mod seen;
-mod sleepers;
+pub mod sleepers;
 mod subscriber;
 mod token;
 mod update;

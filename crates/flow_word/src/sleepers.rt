@@ -28,7 +28,7 @@ const ALL: u64 = u64::MAX;
 /// caller gets the list, or the holder sees what is owed: a change wakes every task that was in the list, and a reader
 /// that is dropped leaves no waker. The list is never locked by a wait, so a try fails only while another caller has it.
 #[derive(Drop)]
-pub(crate) struct WordSleepers {
+pub struct WordSleepers {
     /// The number of threads that sleep or are about to, plus one if the list of tasks is not empty.
     waiting: AtomicU64,
     /// The number of changes that found a sleeper. The threads sleep on it.
@@ -39,22 +39,22 @@ pub(crate) struct WordSleepers {
 }
 
 /// A caller that sleeps until a word changes, for contracts only.
-pub(crate) trait Sleeper {
+pub trait Sleeper {
     /// What the caller has to do after it was announced or left its waker, and before it sleeps: to look, and to find
     /// nothing. It relates the caller before that to the caller after it.
     ghost has_looked: { Self → Self → Type 0 };
 }
 
 /// A thread that is counted among the sleepers until this is dropped.
-pub(crate) struct Announcement<'a> {
+pub struct Announcement<'a> {
     sleepers: &'a WordSleepers,
     epoch: u64,
 }
 
 /// A caller whose thread is counted among the sleepers until this is dropped, and the caller as it was before that.
-pub(crate) struct Announced<'a, S> {
+pub struct Announced<'a, S> {
     announcement: Announcement<'a>,
-    pub(crate) before: Snapshot<S>,
+    pub before: Snapshot<S>,
 }
 
 impl WordSleepers {

@@ -6,7 +6,7 @@ use Rattle.std.proofs.lemmas.List.{drop_all, take_more}
 use Rattle.std.proofs.lemmas.Option.{slice_get_within, get_or_from_slice_get}
 use mathlib.Core.Option.{some, some-injective, some-ne-none}
 use lib.ListN.{get_elem?}
-use Rattle.atomic_table.specs.Table.{State, Final, Seen}
+use Rattle.atomic_table.specs.Table.{Final, Seen}
 use Rattle.flow_law.specs.declared.config.Config.{Config}
 use Rattle.flow_law.specs.declared.states.SharedFlowState.{SharedFlowState}
 use Rattle.flow_law.specs.Growth.{Fits}
@@ -18,8 +18,7 @@ use Rattle.flow_law.proofs.Steps.{drop_here}
 use Rattle.flow_word_shared.specs.declared.view.RingKnown.{RingKnown}
 use Rattle.flow_word_shared.specs.declared.view.RingStart.{RingStart}
 use Rattle.flow_word_shared.specs.Closing.{StandsAsClosed, in_cells, closed_flow}
-use Rattle.flow_word_shared.specs.Rule.{head, capacity_of, cell_at, bit, HasValue, RingHolds}
-use Rattle.flow_word_shared.specs.Tokens.{WordFlowToken}
+use Rattle.flow_word_shared.specs.Rule.{head, cell_at, bit, HasValue, RingHolds}
 use Rattle.flow_word_shared.specs.View.{SharedKnowledge, began_as, only}
 use Rattle.flow_word_shared.proofs.Keeps.{fits_at}
 use Rattle.flow_word_shared.proofs.Oldest.{Usual, usual_after}

@@ -12,3 +12,4 @@ pub mod Finding
 pub mod Told
 pub mod Drains
 pub mod LastState
+pub mod Polls

@@ -4,3 +4,5 @@ pub mod Steps
 pub mod Tokens
 pub mod Answers
 pub mod Closing
+pub mod Handles
+pub mod Receiving

@@ -71,6 +71,7 @@ impl<T: Packed> WordFlow<T> {
             capacity: _,
             replay,
             limit: _,
+            readers: _,
         } = self;
         let closed = table.close_with(seat.into_inner());
         let word = closed.word(0);

@@ -104,6 +104,7 @@ impl<T: Packed> WordFlow<T> {
             number,
             position,
             seen,
+            has_left_waker: _,
         } = subscription;
         *seen = self.look(seat, *number, *position, *seen);
         if *seen <= *position {

@@ -53,6 +53,7 @@ impl<T: Packed> WordFlow<T> {
         shared.store::<Fill>(&mut seat.seat, cell, word);
         shared.store::<Publish<TRIES>>(&mut seat.seat, 0, expected + 2);
         seat.expected = expected + 2;
+        self.readers.wake();
         Ok(true)
     }
 
@@ -85,7 +86,7 @@ impl<T: Packed> WordFlow<T> {
         unreachable!()
     }
 
-    /// Emits a value. Subscribers that are a full buffer behind miss the oldest value of the buffer.
+    /// Emits a value, and wakes the readers that sleep. Subscribers that are a full buffer behind miss the oldest value of the buffer.
     ///
     /// No subscriber is waited for. Emitters, `subscribe`, `replay_cache` and `reset_replay_cache` wait for each other.
     ///

@@ -13,16 +13,26 @@
 //! loads the number again: twice as many at each try, up to 64. A try fails only if emitters have overwritten all cells
 //! that it read.
 //!
+//! # Waking
+//! An emission wakes the callers that sleep until there is a value. If none sleeps, that is one load. If some do, it is
+//! one system call for the threads, and the drop of each task's waker. The end of a subscription whose task left a waker
+//! removes it.
+//!
+//! # Tokens and handles
+//! A token is used with the flow that made it; each call requires that by `table_id`. Handles (`WordEmitter`,
+//! `WordFlowReader`) are tokens with their flow, and require nothing: begin with `flow.emitter(seat)`.
+//!
 //! # What each call promises
 //! A call promises what the call of a `SharedFlow` does, in the same words: the token has then seen a history of the
 //! flow, which is all that it had seen, followed by events of other callers and by this call with this reply.
 //!
 //! # Trying again
 //! A call that takes `rt` tries again if another caller was faster, and no contract says that it ever succeeds. A call
-//! whose name ends in `_now` tries once, and may return `Busy`.
+//! whose name ends in `_now`, or of a handle begins with `try_` (except `try_emit`), tries once, and may return `Busy`.
 //!
 //! # Dropping
-//! A dropped seat makes no more calls. A dropped subscription stays in the flow, and still counts.
+//! A dropped seat makes no more calls. A dropped subscription stays in the flow, and still counts. Dropping a reader, or
+//! a stream or a future of one, ends its subscription.
 #![tactic(auto)]
 
 mod cache;
@@ -30,18 +40,24 @@ mod closing;
 mod drain;
 mod emitting;
 mod fault;
+mod handles;
 mod making;
 mod meeting;
 mod plays;
 mod reading;
+mod receive_future;
 mod rule;
 mod subscriber;
 mod subscribing;
 mod token;
+mod values;
 mod view;
 
 pub use closing::ClosedWordFlow;
 pub use fault::WordFlowFault;
+pub use handles::{WordEmitter, WordFlowReader};
+pub use receive_future::WordReceiveFuture;
 pub use rule::WordFlowRule;
 pub use token::{WordFlow, WordFlowSeat, WordFlowSubscription};
+pub use values::WordFlowValues;
 pub use view::{Hold, Reads, RingKnown, RingStart};

@@ -10,10 +10,11 @@ ghost use Rattle.flow_word_shared.specs.Answers.{NoWordFlow, with_word_limit};
 
 use crate::fault::WordFlowFault;
 use crate::plays::Make;
-use crate::token::{HEAD, WordFlow, WordFlowSeat};
+use crate::token::{HEAD, WordFlow, WordFlowSeat, WordFlowSubscription};
 use crate::view::RingStart;
 use atomic_table::Table;
 use flow_law::{Config, FlowFault, Overflow, Packed};
+use flow_word::sleepers::WordSleepers;
 use std::alloc::Global;
 
 /// The most numbers that a flow issues: twice the number of emitted values, and one more, has to fit a word.
@@ -91,6 +92,7 @@ impl<T: Packed> WordFlow<T> {
                     capacity,
                     replay: u64::from(config.replay),
                     limit: config.limit,
+                    readers: WordSleepers::new(alloc),
                 };
                 Ok((flow, WordFlowSeat { seat, expected: 0 }))
             }
@@ -111,6 +113,21 @@ impl<T: Packed> WordFlow<T> {
         WordFlowSeat {
             seat: self.table.shared.split_seat::<Make>(&mut seat.seat),
             expected,
+        }
+    }
+
+    /// Makes a seat through the seat of a subscription.
+    pub(crate) fn seat_by(&self, subscription: &mut WordFlowSubscription<T>) -> WordFlowSeat<T>
+        requires { subscription.old.token.table_id ≡ self.now.table_id }
+        ensures maker { subscription.new.token
+            ≡ knowing subscription.old.token (makes subscription.old.token.knows) }
+        ensures number { subscription.new.number ≡ subscription.old.number }
+        ensures made { result ≡
+            knowing subscription.old.token (child subscription.old.token.knows) }
+    {
+        WordFlowSeat {
+            seat: self.table.shared.split_seat::<Make>(&mut subscription.seat),
+            expected: 0,
         }
     }
 }

@@ -30,6 +30,7 @@ impl<T: Packed> WordFlow<T> {
             number,
             position,
             seen,
+            has_left_waker: _,
         } = subscription;
         *seen = self.look(seat, *number, *position, *seen);
         if *seen <= *position {
@@ -66,6 +67,7 @@ impl<T: Packed> WordFlow<T> {
             number,
             position,
             seen,
+            has_left_waker: _,
         } = subscription;
         *seen = self.look(seat, *number, *position, *seen);
         if *seen <= *position {

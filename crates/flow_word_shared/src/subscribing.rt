@@ -52,6 +52,7 @@ impl<T: Packed> WordFlow<T> {
             number: issued + 1,
             position: mark.max(length.saturating_sub(self.replay)),
             seen: length,
+            has_left_waker: false,
         }))
     }
 
@@ -84,13 +85,23 @@ impl<T: Packed> WordFlow<T> {
         unreachable!()
     }
 
-    /// Ends the subscription, and returns its seat, for other calls.
+    /// Ends the subscription, and returns its seat, for other calls. A waker that a task left by a future or a stream of
+    /// the subscription is removed, and the task is woken.
     pub fn unsubscribe(&self, subscription: WordFlowSubscription<T>) -> WordFlowSeat<T>
         requires { subscription.token.table_id ≡ self.now.table_id }
         ensures { UnsubscribesIn shared_flow self.now.first subscription result }
     {
-        let WordFlowSubscription { mut seat, .. } = subscription;
+        let WordFlowSubscription {
+            mut seat,
+            number,
+            position: _,
+            seen: _,
+            has_left_waker,
+        } = subscription;
         self.table.shared.fetch_sub::<Leave>(&mut seat, 2, 1);
+        if has_left_waker {
+            self.readers.remove(number);
+        }
         WordFlowSeat { seat, expected: 0 }
     }
 

@@ -10,6 +10,7 @@ use crate::rule::WordFlowRule;
 use crate::view::{RingKnown, RingStart};
 use atomic_table::{Seat, Table};
 use flow_law::{Packed, Sequence};
+use flow_word::sleepers::WordSleepers;
 use std::alloc::Global;
 use std::marker::Model;
 
@@ -32,6 +33,8 @@ pub struct WordFlow<T: Packed> {
     pub(crate) capacity: u64,
     pub(crate) replay: u64,
     pub(crate) limit: u64,
+    /// The callers that sleep until a value is emitted.
+    pub(crate) readers: WordSleepers,
 }
 
 impl<T: Packed> Model for WordFlow<T> {
@@ -95,6 +98,8 @@ pub struct WordFlowSubscription<T: Packed> {
     pub(crate) number: u64,
     pub(crate) position: u64,
     pub(crate) seen: u64,
+    /// Whether a task has left its waker under the number. `unsubscribe` removes it.
+    pub(crate) has_left_waker: bool,
 }
 
 impl<T: Packed> Model for WordFlowSubscription<T> {
@@ -104,4 +109,14 @@ impl<T: Packed> Model for WordFlowSubscription<T> {
 
     ghost invariant = { λ s.
         IsReading s.seat s.number s.position [] s.seen × (s.position < 2 ^ 63) × (s.seen < 2 ^ 63) };
+}
+
+impl<T: Packed> WordFlowSubscription<T> {
+    /// Notes that a task leaves its waker under the subscription's number, and returns the number.
+    pub(crate) fn note_waker(&mut self) -> u64
+        ensures { self.new ≡ self.old }
+    {
+        self.has_left_waker = true;
+        self.number
+    }
 }

@@ -1,0 +1,105 @@
+//! A thread at a shared flow that is read without a lock: one of a crowd that emits, or one that receives all values.
+use crate::arguments::{CrowdSize, Job};
+use crate::crew::{Caller, Host, Turn};
+use crate::crowd::{LIMIT, pause_at_random};
+use crate::found::{Found, NOTHING};
+use crate::order::{Gets, Order, value_of};
+use flow_word_shared::{WordEmitter, WordFlowReader};
+use rand_core::utils::NextWord;
+use rand_pcg::Pcg32;
+use std::sync::Wait;
+use std::sync::atomic::AtomicU64;
+use std::time::{Clock, Duration};
+
+/// A caller of a word flow, and its subscription.
+#[derive(Drop)]
+pub struct WordFlowSubscriber<'a> {
+    pub emitter: WordEmitter<'a, u64>,
+    pub reader: Option<WordFlowReader<'a, u64>>,
+}
+
+impl<'a> WordFlowSubscriber<'a> {
+    /// Returns a caller without a subscription.
+    pub fn new(emitter: WordEmitter<'a, u64>) -> WordFlowSubscriber<'a> {
+        WordFlowSubscriber {
+            emitter,
+            reader: None,
+        }
+    }
+}
+
+/// Emits all values of the emitter of this number. Returns None if one was refused.
+fn emit_all<R: Wait + Clock>(
+    rt: &R,
+    emitter: &mut WordEmitter<'_, u64>,
+    number: u32,
+    size: CrowdSize,
+    dice: &mut Pcg32,
+) -> Option<Found> {
+    for place in 0..size.share_of(number) {
+        pause_at_random(rt, dice);
+        emitter.emit(rt, value_of(number, u64::from(place))).ok()?;
+    }
+    Some(NOTHING)
+}
+
+/// Receives the next value. Now and then a try has a time limit.
+fn receive<R: Wait + Clock>(rt: &R, reader: &mut WordFlowReader<'_, u64>, dice: &mut Pcg32) -> u64 {
+    for _ in rt.forever() {
+        pause_at_random(rt, dice);
+        if dice.next_word() % 32 != 0 {
+            return reader.receive(rt);
+        }
+        if let Some(value) = reader.receive_timeout(rt, Duration::from_micros(LIMIT)) {
+            return value;
+        }
+    }
+    unreachable!()
+}
+
+/// Receives all values. Checks that it got all values of each emitter, in order, and nothing else.
+fn receive_all<R: Wait + Clock>(
+    rt: &R,
+    reader: &mut WordFlowReader<'_, u64>,
+    values: u32,
+    dice: &mut Pcg32,
+) -> Found {
+    let mut order = Order::new(Gets::All);
+    for _ in 0..values {
+        order.add(receive(rt, reader, dice));
+    }
+    let is_all = reader.next(rt).is_none();
+    order.found.check(is_all);
+    order.found
+}
+
+impl Caller for WordFlowSubscriber<'_> {
+    /// Returns another caller. Readers of a crowd subscribe before a thread begins.
+    fn another<R: Wait>(&mut self, rt: &R, job: Job, number: u32) -> Option<Self> {
+        let mut made = WordFlowSubscriber::new(self.emitter.another());
+        if job.reads_at_once(number) {
+            made.reader = Some(made.emitter.subscribe(rt).ok()?);
+        }
+        Some(made)
+    }
+
+    /// Does the work of one thread of a crowd; another job is none.
+    fn work<R: Host>(&mut self, rt: &R, turn: &mut Turn, _clock: &AtomicU64) -> Option<Found> {
+        let Job::Crowd(size) = turn.job else {
+            return None;
+        };
+        match self.reader.take() {
+            Some(mut reader) => Some(receive_all(rt, &mut reader, size.values, &mut turn.dice)),
+            None => {
+                let number = turn.number.saturating_sub(size.readers);
+                emit_all(rt, &mut self.emitter, number, size, &mut turn.dice)
+            }
+        }
+    }
+
+    /// Checks that no subscriber is left.
+    fn check<R: Wait>(&mut self, _rt: &R, found: &mut Found) -> Option<()> {
+        found.check(self.emitter.subscription_count() == 0);
+        Some(())
+    }
+}

@@ -1,0 +1,101 @@
+//! Readers of a word flow that sleep until a value is emitted.
+use crate::compare::compare;
+use crate::handles::answers::pause;
+use crate::handles::streams::next_of;
+use crate::word_flows::{dropping, new_word_flow, new_word_flow_reader};
+use flow_word_shared::{WordEmitter, WordFlowReader, WordReceiveFuture};
+use futures::task::Poll;
+use futures::test::MockTask;
+use std::alloc::{AllocGlobal, Global};
+use std::process::Abort;
+use std::random::RandomSource;
+use std::sync::Wait;
+use std::thread::{Threads, join};
+use std::time::Clock;
+
+/// Polls once. Returns what the subscriber receives, or `None` if the future is pending.
+fn received(task: &MockTask, future: &mut WordReceiveFuture<'_, i64>) -> Option<i64> {
+    match task.poll(future) {
+        Poll::Ready((_reader, value)) => Some(value),
+        Poll::Pending => None,
+    }
+}
+
+/// Polls a future of a new reader before and after an emission, which wakes its task.
+fn follow<R: Wait + RandomSource + AllocGlobal + Abort>(
+    rt: &R,
+    emitter: &mut WordEmitter<'_, i64>,
+) {
+    let task = MockTask::new(rt).expect(rt, "a task");
+    let mut future = new_word_flow_reader(rt, emitter).into_receive();
+    for _ in 0..2 {
+        compare(rt, 0, received(&task, &mut future), None);
+        compare(rt, 1, task.is_woken(), false);
+    }
+    compare(rt, 2, emitter.emit(rt, 7), Ok(()));
+    compare(rt, 3, task.is_woken(), true);
+    compare(rt, 4, received(&task, &mut future), Some(7));
+    compare(rt, 5, emitter.subscription_count(), 0);
+}
+
+/// Drops a future whose task sleeps. The drop ends its subscription, and wakes the task.
+fn leave<R: Wait + RandomSource + AllocGlobal + Abort>(rt: &R, emitter: &mut WordEmitter<'_, i64>) {
+    let task = MockTask::new(rt).expect(rt, "a task");
+    let mut future = new_word_flow_reader(rt, emitter).into_receive();
+    compare(rt, 0, received(&task, &mut future), None);
+    compare(rt, 1, emitter.subscription_count(), 1);
+    drop(future);
+    compare(rt, 2, task.is_woken(), true);
+    compare(rt, 3, emitter.subscription_count(), 0);
+}
+
+#[test]
+fn an_emission_wakes_the_task_of_a_reader(rt: HostRuntime) {
+    let (flow, seat) = new_word_flow(&rt, rt.alloc(), dropping(0, 2, u64::MAX));
+    let mut emitter = flow.emitter(seat);
+    follow(&rt, &mut emitter);
+    leave(&rt, &mut emitter);
+}
+
+/// Emits the numbers from 1 to 3, each after a pause.
+fn emit_late<R: Wait + Clock>(rt: &R, emitter: &mut WordEmitter<'_, i64>) -> bool {
+    let mut taken = true;
+    for value in 1..=3 {
+        pause(rt);
+        taken &= emitter.emit(rt, value).is_ok();
+    }
+    taken
+}
+
+/// Receives three values.
+fn receive_three<R: Wait>(rt: &R, reader: &mut WordFlowReader<'_, i64>) -> (i64, i64, i64) {
+    (reader.receive(rt), reader.receive(rt), reader.receive(rt))
+}
+
+/// Receives on two threads what a third one emits: one reader as a thread, the other one as a stream.
+fn wake_both<R: Threads + Wait + Clock + RandomSource + AllocGlobal + Abort + Sync>(
+    rt: &R,
+    alloc: Global,
+) {
+    let (flow, seat) = new_word_flow(rt, alloc, dropping(0, 4, u64::MAX));
+    let mut emitter = flow.emitter(seat);
+    let mut reader = new_word_flow_reader(rt, &mut emitter);
+    let stream = new_word_flow_reader(rt, &mut emitter).into_stream();
+    let (emitted, (got, streamed)) = join(
+        rt,
+        || emit_late(rt, &mut emitter),
+        || join(
+            rt,
+            || receive_three(rt, &mut reader),
+            || next_of(rt, stream, 3),
+        ),
+    );
+    compare(rt, 0, emitted, true);
+    compare(rt, 1, got, (1, 2, 3));
+    compare(rt, 2, streamed.as_slice(), &[1, 2, 3]);
+}
+
+#[test]
+fn an_emission_wakes_readers_that_sleep(rt: HostRuntime) {
+    wake_both(&rt, rt.alloc());
+}

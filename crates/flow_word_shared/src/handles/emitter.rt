@@ -1,0 +1,247 @@
+//! A seat that is bound to its flow.
+ghost use Rattle.std.specs.Prelude.{◌≡◌, ℕ, [], IfErr};
+ghost use Rattle.flow_law.specs.declared.call.SharedCall.TheVariants as call;
+ghost use Rattle.flow_law.specs.declared.call.SharedReply.TheVariants as reply;
+ghost use Rattle.flow_law.specs.declared.outcome.Emit.TheVariants.{Done};
+ghost use Rattle.flow_law.specs.Growth.{makes, child};
+ghost use Rattle.flow_law.specs.HandleFaults.{answer_by, handed_by, busy_fault, limit_fault, memory_fault};
+ghost use Rattle.flow_law.specs.Handles.{called_by, SubscribesBound};
+ghost use Rattle.flow_law.specs.History.{IsHistory, replied, fault_alone};
+ghost use Rattle.flow_law.specs.Lagging.{EachLags};
+ghost use Rattle.flow_law.specs.Laws.{Delivers, NoIdleQueue};
+ghost use Rattle.flow_law.specs.Promise.{CallsIn, CallsAtOnceIn};
+ghost use Rattle.flow_law.specs.Replaying.{EachReplays};
+ghost use Rattle.flow_law.specs.SharedHistory.{shared_flow, state_after};
+ghost use Rattle.flow_law.specs.Tokens.{MeetsIn, knowing};
+ghost use Rattle.flow_law.specs.Waiting.{EachWaits};
+ghost use Rattle.flow_word_shared.specs.Answers.{WordEmitsNow, WordResetsNow};
+
+use super::reader::WordFlowReader;
+use crate::token::{WordFlow, WordFlowSeat};
+use flow_law::{Busy, Exhausted, OutOfMemory, Packed, Refused, Rejected};
+use std::alloc::Global;
+use std::marker::Model;
+use std::sync::Wait;
+
+/// A seat, and its flow. Contracts see both.
+///
+/// # Dropping
+/// Dropping it drops its seat: no call is made under its name any more, and the flow does not change.
+pub struct WordEmitter<'a, T: Packed> {
+    pub(crate) flow: &'a WordFlow<T>,
+    pub(crate) seat: WordFlowSeat<T>,
+}
+
+// Not derived, for the reason given at `WordFlowSeat`.
+impl<T: Packed> Drop for WordEmitter<'_, T> {
+    fn drop(self) {
+        let Self { flow: _, seat: _ } = self;
+    }
+}
+
+impl<'a, T: Packed> Model for WordEmitter<'a, T> {
+    ghost use Rattle.std.specs.Prelude.{◌≡◌};
+    ghost use Rattle.flow_law.specs.Handles.{called_by};
+    ghost use Rattle.flow_word_shared.specs.Handles.{WordFlowCallerOf};
+
+    ghost Value = { WordFlowCallerOf T };
+
+    ghost view = { λ c. called_by c.flow.now c.seat };
+
+    ghost invariant = { λ c. c.seat.table_id ≡ c.flow.now.table_id };
+}
+
+impl<T: Packed> WordFlow<T> {
+    /// Binds a seat to its flow.
+    pub fn emitter(&self, seat: WordFlowSeat<T>) -> WordEmitter<'_, T>
+        requires { seat.table_id ≡ self.now.table_id }
+        ensures { result ≡ called_by self.now seat }
+    {
+        WordEmitter::new(self, seat)
+    }
+}
+
+impl<'a, T: Packed> WordEmitter<'a, T> {
+    pub(crate) fn new(flow: &'a WordFlow<T>, seat: WordFlowSeat<T>) -> WordEmitter<'a, T>
+        requires { seat.table_id ≡ flow.now.table_id }
+        ensures { result ≡ called_by flow.now seat }
+    {
+        WordEmitter { flow, seat }
+    }
+
+    /// Makes one more caller through this one. Call it for each thread, before the thread starts.
+    pub fn another(&mut self) -> WordEmitter<'a, T>
+        ensures flow { (self.new.flow ≡ self.old.flow) × (result.flow ≡ self.old.flow) }
+        ensures maker { self.new.token ≡ knowing self.old.token (makes self.old.token.knows) }
+        ensures made { result.token ≡ knowing self.old.token (child self.old.token.knows) }
+    {
+        let made = self.flow.seat(&mut self.seat);
+        WordEmitter::new(self.flow, made)
+    }
+
+    /// Subscribes. The reader receives the replay cache first.
+    ///
+    /// # Errors
+    /// `Exhausted` if the flow has issued as many numbers as its limit allows.
+    pub fn subscribe<R: Wait>(&mut self, rt: &R) -> Result<WordFlowReader<'a, T>, Exhausted>
+        ensures flow { self.new.flow ≡ self.old.flow }
+        ensures subscribed { SubscribesBound shared_flow (λ name. call.Subscribe name []) self.old
+            (answer_by limit_fault result) self.new.token }
+    {
+        match self.flow.subscribe(rt, &mut self.seat) {
+            Ok(subscription) => Ok(WordFlowReader::new(self.flow, subscription)),
+            Err(_fault) => Err(Exhausted),
+        }
+    }
+
+    /// Emits a value, and wakes the readers that sleep. Readers that are a full buffer behind miss the oldest value of the
+    /// buffer: no reader is waited for.
+    ///
+    /// # Errors
+    /// `Exhausted` if the flow has issued as many numbers as its limit allows. The error returns the value.
+    ///
+    /// # Source
+    /// `MutableSharedFlow.emit`.
+    pub fn emit<R: Wait>(&mut self, rt: &R, value: T) -> Result<(), Rejected<T, Exhausted>>
+        ensures flow { self.new.flow ≡ self.old.flow }
+        ensures called { CallsIn shared_flow self.old.flow.first self.old.token (call.Emit value)
+            (replied shared_flow (λ _. reply.Emitted Done)
+            (fault_alone (handed_by limit_fault result))) self.new.token }
+        ensures handed_back { IfErr result (λ rejected. rejected.value ≡ value) }
+    {
+        match self.flow.emit(rt, &mut self.seat, value) {
+            Ok(()) => Ok(()),
+            Err(Refused { value, fault: _ }) => Err(Rejected {
+                value,
+                error: Exhausted,
+            }),
+        }
+    }
+
+    /// Emits a value as `emit` does, and returns `true`: an emission into this flow never waits for readers.
+    ///
+    /// # Errors
+    /// `Exhausted` if the flow has issued as many numbers as its limit allows. The error returns the value.
+    ///
+    /// # Source
+    /// `MutableSharedFlow.tryEmit`.
+    pub fn try_emit<R: Wait>(&mut self, rt: &R, value: T) -> Result<bool, Rejected<T, Exhausted>>
+        ensures flow { self.new.flow ≡ self.old.flow }
+        ensures called { CallsIn shared_flow self.old.flow.first self.old.token (call.TryEmit value)
+            (replied shared_flow reply.Tested (fault_alone (handed_by limit_fault result)))
+            self.new.token }
+        ensures handed_back { IfErr result (λ rejected. rejected.value ≡ value) }
+    {
+        match self.flow.try_emit(rt, &mut self.seat, value) {
+            Ok(taken) => Ok(taken),
+            Err(Refused { value, fault: _ }) => Err(Rejected {
+                value,
+                error: Exhausted,
+            }),
+        }
+    }
+
+    /// Emits a value as `emit` does if no other caller is faster; otherwise returns it with `Busy`.
+    pub fn emit_now(&mut self, value: T) -> Result<(), Refused<T>>
+        ensures flow { self.new.flow ≡ self.old.flow }
+        ensures called { WordEmitsNow self.old.flow.first self.old.token value
+            (fault_alone result) self.new.token }
+        ensures handed_back { IfErr result (λ refused. refused.value ≡ value) }
+    {
+        self.flow.emit_now(&mut self.seat, value)
+    }
+
+    /// Returns the replay cache: copies of at most `replay` values.
+    ///
+    /// # Errors
+    /// `OutOfMemory` if the cache has values and there is no memory for the list.
+    pub fn replay_cache<R: Wait>(&mut self, rt: &R) -> Result<Vec<T, Global>, OutOfMemory>
+        ensures flow { self.new.flow ≡ self.old.flow }
+        ensures called { CallsIn shared_flow self.old.flow.first self.old.token call.ReplayCache
+            (replied shared_flow (λ values. reply.Cached values.items)
+            (answer_by memory_fault result)) self.new.token }
+    {
+        match self.flow.replay_cache(rt, &mut self.seat) {
+            Ok(values) => Ok(values),
+            Err(_fault) => Err(OutOfMemory),
+        }
+    }
+
+    /// Empties the replay cache. Present readers still receive the values that they have not received.
+    pub fn reset_replay_cache<R: Wait>(&mut self, rt: &R)
+        ensures flow { self.new.flow ≡ self.old.flow }
+        ensures called { CallsIn shared_flow self.old.flow.first self.old.token
+            call.ResetReplayCache reply.Reset self.new.token }
+    {
+        self.flow.reset_replay_cache(rt, &mut self.seat);
+    }
+
+    /// Empties the replay cache if no other caller is faster; otherwise returns `Busy`.
+    pub fn try_reset_replay_cache(&mut self) -> Result<(), Busy>
+        ensures flow { self.new.flow ≡ self.old.flow }
+        ensures called { WordResetsNow self.old.flow.first self.old.token
+            (answer_by busy_fault result) self.new.token }
+    {
+        match self.flow.reset_now(&mut self.seat) {
+            Ok(()) => Ok(()),
+            Err(_busy) => Err(Busy),
+        }
+    }
+
+    /// Counts the subscribers. A subscription whose token was dropped still counts; one whose handle was dropped has
+    /// ended.
+    pub fn subscription_count(&mut self) -> u64
+        ensures flow { self.new.flow ≡ self.old.flow }
+        ensures counted { CallsAtOnceIn shared_flow self.old.flow.first self.old.token
+            call.SubscriptionCount (reply.Counted result) self.new.token }
+    {
+        self.flow.subscription_count(&mut self.seat)
+    }
+
+    /// Joins what two callers of one flow have seen: afterwards both have seen the same history, with all calls so far.
+    pub fn meet(&mut self, other: &mut WordEmitter<'_, T>)
+        requires { other.old.flow.table_id ≡ self.old.flow.table_id }
+        ensures flow { (self.new.flow ≡ self.old.flow) × (other.new.flow ≡ other.old.flow) }
+        ensures met { MeetsIn shared_flow self.old.flow.first self.old.token other.old.token
+            self.new.token other.new.token }
+    {
+        self.flow.meet(&mut self.seat, &mut other.seat);
+    }
+
+    /// Joins what a caller and a reader of one flow have seen, as `meet` does.
+    pub fn meet_reader(&mut self, reader: &mut WordFlowReader<'_, T>)
+        requires { reader.old.flow.table_id ≡ self.old.flow.table_id }
+        ensures flow { (self.new.flow ≡ self.old.flow) × (reader.new.flow ≡ reader.old.flow) }
+        ensures met { MeetsIn shared_flow self.old.flow.first
+            reader.old.subscription.token self.old.token
+            reader.new.subscription.token self.new.token }
+        ensures number { reader.new.subscription.number ≡ reader.old.subscription.number }
+    {
+        self.flow
+            .meet_subscription(&mut reader.subscription, &mut self.seat);
+    }
+
+    /// Proves the laws of shared flows for what the caller has seen. It makes no call of the flow and changes nothing.
+    pub fn seen(&mut self)
+        ensures unchanged { self.new ≡ self.old }
+        ensures history { IsHistory shared_flow self.new.flow.first self.new.token.knows.seen }
+        ensures delivered { (u : ℕ) →
+            Delivers u self.new.flow.first.config self.new.token.knows.seen }
+        ensures no_idle_queue { NoIdleQueue
+            (state_after self.new.flow.first.config self.new.token.knows.seen) }
+        ensures admitted { EachWaits self.new.flow.first.config self.new.token.knows.seen }
+        ensures lagged { EachLags self.new.flow.first.config self.new.token.knows.seen }
+        ensures replayed { EachReplays self.new.flow.first.config self.new.token.knows.seen }
+    {
+        self.flow.seen(&mut self.seat);
+    }
+
+    /// Returns the seat, for the flow's own calls.
+    pub fn into_seat(self) -> WordFlowSeat<T>
+        ensures token { result ≡ self.entry.token }
+        ensures flow { result.table_id ≡ self.entry.flow.table_id }
+    {
+        let WordEmitter { flow: _, seat } = self;
+        seat
+    }
+}

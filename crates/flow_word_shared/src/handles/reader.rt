@@ -1,0 +1,200 @@
+//! A subscription that is bound to its flow.
+ghost use Rattle.std.specs.Prelude.{◌≡◌, ◌≢◌, ℕ, Ok, IsSome};
+ghost use Rattle.std.specs.Result.{OnErr};
+ghost use Rattle.flow_law.specs.declared.outcome.Drained.TheVariants.{Gone};
+ghost use Rattle.flow_law.specs.declared.outcome.Next.TheVariants as no_more;
+ghost use Rattle.flow_law.specs.Draining.{DrainsBy, IsFull};
+ghost use Rattle.flow_law.specs.Growth.{makes, child};
+ghost use Rattle.flow_law.specs.HandleFaults.{answer_by, busy_fault, memory_fault};
+ghost use Rattle.flow_law.specs.Handles.{read_by, next_of, next_in};
+ghost use Rattle.flow_law.specs.History.{IsHistory};
+ghost use Rattle.flow_law.specs.Lagging.{EachLags};
+ghost use Rattle.flow_law.specs.Laws.{Delivers, NoIdleQueue};
+ghost use Rattle.flow_law.specs.Replaying.{EachReplays};
+ghost use Rattle.flow_law.specs.SharedFlow.{position_of};
+ghost use Rattle.flow_law.specs.SharedHistory.{shared_flow, state_after};
+ghost use Rattle.flow_law.specs.Tokens.{NextsIn, UnsubscribesIn, knowing};
+ghost use Rattle.flow_law.specs.Waiting.{EachWaits};
+ghost use Rattle.flow_word_shared.specs.Answers.{WordFlowNexts, WordNextsNow};
+
+use super::emitter::WordEmitter;
+use crate::token::{WordFlow, WordFlowSubscription};
+use flow_law::{Busy, Drained, Next, OutOfMemory, Packed};
+use std::alloc::Allocator;
+use std::marker::Model;
+use std::sync::Wait;
+
+/// A subscription, and its flow. Contracts see both.
+///
+/// # Dropping
+/// Dropping the reader ends its subscription, as `unsubscribe` does.
+pub struct WordFlowReader<'a, T: Packed> {
+    pub(crate) flow: &'a WordFlow<T>,
+    pub(crate) subscription: WordFlowSubscription<T>,
+}
+
+impl<T: Packed> Drop for WordFlowReader<'_, T> {
+    fn drop(self) {
+        let Self { flow, subscription } = self;
+        let _seat = flow.unsubscribe(subscription);
+    }
+}
+
+impl<'a, T: Packed> Model for WordFlowReader<'a, T> {
+    ghost use Rattle.std.specs.Prelude.{◌≡◌};
+    ghost use Rattle.flow_law.specs.Handles.{read_by};
+    ghost use Rattle.flow_word_shared.specs.Handles.{WordFlowReaderOf};
+
+    ghost Value = { WordFlowReaderOf T };
+
+    ghost view = { λ r. read_by r.flow.now r.subscription };
+
+    ghost invariant = { λ r. r.subscription.token.table_id ≡ r.flow.now.table_id };
+}
+
+/// Returns the value, if `next` gave one.
+fn given<T>(next: Next<T>) -> Option<T>
+    requires { next ≢ no_more.Gone }
+    ensures { next_of result ≡ next }
+{
+    match next {
+        Next::Value(value) => Some(value),
+        Next::Empty => None,
+        Next::Gone => unreachable!(),
+    }
+}
+
+impl<T: Packed> WordFlow<T> {
+    /// Binds a subscription to its flow.
+    pub fn reader(&self, subscription: WordFlowSubscription<T>) -> WordFlowReader<'_, T>
+        requires { subscription.token.table_id ≡ self.now.table_id }
+        ensures { result ≡ read_by self.now subscription }
+    {
+        WordFlowReader::new(self, subscription)
+    }
+}
+
+impl<'a, T: Packed> WordFlowReader<'a, T> {
+    pub(crate) fn new(
+        flow: &'a WordFlow<T>,
+        subscription: WordFlowSubscription<T>,
+    ) -> WordFlowReader<'a, T>
+        requires { subscription.token.table_id ≡ flow.now.table_id }
+        ensures { result ≡ read_by flow.now subscription }
+    {
+        WordFlowReader { flow, subscription }
+    }
+
+    /// Takes the next value, or returns `None` if the subscriber has received all values.
+    ///
+    /// A reader that is more than a buffer behind misses the oldest values. It waits for no other caller; where emitters
+    /// have overwritten all that it read, it reads again.
+    pub fn next<R: Wait>(&mut self, rt: &R) -> Option<T>
+        ensures flow { self.new.flow ≡ self.old.flow }
+        ensures called { NextsIn shared_flow self.old.flow.first self.old.subscription
+            (Ok (next_of result)) self.new.subscription }
+        ensures number { self.new.subscription.number ≡ self.old.subscription.number }
+    {
+        match self.flow.next(rt, &mut self.subscription) {
+            Next::Value(value) => Some(value),
+            Next::Empty | Next::Gone => None,
+        }
+    }
+
+    /// Takes the next value, and reads once: returns `Busy` if emitters have overwritten the value meanwhile.
+    pub fn try_next(&mut self) -> Result<Option<T>, Busy>
+        ensures flow { self.new.flow ≡ self.old.flow }
+        ensures called { WordNextsNow self.old.flow.first self.old.subscription
+            (next_in (answer_by busy_fault result)) self.new.subscription }
+    {
+        match self.flow.next_now(&mut self.subscription) {
+            Ok(next) => return Ok(given(next)),
+            Err(_busy) => return Err(Busy),
+        }
+    }
+
+    /// Appends the values that the subscriber can receive now, at most `most`, to the list, as if by calls of `next`. `Ok`
+    /// says why it stopped: it took as many, or there are no more.
+    ///
+    /// # Errors
+    /// `OutOfMemory` if the list cannot grow. The next value is still in the flow, the values before it are in the list,
+    /// and a later call continues.
+    pub fn drain<R: Wait, B: Allocator>(
+        &mut self,
+        rt: &R,
+        most: usize,
+        values: &mut Vec<T, B>,
+    ) -> Result<Drained, OutOfMemory>
+        ensures flow { self.new.flow ≡ self.old.flow }
+        ensures drained { DrainsBy (WordFlowNexts self.old.flow.first) most
+            self.old.subscription values.old.items (answer_by memory_fault result)
+            values.new.items self.new.subscription }
+        ensures number { self.new.subscription.number ≡ self.old.subscription.number }
+        ensures live { result ≢ Ok Gone }
+        ensures full { OnErr result (IsFull values.new) }
+    {
+        match self.flow.drain(rt, &mut self.subscription, most, values) {
+            Ok(end) => return Ok(end),
+            Err(_fault) => return Err(OutOfMemory),
+        }
+    }
+
+    /// Makes a caller of the same flow through the seat of this subscription.
+    pub fn another(&mut self) -> WordEmitter<'a, T>
+        ensures flow { (self.new.flow ≡ self.old.flow) × (result.flow ≡ self.old.flow) }
+        ensures maker { self.new.subscription.token
+            ≡ knowing self.old.subscription.token (makes self.old.subscription.token.knows) }
+        ensures number { self.new.subscription.number ≡ self.old.subscription.number }
+        ensures made { result.token ≡ knowing self.old.subscription.token
+            (child self.old.subscription.token.knows) }
+    {
+        let made = self.flow.seat_by(&mut self.subscription);
+        WordEmitter::new(self.flow, made)
+    }
+
+    /// Ends the subscription, and returns an emitter with its seat.
+    pub fn unsubscribe(self) -> WordEmitter<'a, T>
+        ensures flow { result.flow ≡ self.entry.flow }
+        ensures left { UnsubscribesIn shared_flow
+            self.entry.flow.first self.entry.subscription result.token }
+    {
+        let WordFlowReader { flow, subscription } = self;
+        let seat = flow.unsubscribe(subscription);
+        WordEmitter::new(flow, seat)
+    }
+
+    /// Proves the laws of shared flows for what the subscription has seen. It makes no call of the flow and changes
+    /// nothing.
+    pub fn seen(&mut self)
+        ensures unchanged { self.new ≡ self.old }
+        ensures history { IsHistory shared_flow
+            self.new.flow.first self.new.subscription.token.knows.seen }
+        ensures delivered { (u : ℕ) →
+            Delivers u self.new.flow.first.config self.new.subscription.token.knows.seen }
+        ensures no_idle_queue { NoIdleQueue
+            (state_after self.new.flow.first.config self.new.subscription.token.knows.seen) }
+        ensures admitted { EachWaits
+            self.new.flow.first.config self.new.subscription.token.knows.seen }
+        ensures lagged { EachLags
+            self.new.flow.first.config self.new.subscription.token.knows.seen }
+        ensures replayed { EachReplays
+            self.new.flow.first.config self.new.subscription.token.knows.seen }
+        ensures subscribed { IsSome (position_of self.new.subscription.number
+            (state_after self.new.flow.first.config
+            self.new.subscription.token.knows.seen).subscribers) }
+    {
+        self.flow.seen_by_subscription(&mut self.subscription);
+    }
+
+    /// Returns the subscription, for the flow's own calls.
+    pub fn into_subscription(self) -> WordFlowSubscription<T>
+        ensures subscription { result ≡ self.entry.subscription }
+        ensures flow { result.token.table_id ≡ self.entry.flow.table_id }
+    {
+        let WordFlowReader {
+            flow: _,
+            subscription,
+        } = self;
+        subscription
+    }
+}
