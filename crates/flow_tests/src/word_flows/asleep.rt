@@ -1,7 +1,6 @@
 //! Readers of a word flow that sleep until a value is emitted.
 use crate::compare::compare;
-use crate::handles::answers::pause;
-use crate::handles::streams::next_of;
+use crate::handle_calls::{next_of, pause};
 use crate::word_flows::{dropping, new_word_flow, new_word_flow_reader};
 use flow_word_shared::{WordEmitter, WordFlowReader, WordReceiveFuture};
 use futures::task::Poll;
@@ -29,24 +28,39 @@ fn follow<R: Wait + RandomSource + AllocGlobal + Abort>(
     let task = MockTask::new(rt).expect(rt, "a task");
     let mut future = new_word_flow_reader(rt, emitter).into_receive();
     for _ in 0..2 {
-        compare(rt, 0, received(&task, &mut future), None);
-        compare(rt, 1, task.is_woken(), false);
+        compare(
+            rt,
+            "poll before the emission",
+            received(&task, &mut future),
+            None,
+        );
+        compare(rt, "woken before the emission", task.is_woken(), false);
     }
-    compare(rt, 2, emitter.emit(rt, 7), Ok(()));
-    compare(rt, 3, task.is_woken(), true);
-    compare(rt, 4, received(&task, &mut future), Some(7));
-    compare(rt, 5, emitter.subscription_count(), 0);
+    compare(rt, "emit", emitter.emit(rt, 7), Ok(()));
+    compare(rt, "woken after the emission", task.is_woken(), true);
+    compare(
+        rt,
+        "poll after the emission",
+        received(&task, &mut future),
+        Some(7),
+    );
+    compare(rt, "subscribers", emitter.subscription_count(), 0);
 }
 
 /// Drops a future whose task sleeps. The drop ends its subscription, and wakes the task.
 fn leave<R: Wait + RandomSource + AllocGlobal + Abort>(rt: &R, emitter: &mut WordEmitter<'_, i64>) {
     let task = MockTask::new(rt).expect(rt, "a task");
     let mut future = new_word_flow_reader(rt, emitter).into_receive();
-    compare(rt, 0, received(&task, &mut future), None);
-    compare(rt, 1, emitter.subscription_count(), 1);
+    compare(rt, "poll", received(&task, &mut future), None);
+    compare(rt, "subscribers", emitter.subscription_count(), 1);
     drop(future);
-    compare(rt, 2, task.is_woken(), true);
-    compare(rt, 3, emitter.subscription_count(), 0);
+    compare(rt, "woken by the drop", task.is_woken(), true);
+    compare(
+        rt,
+        "subscribers after the drop",
+        emitter.subscription_count(),
+        0,
+    );
 }
 
 #[test]
@@ -90,9 +104,9 @@ fn wake_both<R: Threads + Wait + Clock + RandomSource + AllocGlobal + Abort + Sy
             || next_of(rt, stream, 3),
         ),
     );
-    compare(rt, 0, emitted, true);
-    compare(rt, 1, got, (1, 2, 3));
-    compare(rt, 2, streamed.as_slice(), &[1, 2, 3]);
+    compare(rt, "emitted", emitted, true);
+    compare(rt, "received by a thread", got, (1, 2, 3));
+    compare(rt, "received by a stream", streamed.as_slice(), &[1, 2, 3]);
 }
 
 #[test]

@@ -1,18 +1,20 @@
 //! Plays the worked examples by the handles of a word flow.
 ghost use Rattle.std.specs.Prelude.{◌≡◌};
 
-use crate::compare::compare;
+use crate::compare::{compare, compare_step};
 use crate::word_flows::rows::ROWS;
 use crate::word_flows::{dropping, new_word_flow, new_word_flow_reader};
 use flow_law::{Config, Drained, Exhausted, FlowFault, Overflow, Rejected};
 use flow_word_shared::{WordEmitter, WordFlow, WordFlowFault, WordFlowReader};
 use std::alloc::Global;
+use std::fmt::Debug;
 use std::process::Abort;
 use std::sync::Wait;
 use std::time::{Clock, Duration};
 
-/// A worked example: the configuration of the flow, and calls.
+/// A worked example: what it shows, the configuration of the flow, and calls.
 pub struct Example {
+    pub row: &'static str,
     pub config: Config,
     pub calls: &'static [Call],
 }
@@ -41,6 +43,18 @@ pub enum Call {
     Count(u64),
 }
 
+/// A step of a row.
+#[derive(Clone, Copy)]
+struct Place {
+    row: &'static str,
+    step: usize,
+}
+
+/// Ends the test unless what came of a step is what is wanted.
+fn check<T: PartialEq + Debug + Drop>(rt: &impl Abort, place: Place, came: T, wanted: T) {
+    compare_step(rt, place.row, &place.step, came, wanted);
+}
+
 /// The handles of an example.
 #[derive(Drop)]
 struct Player<'a> {
@@ -64,54 +78,54 @@ impl<'a> Player<'a> {
         }
     }
 
-    fn emit<R: Wait + Abort>(&mut self, rt: &R, place: usize, call: &Call) {
+    fn emit<R: Wait + Abort>(&mut self, rt: &R, place: Place, call: &Call) {
         match *call {
-            Call::Emit(value) => compare(rt, place, self.emitter.emit(rt, value), Ok(())),
-            Call::EmitNow(value) => compare(rt, place, self.emitter.emit_now(value), Ok(())),
-            Call::TryEmit(value) => compare(rt, place, self.emitter.try_emit(rt, value), Ok(true)),
+            Call::Emit(value) => check(rt, place, self.emitter.emit(rt, value), Ok(())),
+            Call::EmitNow(value) => check(rt, place, self.emitter.emit_now(value), Ok(())),
+            Call::TryEmit(value) => check(rt, place, self.emitter.try_emit(rt, value), Ok(true)),
             Call::EmitRefused(value) => {
                 let error = Exhausted;
                 let refused = Err(Rejected { value, error });
-                compare(rt, place, self.emitter.emit(rt, value), refused);
+                check(rt, place, self.emitter.emit(rt, value), refused);
             }
             _ => panic!(rt; "no such call"),
         }
     }
 
     /// Makes a call of the emitter that emits nothing.
-    fn ask<R: Wait + Abort>(&mut self, rt: &R, place: usize, call: &Call) {
+    fn ask<R: Wait + Abort>(&mut self, rt: &R, place: Place, call: &Call) {
         match *call {
             Call::Subscribe => {
                 let reader = new_word_flow_reader(rt, &mut self.emitter);
                 self.readers.push(Some(reader)).expect(rt, "memory");
             }
             Call::SubscribeRefused => {
-                compare(rt, place, self.emitter.subscribe(rt).is_ok(), false);
+                check(rt, place, self.emitter.subscribe(rt).is_ok(), false);
             }
             Call::Cache(wanted) => {
                 let cache = self.emitter.replay_cache(rt).expect(rt, "memory");
-                compare(rt, place, cache.as_slice(), wanted);
+                check(rt, place, cache.as_slice(), wanted);
             }
             Call::Reset => self.emitter.reset_replay_cache(rt),
-            Call::Count(wanted) => compare(rt, place, self.emitter.subscription_count(), wanted),
+            Call::Count(wanted) => check(rt, place, self.emitter.subscription_count(), wanted),
             _ => self.emit(rt, place, call),
         }
     }
 
-    fn make<R: Wait + Clock + Abort>(&mut self, rt: &R, alloc: Global, place: usize, call: &Call) {
+    fn make<R: Wait + Clock + Abort>(&mut self, rt: &R, alloc: Global, place: Place, call: &Call) {
         match *call {
             Call::Next(index, wanted) => {
-                compare(rt, place, self.reader(rt, index).next(rt), wanted);
+                check(rt, place, self.reader(rt, index).next(rt), wanted);
             }
             Call::TryNext(index, wanted) => {
-                compare(rt, place, self.reader(rt, index).try_next(), Ok(wanted));
+                check(rt, place, self.reader(rt, index).try_next(), Ok(wanted));
             }
             Call::Receive(index, wanted) => {
-                compare(rt, place, self.reader(rt, index).receive(rt), wanted);
+                check(rt, place, self.reader(rt, index).receive(rt), wanted);
             }
             Call::Late(index) => {
                 let limit = Duration::from_millis(1);
-                compare(
+                check(
                     rt,
                     place,
                     self.reader(rt, index).receive_timeout(rt, limit),
@@ -121,8 +135,8 @@ impl<'a> Player<'a> {
             Call::Drain(index, most, end, wanted) => {
                 let mut drained = Vec::new(alloc);
                 let ended = self.reader(rt, index).drain(rt, most, &mut drained);
-                compare(rt, place, ended, Ok(end));
-                compare(rt, place, drained.as_slice(), wanted);
+                check(rt, place, ended, Ok(end));
+                check(rt, place, drained.as_slice(), wanted);
             }
             Call::Leave(index) => self.leave(rt, index),
             _ => self.ask(rt, place, call),
@@ -131,21 +145,22 @@ impl<'a> Player<'a> {
 }
 
 /// Makes the calls on a new flow.
-fn play<R: Wait + Clock + Abort>(rt: &R, alloc: Global, first: usize, example: &Example) {
+fn play<R: Wait + Clock + Abort>(rt: &R, alloc: Global, example: &Example) {
     let (flow, seat) = new_word_flow(rt, alloc, example.config);
     let mut player = Player {
         emitter: flow.emitter(seat),
         readers: Vec::new(alloc),
     };
-    for (number, call) in example.calls.iter().enumerate() {
-        player.make(rt, alloc, first.saturating_add(number), call);
+    for (step, call) in example.calls.iter().enumerate() {
+        let row = example.row;
+        player.make(rt, alloc, Place { row, step }, call);
     }
 }
 
 #[test]
 fn calls_of_word_flows(rt: HostRuntime) {
-    for (number, example) in ROWS.iter().enumerate() {
-        play(&rt, rt.alloc(), number.saturating_mul(100), example);
+    for example in ROWS {
+        play(&rt, rt.alloc(), example);
     }
 }
 
@@ -164,21 +179,36 @@ fn no_word_flow_without_a_buffer_or_with_another_strategy(rt: HostRuntime) {
     let suspends = Some(WordFlowFault::Strategy(Overflow::Suspend));
     let latest = dropping(1, 1, 9).overflow(Overflow::DropLatest);
     let drops_latest = Some(WordFlowFault::Strategy(Overflow::DropLatest));
-    compare(&rt, 0, refused(rt.alloc(), dropping(0, 0, 9)), no_buffer);
     compare(
         &rt,
-        1,
+        "no buffer",
+        refused(rt.alloc(), dropping(0, 0, 9)),
+        no_buffer,
+    );
+    compare(
+        &rt,
+        "too large a buffer",
         refused(rt.alloc(), dropping(65_536, 1, 9)),
         too_large,
     );
     compare(
         &rt,
-        2,
+        "suspend",
         refused(rt.alloc(), Config::new().extra(1)),
         suspends,
     );
-    compare(&rt, 3, refused(rt.alloc(), latest), drops_latest);
-    compare(&rt, 4, refused(rt.alloc(), dropping(0, 1, 9)), None);
+    compare(
+        &rt,
+        "drop latest",
+        refused(rt.alloc(), latest),
+        drops_latest,
+    );
+    compare(
+        &rt,
+        "drop oldest",
+        refused(rt.alloc(), dropping(0, 1, 9)),
+        None,
+    );
 }
 
 /// What the flow has at its end: what other seats did, too.
@@ -189,14 +219,14 @@ fn a_closed_word_flow_has_its_last_values(rt: HostRuntime) {
     let mut other = emitter.another();
     let reader = new_word_flow_reader(&rt, &mut other);
     for value in 1..=4 {
-        compare(&rt, 0, other.emit(&rt, value), Ok(()));
+        compare(&rt, "emit", other.emit(&rt, value), Ok(()));
     }
     let _subscription = reader.into_subscription();
     drop(other);
     let seat = emitter.into_seat();
     let closed = flow.close(seat);
-    compare(&rt, 1, closed.emitted(), 4);
-    compare(&rt, 2, closed.subscription_count(), 1);
+    compare(&rt, "emitted", closed.emitted(), 4);
+    compare(&rt, "subscribers", closed.subscription_count(), 1);
     let cache = closed.replay_cache().expect(&rt, "memory");
-    compare(&rt, 3, cache.as_slice(), &[3, 4]);
+    compare(&rt, "replay cache", cache.as_slice(), &[3, 4]);
 }

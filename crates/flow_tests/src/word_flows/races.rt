@@ -54,10 +54,15 @@ fn race_reader<R: Threads + Wait + Abort + Sync>(rt: &R, alloc: Global) -> u32 {
         || overruns(rt, &start, &mut reader),
         || emit_all(rt, &start, &mut emitter),
     );
-    compare(rt, 0, emitted, true);
+    compare(rt, "emitted", emitted, true);
     let rest = reader.next(rt);
-    compare(rt, 1, rest == None || rest == Some(CALLS), true);
-    compare(rt, 2, reader.next(rt), None);
+    compare(
+        rt,
+        "nothing or the last value is left",
+        rest == None || rest == Some(CALLS),
+        true,
+    );
+    compare(rt, "next", reader.next(rt), None);
     overrun.expect(rt, "rising values")
 }
 
@@ -112,7 +117,12 @@ fn race_emitters<R: Threads + Wait + Abort + Sync>(rt: &R, alloc: Global) -> u64
     drop(other);
     let seat = one.into_seat();
     let closed = flow.close(seat);
-    compare(rt, 0, closed.emitted(), first.0.wrapping_add(second.0));
+    compare(
+        rt,
+        "emitted",
+        closed.emitted(),
+        first.0.wrapping_add(second.0),
+    );
     first.1.wrapping_add(second.1)
 }
 
@@ -161,16 +171,21 @@ fn race_reset<R: Threads + Wait + Abort + Sync>(rt: &R, alloc: Global, run: u32)
     let mut emitter = flow.emitter(seat);
     let mut old = new_word_flow_reader(rt, &mut emitter);
     let mut other = emitter.another();
-    compare(rt, 0, emitter.emit(rt, 7), Ok(()));
+    compare(rt, "emit", emitter.emit(rt, 7), Ok(()));
     let start = Barrier::new(2);
     let (received, ()) = join(
         rt,
         || subscribe_and_read(rt, &start, run, &mut emitter),
         || reset(rt, &start, run.wrapping_add(2), &mut other),
     );
-    compare(rt, 1, old.next(rt), Some(7));
-    compare(rt, 2, received.0 == None || received.0 == Some(7), true);
-    compare(rt, 3, received.1, None);
+    compare(rt, "next of the old reader", old.next(rt), Some(7));
+    compare(
+        rt,
+        "nothing or 7 first",
+        received.0 == None || received.0 == Some(7),
+        true,
+    );
+    compare(rt, "nothing next", received.1, None);
     received.0 == Some(7)
 }
 

@@ -9,8 +9,8 @@ use flow_law::Config;
 use flow_law::Drained::{Empty, Most};
 
 pub static ROWS: &[Example] = &[
-    // A new subscriber gets the cache.
     Example {
+        row: "a new subscriber gets the cache",
         config: Config {
             replay: 2,
             ..DROPPING
@@ -31,8 +31,8 @@ pub static ROWS: &[Example] = &[
             Count(0),
         ],
     },
-    // A slow subscriber misses the oldest values of a full buffer.
     Example {
+        row: "a slow subscriber misses the oldest values of a full buffer",
         config: Config {
             extra: 2,
             ..DROPPING
@@ -51,8 +51,8 @@ pub static ROWS: &[Example] = &[
             Late(0),
         ],
     },
-    // A fast subscriber misses nothing beside a slow one.
     Example {
+        row: "a fast subscriber misses nothing beside a slow one",
         config: Config {
             replay: 1,
             extra: 1,
@@ -76,8 +76,8 @@ pub static ROWS: &[Example] = &[
             Cache(&[4]),
         ],
     },
-    // Emissions and subscriptions take a number each.
     Example {
+        row: "emissions and subscriptions take a number each",
         config: Config {
             replay: 1,
             extra: 3,
@@ -96,8 +96,8 @@ pub static ROWS: &[Example] = &[
             Count(1),
         ],
     },
-    // A drain takes what there is, at most as many values as it is asked for.
     Example {
+        row: "a drain takes what there is, at most as many values as it is asked for",
         config: Config {
             extra: 5,
             ..DROPPING
@@ -122,8 +122,8 @@ pub static ROWS: &[Example] = &[
             Drain(0, 9, Empty, &[6, 7, 8, 9, 10]),
         ],
     },
-    // Old subscribers still get what a reset forgets.
     Example {
+        row: "old subscribers still get what a reset forgets",
         config: Config {
             replay: 3,
             ..DROPPING
