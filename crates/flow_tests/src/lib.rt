@@ -8,7 +8,7 @@
 //!
 //! Rows that a script can say are in `examples/` and `tests/cases/`: `tests/programs/test_every_flow.py` plays them over every
 //! kind of flow. Here is what no script says: threads that race, futures, refused copies and refused memory, drops,
-//! drains, readings, and laws in use. `word` is not under `cfg(test)`, since `./wrong_bodies` tries an edit of it, and
+//! drains, readings, and laws in use. `word` is not under `cfg(test)`, since `tools/refused` tries an edit of it, and
 //! proves only what is in the library.
 #![tactic(auto)]
 
