@@ -149,7 +149,7 @@ fn a_dropped_emission_is_cancelled(rt: HostRuntime) {
     compare(&rt, "next, cancelled", next(&rt, &mut reader), Ok(None));
 }
 
-/// A drain takes at most as many values as it is told to.
+/// A drain takes at most the number of values that its caller passes.
 #[test]
 fn a_reader_drains(rt: HostRuntime) {
     let (flow, seat) = new_flow(&rt, rt.alloc(), Config::new().extra(4));
