@@ -12,10 +12,10 @@ fn subscriber_of_a_lent_flow_receives_all(rt: HostRuntime) {
     let mut subscription = new_subscription(&rt, &flow, &mut seat);
     let taken = emit_one(&rt, &flow, &mut seat, 1);
     compare(&rt, "emit_one", taken, Ok(true));
-    for wanted in [Value(1), Empty] {
-        let received = next_in_order(&rt, &flow, &mut subscription);
-        compare(&rt, "next_in_order", received, Ok(wanted));
-    }
+    let received = next_in_order(&rt, &flow, &mut subscription);
+    compare(&rt, "next_in_order", received, Ok(Value(1)));
+    let received = next_in_order(&rt, &flow, &mut subscription);
+    compare(&rt, "next_in_order", received, Ok(Empty));
 }
 
 /// A word state that begins with 5 is set to 9.

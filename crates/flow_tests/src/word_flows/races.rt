@@ -106,6 +106,7 @@ fn race_emitters<R: Threads + Wait + Abort + Sync>(rt: &R, alloc: Global) -> u64
     let (flow, seat) = new_word_flow(rt, alloc, dropping(0, 1, u64::MAX));
     let mut one = flow.emitter(seat);
     let mut other = one.another();
+    let last = one.another();
     let start = Barrier::new(2);
     let (first, second) = join(
         rt,
@@ -114,9 +115,9 @@ fn race_emitters<R: Threads + Wait + Abort + Sync>(rt: &R, alloc: Global) -> u64
     );
     let first = first.expect(rt, "values or Busy");
     let second = second.expect(rt, "values or Busy");
+    drop(one);
     drop(other);
-    let seat = one.into_seat();
-    let closed = flow.close(seat);
+    let closed = flow.close(last.into_seat());
     compare(
         rt,
         "emitted",
