@@ -68,3 +68,15 @@ def test_function_of_an_edit(refused):
     text = "fn first() {\n    one;\n}\n\n#[inline]\npub fn second() {\n    two;\n}\n"
     edit = Edit("changes both", "src/lib.rt", ["one;", "#[inline]", "two;"], ["", "", ""])
     assert list(refused.functions(edit, text)) == [(0, "first"), (5, "second"), (5, "second")]
+
+
+def test_edits_that_are_chosen(refused):
+    name = "queue_left_at_unsubscribe"
+    assert [edit.stem for edit in refused.chosen([f"flow_core:{name}"])["flow_core"]] == [name]
+    assert len(refused.chosen(["flow_core", "flow_word"])["flow_core"]) == len(refused.edits_of("flow_core"))
+
+
+@pytest.mark.parametrize("word, said", [("flow_core:queue_left", "no edit queue_left of flow_core"), ("flow_cor", "no crate of tests/refused: flow_cor")])
+def test_unknown_choice(refused, word, said):
+    with pytest.raises(SystemExit, match=said):
+        refused.chosen([word])
