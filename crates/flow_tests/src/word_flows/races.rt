@@ -117,7 +117,8 @@ fn race_emitters<R: Threads + Wait + Abort + Sync>(rt: &R, alloc: Global) -> u64
     let second = second.expect(rt, "values or Busy");
     drop(one);
     drop(other);
-    let closed = flow.close(last.into_seat());
+    let seat = last.into_seat();
+    let closed = flow.close(seat);
     compare(
         rt,
         "emitted",
