@@ -115,7 +115,7 @@ def test_json_of_a_refused_record():
         "column": 24,
         "call": 2,
         "message": '"valeu" is no value of "call"',
-        "expected": "a call of this kind of flow",
+        "expected": (top / UNKNOWN).with_suffix(".told").read_text().split("expected: ")[1].partition("\n")[0],
         "nearest": "value",
     }
     assert entry["counts"] is None and entry["calls"] == []
