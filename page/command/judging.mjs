@@ -61,7 +61,7 @@ export async function judged(player, table, record, bytes, asks) {
   const told = asks.seconds ? await judgeWithin(asks.seconds, asks.file, bytes, asks.order) : verdictOf(player, bytes, asks.order);
   const seconds = Math.round(performance.now() - begin) / 1000;
   const hints = told.hint ? [told.hint] : [];
-  const isRead = ["illegal", "refused"].includes(told.verdict) || (asks.calls && told.verdict !== "failed");
+  const isRead = ["illegal", "refused", "gave up"].includes(told.verdict) || (asks.calls && told.verdict !== "failed");
   const looked = isRead && bytes.length <= MOST_BYTES ? lookAt(table, bytes, told.verdict, told.words) : { remedies: [] };
   return { record, ...told, hints: [...hints, ...looked.remedies], calls: looked.calls, seconds };
 }

@@ -5,6 +5,10 @@ import { callsOf } from "../web/record_text.js";
 /** The least number of calls of a caller of whose moments anything is said. */
 const FEW_CALLS = 2;
 
+/** The least number of open calls of which anything is said, and the number of them that are named. */
+const MANY_OPEN = 3;
+const NAMED = 8;
+
 const filled = (sentence, words) => sentence.replace(/\{(\w+)\}/g, (_, key) => words[key]);
 
 /** Returns the line and the column, from 1, of the first byte that is no UTF-8; nothing if there is none. */
@@ -25,11 +29,20 @@ function placeOfOtherByte(bytes) {
   return { line: bytes.subarray(0, at).filter((byte) => byte === 10).length + 1, column: at - begin + 1 };
 }
 
-/** Returns whether a record is refused for its last line, which has no end. */
+/** Returns whether the first line of a record is all of its head. */
+function hasLines(lines) {
+  try {
+    return JSON.parse(lines.find((line) => line.trim())).calls === undefined;
+  } catch {
+    return false;
+  }
+}
+
+/** Returns whether a record of JSON lines is refused for its last line, which has no end. */
 function isCutOff(words, text) {
   const lines = text.trimEnd().split("\n");
-  const refused = /^refused: line (\d+), column 1: this line is no JSON/.exec(words);
-  return Number(refused?.[1]) === lines.length && !lines.at(-1).trimEnd().endsWith("}");
+  const refused = /^refused: line (\d+), column \d+: the text ends here/.exec(words);
+  return Number(refused?.[1]) === lines.length && hasLines(lines);
 }
 
 /** Returns what to do about a refused record, by the words of its refusal and its bytes. */
@@ -81,6 +94,42 @@ function clockWarnings(table, calls) {
   return later ? [filled(table.of_calls.other_clock, { by: later.by, other: first.by })] : [];
 }
 
+const byValue = (one, other) => (one < other ? -1 : Number(one > other));
+
+/** Returns the first moment at which the most calls were open, and their numbers. */
+function openCalls(calls) {
+  const ends = calls.map(({ end }) => end ?? Infinity);
+  const closed = [...ends].sort(byValue);
+  let [most, moment, over] = [0, 0, 0];
+  calls.map(({ begin }) => begin).sort(byValue).forEach((begin, index) => {
+    while (closed[over] < begin) {
+      over++;
+    }
+    if (index + 1 - over > most) {
+      [most, moment] = [index + 1 - over, begin];
+    }
+  });
+  const isOpen = ({ begin }, index) => begin <= moment && moment <= ends[index];
+  return { moment, numbers: calls.flatMap((call, index) => (isOpen(call, index) ? [index + 1] : [])) };
+}
+
+/** Returns what to do if the search gave up. */
+function giveUpRemedies(table, calls) {
+  const { moment, numbers } = openCalls(calls);
+  const named = numbers.slice(0, NAMED).map((number) => `call ${number}`).join(", ");
+  return numbers.length < MANY_OPEN ? [] : [filled(table.of_calls.many_open, { moment, count: numbers.length, calls: named })];
+}
+
+/** Returns the calls of a record; nothing if it is none, which a search that was stopped does not say. */
+function callsIfRead(bytes) {
+  try {
+    const calls = callsOf(bytes.toString("utf8"));
+    return calls.every((call) => ["by", "call", "begin"].every((key) => Object.hasOwn(call, key))) ? calls : undefined;
+  } catch {
+    return undefined;
+  }
+}
+
 /** Returns what looks wrong in the calls of a record that was read. */
 export function warningsOf(table, calls) {
   return [...subscriptionFaults(table, calls), ...clockWarnings(table, calls)];
@@ -90,6 +139,10 @@ export function warningsOf(table, calls) {
 export function lookAt(table, bytes, verdict, words) {
   if (verdict === "refused") {
     return { calls: undefined, remedies: remediesOfRefusal(table, words, bytes) };
+  }
+  if (verdict === "gave up") {
+    const calls = callsIfRead(bytes);
+    return { calls, remedies: giveUpRemedies(table, calls ?? []) };
   }
   const calls = callsOf(bytes.toString("utf8"));
   return { calls, remedies: warningsOf(table, calls) };

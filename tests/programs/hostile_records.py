@@ -100,7 +100,8 @@ def many():
     yield "300 callers at once", whole(*sets), LEGAL
     stale = {**VALUE, "answer": {"value": 99}}
     yield "a value that none of 4 sets has", whole(*sets[:4], stale), ILLEGAL
-    yield "a value that none of 14 sets at once has", whole(*sets[:14], stale), GAVE_UP
+    yield "a value that none of 14 sets at once has", whole(*sets[:14], stale), ILLEGAL
+    yield "a value that none of 20 sets at once has", whole(*sets[:20], stale), GAVE_UP
     one_after_another = [{**SET, "begin": 2 * at, "end": 2 * at + 1} for at in range(20_000)]
     yield "20000 calls", lines(*one_after_another), LEGAL
     yield "20000 values", whole({**VALUE, "call": "subscribe", "first": [1] * 20_000, "answer": "done"}, flow=SHARED), LEGAL

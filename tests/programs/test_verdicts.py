@@ -115,7 +115,7 @@ def test_json_of_a_refused_record():
         "column": 24,
         "call": 2,
         "message": '"valeu" is no value of "call"',
-        "expected": "a call of this kind of flow",
+        "expected": (top / UNKNOWN).with_suffix(".told").read_text().split("expected: ")[1].partition("\n")[0],
         "nearest": "value",
     }
     assert entry["counts"] is None and entry["calls"] == []
@@ -170,6 +170,11 @@ WRONG = {
     "a name that is no UTF-8": (IN_LINES.replace(b"t2", b"t\xff"), 2, "the first other byte is in line 3, column 10"),
     "a cut-off line": (IN_LINES[:-20], 2, "the last line is cut off"),
     "a cut-off object": (whole(SET)[:-20], 2, "the record is cut off"),
+    "callers that all overlap": (
+        whole(*({**SET, "by": f"u{at}", "value": at} for at in range(20)), {**VALUE, "answer": {"value": 99}}),
+        3,
+        "20 calls were open at moment 10, among them call 1, call 2,",
+    ),
     "no subscription": (whole(NEXT), 1, "call 1: b calls next without a subscription: record its subscribe, too"),
     "a first within a subscription": (whole(SUBSCRIBE, FIRST, flow=STATE), 1, "call 2: b calls first while it has a subscription"),
     "another subscription": (whole(SUBSCRIBE, {**SUBSCRIBE, "begin": 3, "end": 4}, flow=SHARED), 1, "call 2: b calls subscribe while it has"),

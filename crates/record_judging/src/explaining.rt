@@ -117,6 +117,21 @@ impl<'a> Report<'a> {
         self.add_nearest(name, keys)
     }
 
+    /// Adds what is expected, and the words that it may be.
+    fn add_expected(
+        &mut self,
+        expected: &'static str,
+        words: &'static [&'static str],
+    ) -> Result<(), AllocError> {
+        self.add(&["\n  expected: ", expected])?;
+        let mut opening = ": \"";
+        for word in words {
+            self.add(&[opening, *word, "\""])?;
+            opening = ", \"";
+        }
+        Ok(())
+    }
+
     /// Reports the value of this key, which is not what is expected. If it is close to one of these words, suggests
     /// that word.
     fn tell_value(
@@ -130,10 +145,9 @@ impl<'a> Report<'a> {
         let found = self.text.member(object, key)?.unwrap_or(object);
         self.add_place(found.at, part)?;
         self.add_value(found.at)?;
-        write!(
-            self.words,
-            " is no value of \"{key}\"\n  expected: {expected}"
-        )?;
+        write!(self.words, " is no value of \"{key}\"")?;
+        let listed = if key == "call" { words } else { &[] };
+        self.add_expected(expected, listed)?;
         self.add_nearest(found.value.as_str().unwrap_or(""), words)
     }
 
@@ -151,9 +165,11 @@ impl<'a> Report<'a> {
         part: Part,
         key: &'static str,
         expected: &'static str,
+        words: &'static [&'static str],
     ) -> Result<(), AllocError> {
         self.add_place(at, part)?;
-        self.add(&["\"", key, "\" is missing\n  expected: ", expected])
+        self.add(&["\"", key, "\" is missing"])?;
+        self.add_expected(expected, words)
     }
 
     /// Reports why a part of the record is refused, whose head or line begins here.
@@ -165,7 +181,11 @@ impl<'a> Report<'a> {
         match refusal.wrong {
             Wrong::Key { known } => self.tell_key(object, part, known),
             Wrong::NoObject => self.tell_no_object(object.at, part),
-            Wrong::Missing { key, expected } => self.tell_missing(object.at, part, key, expected),
+            Wrong::Missing {
+                key,
+                expected,
+                words,
+            } => self.tell_missing(object.at, part, key, expected, words),
             Wrong::Value {
                 key,
                 expected,
@@ -174,32 +194,39 @@ impl<'a> Report<'a> {
         }
     }
 
-    fn tell_stop(&mut self) -> Result<(), AllocError> {
-        let Some(stop) = not_json(self.text)? else {
+    /// Reports where the part of the text between these offsets stops being JSON.
+    fn tell_stop(&mut self, begin: usize, end: usize) -> Result<(), AllocError> {
+        let part = Text {
+            alloc: self.text.alloc,
+            bytes: self.text.bytes.get(begin..end).unwrap_or(&[]),
+        };
+        let Some(stop) = not_json(part)? else {
             return self.words.push_str("the record is no JSON");
         };
-        self.add_place(stop.at, Part::Head)?;
+        let at = begin.saturating_add(stop.at);
+        self.add_place(at, Part::Head)?;
         if stop.shows_value {
-            self.add_value(stop.at)?;
+            self.add_value(at)?;
         }
         self.add(&[stop.what, "\n  expected: ", stop.expected])
     }
 }
 
-/// Returns where the first line begins that is no JSON.
-fn bad_line(alloc: Global, bytes: &[u8]) -> Result<usize, AllocError> {
+/// Returns where the first line that is no JSON begins, and where it ends.
+fn bad_line(alloc: Global, bytes: &[u8]) -> Result<(usize, usize), AllocError> {
     let mut begin: usize = 0;
     for line in bytes.split(is_newline) {
+        let end = begin.saturating_add(line.len());
         if !is_blank(line) {
             match value_of(alloc, line) {
                 Ok(_) => {}
                 Err(Unread::OutOfMemory) => return Err(AllocError),
-                Err(_) => return Ok(begin),
+                Err(_) => return Ok((begin, end)),
             }
         }
-        begin = begin.saturating_add(line.len()).saturating_add(1);
+        begin = end.saturating_add(1);
     }
-    Ok(begin)
+    Ok((begin, begin))
 }
 
 fn tell_refusal(
@@ -230,13 +257,10 @@ fn tell_unread(report: &mut Report<'_>, unread: Unread) -> Result<(), AllocError
         Unread::OutOfMemory => Err(AllocError),
         Unread::Refused(refusal) => tell_refusal(report, refusal, in_lines),
         Unread::NotJson if in_lines => {
-            let begin = bad_line(text.alloc, text.bytes)?;
-            report.add_place(begin, Part::Head)?;
-            report
-                .words
-                .push_str("this line is no JSON\n  expected: a call, an object")
+            let (begin, end) = bad_line(text.alloc, text.bytes)?;
+            report.tell_stop(begin, end)
         }
-        Unread::NotJson => report.tell_stop(),
+        Unread::NotJson => report.tell_stop(0, text.bytes.len()),
     }
 }
 

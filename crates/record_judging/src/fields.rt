@@ -39,7 +39,7 @@ impl<'a> Fields<'a> {
     pub fn need(self, key: &'static str, expected: &'static str) -> Result<&'a Value, Unread> {
         match self.value.get(key) {
             Some(value) => Ok(value),
-            None => Err(missing(self.part, key, expected)),
+            None => Err(missing(self.part, key, expected, &[])),
         }
     }
 
@@ -57,13 +57,16 @@ impl<'a> Fields<'a> {
         }
     }
 
-    /// Returns the word of a key. Refuses a value that is no word; `words` are the words to suggest for it.
+    /// Returns the word of a key. Refuses a value that is no word; `words` are the words that it may be, if there are few.
     pub fn word(
         self,
         key: &'static str,
         words: &'static [&'static str],
     ) -> Result<&'a str, Unread> {
-        match self.need(key, TEXT)?.as_str() {
+        let Some(value) = self.value.get(key) else {
+            return Err(missing(self.part, key, TEXT, words));
+        };
+        match value.as_str() {
             Some(word) => Ok(word),
             None => Err(unfit(self.part, key, TEXT, words)),
         }

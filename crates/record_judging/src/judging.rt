@@ -17,6 +17,14 @@ use std::alloc::{AllocError, Global};
 /// The number of turns of the search for each call.
 const TURNS_A_CALL: u64 = 1000;
 
+/// The least number of turns: the calls of a small record may all overlap.
+const LEAST_TURNS: u64 = 4_000_000;
+
+/// The number of turns for each call, and the least number, of a search that only makes a list of calls shorter.
+const FEW_TURNS_A_CALL: u64 = 50;
+
+const FEW_TURNS: u64 = 100_000;
+
 /// What judging a record came to.
 #[derive(Drop)]
 pub enum Outcome {
@@ -26,9 +34,13 @@ pub enum Outcome {
 }
 
 fn turns(calls: usize) -> u64 {
+    (calls as u64).saturating_mul(TURNS_A_CALL).max(LEAST_TURNS)
+}
+
+fn few_turns(calls: usize) -> u64 {
     (calls as u64)
-        .saturating_add(1)
-        .saturating_mul(TURNS_A_CALL)
+        .saturating_mul(FEW_TURNS_A_CALL)
+        .max(FEW_TURNS)
 }
 
 /// Returns how many parts a call has.
@@ -63,13 +75,14 @@ fn judge_state(
     sheet: &Sheet,
     rows: &[Vec<WrittenCall>],
     initial: u64,
+    budget: u64,
 ) -> Result<Outcome, AllocError>
     ensures { IfOk result (JudgesRows (State initial) sheet.now.lists.items rows.now) }
 {
     let callers = state_callers(alloc, rows, sheet.lists.as_slice())?;
     match Record::new(callers) {
         Ok(record) => {
-            let verdict = check_state(alloc, initial, &record, turns(sheet.count))?;
+            let verdict = check_state(alloc, initial, &record, budget)?;
             Ok(Outcome::Judged(verdict))
         }
         Err(fault) => Ok(Outcome::Faulty(fault, number_of(sheet, fault))),
@@ -82,16 +95,32 @@ fn judge_shared(
     sheet: &Sheet,
     rows: &[Vec<WrittenCall>],
     config: Config,
+    budget: u64,
 ) -> Result<Outcome, AllocError>
     ensures { IfOk result (JudgesRows (Shared config) sheet.now.lists.items rows.now) }
 {
     let callers = shared_callers(alloc, rows, sheet.lists.as_slice())?;
     match Record::new(callers) {
         Ok(record) => {
-            let verdict = check_shared(alloc, config, &record, turns(sheet.count))?;
+            let verdict = check_shared(alloc, config, &record, budget)?;
             Ok(Outcome::Judged(verdict))
         }
         Err(fault) => Ok(Outcome::Faulty(fault, number_of(sheet, fault))),
+    }
+}
+
+/// Judges these calls of the callers of a record. Gives up after `budget` turns of the search.
+fn judge_within(
+    alloc: Global,
+    sheet: &Sheet,
+    rows: &[Vec<WrittenCall>],
+    budget: u64,
+) -> Result<Outcome, AllocError>
+    ensures { IfOk result (JudgesRows sheet.now.flow sheet.now.lists.items rows.now) }
+{
+    match sheet.flow {
+        WrittenFlow::State { initial } => judge_state(alloc, sheet, rows, initial, budget),
+        WrittenFlow::Shared(config) => judge_shared(alloc, sheet, rows, config, budget),
     }
 }
 
@@ -99,10 +128,18 @@ fn judge_shared(
 pub fn judge(alloc: Global, sheet: &Sheet, rows: &[Vec<WrittenCall>]) -> Result<Outcome, AllocError>
     ensures { IfOk result (JudgesRows sheet.now.flow sheet.now.lists.items rows.now) }
 {
-    match sheet.flow {
-        WrittenFlow::State { initial } => judge_state(alloc, sheet, rows, initial),
-        WrittenFlow::Shared(config) => judge_shared(alloc, sheet, rows, config),
-    }
+    judge_within(alloc, sheet, rows, turns(sheet.count))
+}
+
+/// Judges these calls of the callers of a record as `judge` does, but soon gives up.
+pub fn judge_soon(
+    alloc: Global,
+    sheet: &Sheet,
+    rows: &[Vec<WrittenCall>],
+) -> Result<Outcome, AllocError>
+    ensures { IfOk result (JudgesRows sheet.now.flow sheet.now.lists.items rows.now) }
+{
+    judge_within(alloc, sheet, rows, few_turns(sheet.count))
 }
 
 fn wrong_state(alloc: Global, sheet: &Sheet, initial: u64) -> Result<Option<u64>, AllocError>

@@ -6,7 +6,7 @@
 //! Other callers may have seen a *change*. But an order that explains calls also explains them if a change may have
 //! happened at any moment after it began, or not at all. So if the calls are illegal with that, the change is not
 //! needed.
-use crate::judging::{Outcome, judge};
+use crate::judging::{Outcome, judge_soon};
 use crate::looks::{Tried, numbers_of};
 use crate::written::{Sheet, WrittenCall};
 use flow_check::Verdict;
@@ -123,7 +123,7 @@ impl Roles {
     /// Returns whether the calls are illegal; false if the search gave up.
     fn are_illegal(&self, alloc: Global, sheet: &Sheet) -> Result<bool, AllocError> {
         let rows = self.asked_rows(alloc, sheet)?;
-        let outcome = judge(alloc, sheet, rows.as_slice())?;
+        let outcome = judge_soon(alloc, sheet, rows.as_slice())?;
         Ok(matches!(outcome, Outcome::Judged(Verdict::Illegal)))
     }
 
@@ -198,14 +198,27 @@ impl Roles {
         Ok(())
     }
 
-    /// Leaves out the looks that are not needed.
-    pub fn leave_out_looks(&mut self, alloc: Global, sheet: &Sheet) -> Result<(), AllocError> {
-        let looks = numbers_of(alloc, sheet, Tried::Looks { by: self.moment })?;
+    /// Leaves out the looks that were over before the moment and are not needed. Usually none of them is needed.
+    fn leave_out_over(&mut self, alloc: Global, sheet: &Sheet) -> Result<(), AllocError> {
+        let looks = numbers_of(alloc, sheet, Tried::LooksBefore(self.moment))?;
+        if self.try_role(alloc, sheet, looks.as_slice(), Role::Out)? {
+            return Ok(());
+        }
         let (early, last) = looks
             .as_slice()
             .split_at(looks.len().saturating_sub(LAST_LOOKS));
         self.leave_out_early(alloc, sheet, early)?;
         self.try_each(alloc, sheet, last, Role::Out)
+    }
+
+    /// Leaves out the looks that are not needed. Those that were not over at the moment need not have happened.
+    pub fn leave_out_looks(&mut self, alloc: Global, sheet: &Sheet) -> Result<(), AllocError> {
+        let open = numbers_of(alloc, sheet, Tried::LooksOpen(self.moment))?;
+        self.set(open.as_slice(), Role::Out);
+        self.leave_out_over(alloc, sheet)?;
+        let last = numbers_of(alloc, sheet, Tried::LooksUntil(self.moment))?;
+        let tried = last.get(..LAST_LOOKS).unwrap_or(last.as_slice());
+        self.try_each(alloc, sheet, tried, Role::Out)
     }
 
     /// Leaves out the changes that are not needed among those that were over between two moments.

@@ -29,8 +29,12 @@ fn is_change_of_any(call: WrittenCall) -> bool {
 /// Calls that a conflict may not need.
 #[derive(Clone, Copy)]
 pub enum Tried {
-    /// The looks that began by a moment.
-    Looks { by: u64 },
+    /// The looks that were over before a moment.
+    LooksBefore(u64),
+    /// The looks that were over at a moment.
+    LooksUntil(u64),
+    /// The looks that had begun by a moment and were not over.
+    LooksOpen(u64),
     /// The changes of any caller that were over after a moment and by another one.
     Changes { after: u64, by: u64 },
 }
@@ -38,7 +42,15 @@ pub enum Tried {
 impl Tried {
     fn has(self, call: WrittenCall) -> bool {
         match self {
-            Tried::Looks { by } => call.begin <= by && is_look(call),
+            Tried::LooksBefore(moment) => {
+                is_look(call) && matches!(call.end, Some(end) if end < moment)
+            }
+            Tried::LooksUntil(moment) => is_look(call) && call.end == Some(moment),
+            Tried::LooksOpen(moment) => {
+                is_look(call)
+                    && call.begin <= moment
+                    && !matches!(call.end, Some(end) if end <= moment)
+            }
             Tried::Changes { after, by } => {
                 let end = call.end.unwrap_or(after);
                 after < end && end <= by && is_change_of_any(call)

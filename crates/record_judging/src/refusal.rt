@@ -21,10 +21,11 @@ pub enum Wrong {
         expected: &'static str,
         words: &'static [&'static str],
     },
-    /// The object lacks the key.
+    /// The object lacks the key. `words` are the words that its value may be.
     Missing {
         key: &'static str,
         expected: &'static str,
+        words: &'static [&'static str],
     },
     /// The object has a key that is not known.
     Key {
@@ -71,8 +72,17 @@ pub fn unfit(
 }
 
 /// Returns the refusal of an object that lacks the key.
-pub fn missing(part: Part, key: &'static str, expected: &'static str) -> Unread {
-    let wrong = Wrong::Missing { key, expected };
+pub fn missing(
+    part: Part,
+    key: &'static str,
+    expected: &'static str,
+    words: &'static [&'static str],
+) -> Unread {
+    let wrong = Wrong::Missing {
+        key,
+        expected,
+        words,
+    };
     Unread::Refused(Refusal { part, wrong })
 }
 

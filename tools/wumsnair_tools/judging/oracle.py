@@ -50,10 +50,22 @@ def judged(words, record, text, seconds=None, reads_calls=False):
     verdict = Verdict(record, VERDICTS.get(status, "failed"), status, told, hints, None, round(time.perf_counter() - begin, 3))
     if verdict.verdict == "refused" and len(text) <= MOST_BYTES:
         verdict.hints += remedies.of_refusal(told, text)
-    elif verdict.verdict == "illegal" or reads_calls and verdict.verdict in ("legal", "gave up"):
+    elif verdict.verdict == "gave up":
+        verdict.calls = calls_if_read(text)
+        verdict.hints += remedies.of_giving_up(verdict.calls or [])
+    elif verdict.verdict == "illegal" or reads_calls and verdict.verdict == "legal":
         verdict.calls = remedies.calls_of(text)
         verdict.hints += remedies.of_calls(verdict.calls)
     return verdict
+
+
+def calls_if_read(text):
+    """The calls of a record; None if it is none, which a search that was stopped does not say."""
+    try:
+        calls = remedies.calls_of(text)
+        return calls if all({"by", "call", "begin"} <= call.keys() for call in calls) else None
+    except (ValueError, AttributeError):
+        return None
 
 
 def library():

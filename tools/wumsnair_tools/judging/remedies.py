@@ -9,7 +9,9 @@ from wumsnair_tools.built import top
 TABLE = json.loads((top / "page" / "command" / "remedies.json").read_text())
 # The least number of calls of a caller of whose moments anything is said.
 FEW_CALLS = 2
-LAST_LINE = re.compile(r"refused: line (\d+), column 1: this line is no JSON")
+# The least number of open calls of which anything is said, and the number of them that are named.
+MANY_OPEN, NAMED = 3, 8
+TEXT_ENDS = re.compile(r"refused: line (\d+), column \d+: the text ends here")
 
 
 def place_of_other_byte(text):
@@ -23,10 +25,18 @@ def place_of_other_byte(text):
 
 
 def is_cut_off(words, text):
-    """Whether a record is refused for its last line, which has no end."""
+    """Whether a record of JSON lines is refused for its last line, which has no end."""
     lines = text.decode(errors="replace").rstrip().split("\n")
-    refused = LAST_LINE.match(words)
-    return bool(refused) and int(refused[1]) == len(lines) and not lines[-1].rstrip().endswith("}")
+    refused = TEXT_ENDS.match(words)
+    return bool(refused) and int(refused[1]) == len(lines) and has_lines(lines)
+
+
+def has_lines(lines):
+    """Whether the first line of a record is all of its head."""
+    try:
+        return "calls" not in json.loads(next(line for line in lines if line.strip()))
+    except (ValueError, StopIteration, TypeError):
+        return False
 
 
 def of_refusal(words, text):
@@ -82,6 +92,28 @@ def clock_warnings(calls):
     other = next(by for over, by in ended if over == end)
     later = next((by for by, (begin, _) in spans.items() if begin > end), None)
     return [] if later is None else [TABLE["of_calls"]["other_clock"].format(by=later, other=other)]
+
+
+def open_calls(calls):
+    """The first moment at which the most calls were open, and their numbers."""
+    ends = [call.get("end", float("inf")) for call in calls]
+    opened, closed, most, moment = sorted(call["begin"] for call in calls), sorted(ends), 0, 0
+    over = 0
+    for count, begin in enumerate(opened, 1):
+        while closed[over] < begin:
+            over += 1
+        if count - over > most:
+            most, moment = count - over, begin
+    return moment, [number for number, call in enumerate(calls, 1) if call["begin"] <= moment <= ends[number - 1]]
+
+
+def of_giving_up(calls):
+    """What to do if the search gave up."""
+    moment, numbers = open_calls(calls)
+    if len(numbers) < MANY_OPEN:
+        return []
+    named = ", ".join(f"call {number}" for number in numbers[:NAMED])
+    return [TABLE["of_calls"]["many_open"].format(moment=moment, count=len(numbers), calls=named)]
 
 
 def of_calls(calls):
