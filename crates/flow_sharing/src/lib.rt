@@ -41,7 +41,7 @@ pub use flow_stop::FlowStop;
 pub use flow_turns::{
     Asked, Backwards, ChainFault, Cold, Command, CoreHub, End, Event, Hub, NEVER, Policy, Report,
     ShareFault, Sharing, SharingObservation, Started, StateHub, StopSignal, WatchedHub,
-    law_turn_over_core, law_turn_over_state_core, share_in, state_in,
+    law_turn_over_core, law_turn_over_state_core, share_in, sharing_config, state_in,
 };
 pub use laws::{law_turn_over_shared_flow, law_turn_over_state_flow, law_turn_over_word_state};
 pub use shared_flow_hub::SharedFlowHub;
