@@ -63,6 +63,8 @@ word: same in 5 of 8 lines; no such call over word: suspend, first, cache
 """
 # The numbers of emitters and readers of a crowd, the number of values that its flow has room for, and that of the values that are sent.
 CROWDS = (2, 3, 0, 2000), (2, 3, 1, 2000), (2, 3, 4, 2000), (2, 3, 16, 2000), (32, 32, 4, 640)
+# The same of crowds at a flow that is read without a lock, which keeps all values.
+WORD_CROWDS = (1, 1, 2000, 2000), (2, 3, 2000, 2000), (32, 32, 640, 640)
 
 
 def text_of(file):
@@ -239,9 +241,19 @@ def test_terminal(name, what):
     os.close(terminal)
 
 
+def run_crowd(flow_stress, word, crowd):
+    emitters, readers, room, values = crowd
+    line = f"seed 7, {emitters} emitters, {readers} readers, room for {room}, {values} values: 0 wrong"
+    expect(run(flow_stress, word, "7", *map(str, crowd)), ended(0, line))
+
+
 @pytest.mark.parametrize("crowd", CROWDS, ids=lambda crowd: case_id(*crowd))
 def test_crowd(flow_stress, crowd):
     """Emitters that sleep while there is no room, and readers that sleep while there is no value, wake each other: the run ends."""
-    emitters, readers, room, values = crowd
-    line = f"seed 7, {emitters} emitters, {readers} readers, room for {room}, {values} values: 0 wrong"
-    expect(run(flow_stress, "--crowd", "7", *map(str, crowd)), ended(0, line))
+    run_crowd(flow_stress, "--crowd", crowd)
+
+
+@pytest.mark.parametrize("crowd", WORD_CROWDS, ids=lambda crowd: case_id(*crowd))
+def test_word_crowd(flow_stress, crowd):
+    """Readers that sleep while there is no value are woken by emitters, which wait for no reader: the run ends."""
+    run_crowd(flow_stress, "--word-crowd", crowd)
