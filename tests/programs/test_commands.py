@@ -29,30 +29,42 @@ TORN_DRAWN = """illegal
   |-|     ! 2  t2 compare_and_set 0 2: true  [11, 19]
 """
 ORDERED = "legal\n  2  t2 value: 0\n  1  t1 set 3: done\n  3  t2 value: 3\n"
-# A script of a shared flow and a state flow, and what it prints by the calls of states without a lock, and in all ways. Typed by hand.
+# A script of three shared flows and a state flow, and what it prints by the calls of flows of words, and in all ways. Typed by hand.
 COUNTED = """{"version": 2, "flows": {
-  "a": {"kind": "shared", "replay": 1, "extra": 0, "overflow": "suspend"}, "b": {"kind": "state", "initial": 4}}, "steps": [
+  "a": {"kind": "shared", "replay": 1, "extra": 0, "overflow": "suspend"}, "b": {"kind": "state", "initial": 4},
+  "c": {"kind": "shared", "replay": 1, "extra": 0, "overflow": "drop_oldest"},
+  "d": {"kind": "shared", "replay": 1, "extra": 0, "overflow": "drop_oldest"}}, "steps": [
     {"do": "count", "flow": "a"}, {"do": "subscribe", "flow": "b", "name": "r"}, {"do": "next", "flow": "b", "name": "r"},
-    {"do": "cache", "flow": "b"}, {"do": "count", "flow": "b"}]}
+    {"do": "cache", "flow": "b"}, {"do": "count", "flow": "b"}, {"do": "try_emit", "flow": "c", "value": 7}, {"do": "cache", "flow": "c"},
+    {"do": "subscribe", "flow": "d", "name": "s", "first": [1]}]}
 """
-COUNTED_BY_WORD = """a no such call over word: shared
+COUNTED_BY_WORD = """a no such call over word: suspend
+d no such call over word: first
 no flow
 subscribed
 value 4
 no such call over word: cache
 1
+true
+[7]
+no flow
 """
 COUNTED_IN_ALL_WAYS = """0
 subscribed
 value 4
 [4]
 1
+true
+[7]
+subscribed
 threads: same
 futures: same
-word: same in 3 of 5 lines; no such call over word: shared, cache
+word: same in 5 of 8 lines; no such call over word: suspend, first, cache
 """
 # The numbers of emitters and readers of a crowd, the number of values that its flow has room for, and that of the values that are sent.
 CROWDS = (2, 3, 0, 2000), (2, 3, 1, 2000), (2, 3, 4, 2000), (2, 3, 16, 2000), (32, 32, 4, 640)
+# The same of crowds at a flow that is read without a lock, which keeps all values.
+WORD_CROWDS = (1, 1, 2000, 2000), (2, 3, 2000, 2000), (32, 32, 640, 640)
 
 
 def text_of(file):
@@ -229,9 +241,19 @@ def test_terminal(name, what):
     os.close(terminal)
 
 
+def run_crowd(flow_stress, word, crowd):
+    emitters, readers, room, values = crowd
+    line = f"seed 7, {emitters} emitters, {readers} readers, room for {room}, {values} values: 0 wrong"
+    expect(run(flow_stress, word, "7", *map(str, crowd)), ended(0, line))
+
+
 @pytest.mark.parametrize("crowd", CROWDS, ids=lambda crowd: case_id(*crowd))
 def test_crowd(flow_stress, crowd):
     """Emitters that sleep while there is no room, and readers that sleep while there is no value, wake each other: the run ends."""
-    emitters, readers, room, values = crowd
-    line = f"seed 7, {emitters} emitters, {readers} readers, room for {room}, {values} values: 0 wrong"
-    expect(run(flow_stress, "--crowd", "7", *map(str, crowd)), ended(0, line))
+    run_crowd(flow_stress, "--crowd", crowd)
+
+
+@pytest.mark.parametrize("crowd", WORD_CROWDS, ids=lambda crowd: case_id(*crowd))
+def test_word_crowd(flow_stress, crowd):
+    """Readers that sleep while there is no value are woken by emitters, which wait for no reader: the run ends."""
+    run_crowd(flow_stress, "--word-crowd", crowd)

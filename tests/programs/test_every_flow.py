@@ -1,5 +1,5 @@
 """Each script prints the same lines over every kind of flow: `flow_play_over` plays it by the calls of flows for one thread, of handles
-in threads, of futures, and of states without a lock.
+in threads, of futures, and of flows of words, which have no lock or are read without one.
 
 The scripts are those of examples/ and of tests/cases/, whose lines were typed by hand, also with each request for memory or for a thread
 refused in turn; and random ones, whose lines `flow_play` prints. `tools/programs -k every_flow --hypothesis-profile=search` tries other and
@@ -12,7 +12,7 @@ from hypothesis import given
 from refusing import is_told, prints, refuse_each
 from running import difference, ended, expect, program, run, tries
 from scripts_strategy import scripts
-from ways import NO_CALL, NO_KINDS, NO_STEPS, WAYS, kinds_of, lines_over, lines_over_all
+from ways import LACKING, NO_CALL, WAYS, lines_over, lines_over_all, plays
 from worked_scripts import PLAYED, REFUSED, worked_scripts
 
 WORKED = worked_scripts()
@@ -34,9 +34,9 @@ def played():
     """The worked scripts that are played, each with the ways in which it makes calls of threads."""
     for name, worked in WORKED.items():
         if worked.status == PLAYED:
-            kinds = kinds_of(json.loads(worked.text))
+            script = json.loads(worked.text)
             for way in WAYS[1:]:
-                if kinds - set(NO_KINDS if way == "word" else ()):
+                if plays(way, script):
                     yield pytest.param(worked, way, id=f"{name}_{way}")
 
 
@@ -62,4 +62,4 @@ def test_random_scripts(flow_play_over, version, request):
         assert came == wanted, f"{text}\n{difference(came, wanted)}"
 
     play()
-    assert (statuses, lacking) == ({PLAYED, REFUSED}, {"", *NO_KINDS, *NO_STEPS})
+    assert (statuses, lacking) == ({PLAYED, REFUSED}, {"", *LACKING})

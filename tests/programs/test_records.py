@@ -36,7 +36,7 @@ DRAWN = {
 }
 STATUS = {"legal": 0, "illegal": 1, "refused": 2}
 # The flows that flow_stress records, and the number of records of each.
-KINDS = ("word", "state", "shared", "dropping", "rendezvous")
+KINDS = ("word", "state", "shared", "dropping", "rendezvous", "word-flow")
 SEEDS = range(10)
 
 

@@ -1,7 +1,7 @@
 """The programs with one request for memory or for a thread refused, each in turn.
 
 The player plays each script of examples/ and of tests/cases/, the drawer draws those of examples/ as SVG, as text and with their rules, and
-a crowd and a count of threads, `flow_stress` with and without a crowd, and `use_flows` are run: with the first request refused, then
+a crowd and a count of threads, `flow_stress` with crowds and without, and `use_flows` are run: with the first request refused, then
 with the second one, and so on, until a run makes no further request. Each run must print what it prints without a refusal, or only
 `out of memory`, with status 4; in place of the latter `use_flows` prints the beginning of its lines, with status 1."""
 import pytest
@@ -20,7 +20,7 @@ THREADS = {
     "crowd": (["crowd", "2", "2", "100"], ["subscriber 1 got 200 in order", "subscriber 2 got 200 in order", "emitted 200"]),
     "count": (["count", "2", "20"], ["value 40"]),
 }
-STRESS = {"flows": ["1", "4", "40"], "crowd": ["--crowd", "1", "2", "3", "1", "20"]}
+STRESS = {"flows": ["1", "4", "40"], "crowd": ["--crowd", "1", "2", "3", "1", "20"], "word_crowd": ["--word-crowd", "1", "2", "3", "20", "20"]}
 DRAWN = {"svg": [], "text": ["--text"], "explain": ["--explain"]}
 
 

@@ -7,16 +7,29 @@ from worked_scripts import PLAYED, is_refused
 # The ways that have all flows and all calls.
 WHOLE = ("one-thread", "threads", "futures")
 WAYS = (*WHOLE, "word")
-# The kinds of flows that states without a lock are not, and the steps on a state flow for which they have no call.
-NO_KINDS = ("shared", "share")
+# What flows of words do not have: sharing into a shared flow, the strategies of a shared flow, first values of a subscriber, and the steps
+# on a state flow for which they have no call.
+NO_KIND, NO_STRATEGIES, NO_KEY = "share", ("suspend", "drop_latest"), "first"
 NO_STEPS = ("cache", "reset")
+LACKING = (NO_KIND, *NO_STRATEGIES, NO_KEY, *NO_STEPS)
 NO_CALL = "no such call over word: "
 
 
-def kinds_of(script):
-    """The kinds of a script's flows."""
-    flows = script["flows"].values() if script["version"] == 2 else [script["flow"]]
-    return {flow["kind"] for flow in flows} - {"none"}
+def flows_of(script):
+    """The flows of a script by their names. The flow of version 1 has none."""
+    flows = script["flows"] if script["version"] == 2 else {"": script["flow"]}
+    return {name: flow for name, flow in flows.items() if flow["kind"] != "none"}
+
+
+def lacked_by_word(script, name, flow):
+    """What `word` lacks of a flow that is not refused, if it does not have the flow. It lacks a sharing also if that is refused."""
+    if flow["kind"] == NO_KIND:
+        return NO_KIND
+    if flow["kind"] == "shared" and flow["overflow"] in NO_STRATEGIES:
+        return flow["overflow"]
+    if any(NO_KEY in step and step.get("flow", "") == name for step in script["steps"]):
+        return NO_KEY
+    return None
 
 
 class OverWord:
@@ -27,12 +40,14 @@ class OverWord:
     def __init__(self, script, lines, answers=()):
         self.lines, self.same, self.lacking = [], 0, []
         steps, is_first = script["steps"], script["version"] == 1
-        flows = {"": script["flow"]} if is_first else script["flows"]
+        flows = flows_of(script)
         has_no_answers = is_first and is_refused(script, lines)
         heads = lines if has_no_answers else lines[: len(lines) - len(steps)]
-        self.kinds = {name: flow["kind"] for name, flow in flows.items()}
         self.refused = {"" if is_first else line.partition(" ")[0]: line for line in heads}
-        for name in sorted(self.kinds):
+        lacked = {name: lacked_by_word(script, name, flow) for name, flow in flows.items()}
+        self.lacked = {name: what for name, what in lacked.items() if what == NO_KIND or what and name not in self.refused}
+        self.states = [name for name, flow in flows.items() if flow["kind"] in ("state", "state_in")]
+        for name in sorted(flows):
             self.add_head(name)
         if not has_no_answers:
             self.add_steps(steps, lines[len(heads) :])
@@ -50,20 +65,25 @@ class OverWord:
             self.lacking.append(what)
 
     def add_head(self, name):
-        if self.kinds[name] in NO_KINDS:
-            self.lack(self.kinds[name], f"{name} " if name else "")
+        if name in self.lacked:
+            self.lack(self.lacked[name], f"{name} " if name else "")
         elif name in self.refused:
             self.add(self.refused[name])
 
     def add_steps(self, steps, answers):
         for step, answer in zip(steps, answers, strict=True):
             name = step.get("flow", "")
-            if step["do"] != "collect" and self.kinds[name] in NO_KINDS:
+            if step["do"] != "collect" and name in self.lacked:
                 self.lines.append("no flow")
-            elif step["do"] in NO_STEPS and name not in self.refused:
+            elif step["do"] in NO_STEPS and name in self.states and name not in self.refused:
                 self.lack(step["do"])
             else:
                 self.add(answer)
+
+
+def plays(way, script):
+    """Whether a way makes calls of flows for a script."""
+    return any(way != "word" or lacked_by_word(script, name, flow) is None for name, flow in flows_of(script).items())
 
 
 def lines_over(way, worked):

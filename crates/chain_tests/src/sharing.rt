@@ -7,6 +7,7 @@ mod refused_reset;
 mod shared;
 mod shared_runs;
 mod state_runs;
+mod word_flow;
 mod word_runs;
 
 pub use shared::{PUTS, STARTS, count_to};

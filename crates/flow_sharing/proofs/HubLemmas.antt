@@ -20,10 +20,9 @@ use Rattle.flow_law.specs.declared.sharing.SharingObservation.{SharingObservatio
 use Rattle.std.specs.Result.{is_ok}
 use Rattle.flow_law.specs.Tokens.{IsBusy, HasSeenMore}
 use Rattle.flow_law.specs.Promise.{Token, CallsAtOnceIn}
-use Rattle.flow_shared.specs.SharedReplies.{SharedToken}
-use Rattle.flow_sharing.specs.SeatedHub.{SeatedHub, has_emission, OnlySends, CountDoes}
-use Rattle.flow_sharing.specs.SharedFlowHub.{SharedSeats, PutBy, PollBy, CancelBy, ResetBy, SharedFlowHubDoes, SharedSays}
-use Rattle.flow_sharing.specs.StateFlowHub.{StateSeats, nothing_waits, StateFlowHubDoes, StateSays}
+use Rattle.flow_sharing.specs.SeatedHub.{SeatedHub, nothing_waits, OnlySends, CountDoes}
+use Rattle.flow_sharing.specs.SharedFlowHub.{SharedSeats, SenderToken, PutBy, PollBy, CancelBy, ResetBy, SharedFlowHubDoes, SharedSays}
+use Rattle.flow_sharing.specs.StateFlowHub.{StateSeats, StateFlowHubDoes, StateSays}
 use Rattle.flow_sharing.specs.WordHub.{WordHubDoes}
 use Rattle.flow_sharing.specs.OverThreads.{exchanges_lost, lost_at, lost_in, FollowsInTurn}
 use Rattle.flow_sharing.proofs.SeatLemmas.{seen-here, seen-busy, seen-called}
@@ -90,8 +89,8 @@ module _ {Id T S C R I : Type 0} (kind : Kind T S C R) where
 
 -- ---- a shared flow
 
-module _ {T : Type 0} (first : SharedFlowState T) where
-  put-moves : (x : T) (before after : SharedToken T) (a : Result Bool FlowFault) (emission : Option ℕ) → PutBy first x before a after emission → Moves before (lost_by a) after
+module _ {Id T : Type 0} (first : SharedFlowState T) where
+  put-moves : (x : T) (before after : SenderToken Id T) (a : Result Bool FlowFault) (emission : Option ℕ) → PutBy first x before a after emission → Moves before (lost_by a) after
   put-moves x before after (Ok false) emission does = called shared_flow first before after _ _ does.0
   put-moves x before after (Ok true) emission (number, does, is) = called shared_flow first before after _ _ does
   put-moves x before after (Err OutOfMemory) emission does = called shared_flow first before after _ _ does.0
@@ -102,41 +101,41 @@ module _ {T : Type 0} (first : SharedFlowState T) where
   put-moves x before after (Err Busy) emission does = busy before after does.0
 
   -- if nothing waits, the answer is false
-  idle-moves : (before after : SharedToken T) (a : Result Bool FlowFault) → a ≡ Ok false → after ≡ before → Moves before (lost_by a) after
+  idle-moves : (before after : SenderToken Id T) (a : Result Bool FlowFault) → a ≡ Ok false → after ≡ before → Moves before (lost_by a) after
   idle-moves before after a none is = subst (λ (b : Result Bool FlowFault). Moves before (lost_by b) after) (sym none) (stays before after is)
 
-  busy-moves : (before after : SharedToken T) (fault : FlowFault) → fault ≡ Busy → IsBusy before after → Moves before (lost_for fault) after
+  busy-moves : (before after : SenderToken Id T) (fault : FlowFault) → fault ≡ Busy → IsBusy before after → Moves before (lost_for fault) after
   busy-moves before after fault is lost = subst (λ (f : FlowFault). Moves before (lost_for f) after) (sym is) (busy before after lost)
 
-  poll-moves : (waiting : Option ℕ) (before after : SharedToken T) (a : Result Bool FlowFault) (emission : Option ℕ) → PollBy first waiting before a after emission → Moves before (lost_by a) after
+  poll-moves : (waiting : Option ℕ) (before after : SenderToken Id T) (a : Result Bool FlowFault) (emission : Option ℕ) → PollBy first waiting before a after emission → Moves before (lost_by a) after
   poll-moves None before after a emission does = idle-moves before after a does.0 does.1
   poll-moves (Some number) before after (Ok waits) emission does = called shared_flow first before after _ _ does.0
   poll-moves (Some number) before after (Err fault) emission does = busy-moves before after fault does.0 does.1
 
-  cancel-moves : (waiting : Option ℕ) (before after : SharedToken T) (a : Result Bool FlowFault) (emission : Option ℕ) → CancelBy first waiting before a after emission → Moves before (lost_by a) after
+  cancel-moves : (waiting : Option ℕ) (before after : SenderToken Id T) (a : Result Bool FlowFault) (emission : Option ℕ) → CancelBy first waiting before a after emission → Moves before (lost_by a) after
   cancel-moves None before after a emission does = idle-moves before after a does.0 does.1
   cancel-moves (Some number) before after (Ok waited) emission does = called shared_flow first before after _ _ does.0
   cancel-moves (Some number) before after (Err fault) emission does = busy-moves before after fault does.0 does.1
 
-  reset-moves : (before after : SharedToken T) (a : Result (Unit {0}) FlowFault) (emission : Option ℕ) → ResetBy first before a after emission → Moves before (lost_by a) after
+  reset-moves : (before after : SenderToken Id T) (a : Result (Unit {0}) FlowFault) (emission : Option ℕ) → ResetBy first before a after emission → Moves before (lost_by a) after
   reset-moves before after (Ok done) emission does = called shared_flow first before after _ _ does.0
   reset-moves before after (Err fault) emission does = busy-moves before after fault does.0 does.1
 
-shared-steps : {T : Type 0} (c : HubCall T) (h k : SharedSeats T) (a : HubAnswer c) → SharedFlowHubDoes c h a k → Steps h (lost_by a) k
+shared-steps : {Id T : Type 0} (c : HubCall T) (h k : SharedSeats Id T) (a : HubAnswer c) → SharedFlowHubDoes c h a k → Steps h (lost_by a) k
 shared-steps counts h k a does = count-steps shared_flow h k a does
 shared-steps (puts x) h k a does = sending-steps h k (lost_by a) does.1 (put-moves h.flow.first x h.sending k.sending a k.emission does.0)
 shared-steps polls h k a does = sending-steps h k (lost_by a) does.1 (poll-moves h.flow.first h.emission h.sending k.sending a k.emission does.0)
 shared-steps cancels h k a does = sending-steps h k (lost_by a) does.1 (cancel-moves h.flow.first h.emission h.sending k.sending a k.emission does.0)
 shared-steps resets h k a does = sending-steps h k (lost_by a) does.1 (reset-moves h.flow.first h.sending k.sending a k.emission does.0)
 
-shared-watches : {T : Type 0} (c : HubCall T) (h k : SharedSeats T) (a : HubAnswer c) → c ≢ counts → SharedFlowHubDoes c h a k → k.watching ≡ h.watching
+shared-watches : {Id T : Type 0} (c : HubCall T) (h k : SharedSeats Id T) (a : HubAnswer c) → c ≢ counts → SharedFlowHubDoes c h a k → k.watching ≡ h.watching
 shared-watches counts h k a other does = absurd (other refl)
-shared-watches (puts x) h k a other does = ap (λ (s : SharedSeats _). s.watching) does.1
-shared-watches polls h k a other does = ap (λ (s : SharedSeats _). s.watching) does.1
-shared-watches cancels h k a other does = ap (λ (s : SharedSeats _). s.watching) does.1
-shared-watches resets h k a other does = ap (λ (s : SharedSeats _). s.watching) does.1
+shared-watches (puts x) h k a other does = ap (λ (s : SharedSeats _ _). s.watching) does.1
+shared-watches polls h k a other does = ap (λ (s : SharedSeats _ _). s.watching) does.1
+shared-watches cancels h k a other does = ap (λ (s : SharedSeats _ _). s.watching) does.1
+shared-watches resets h k a other does = ap (λ (s : SharedSeats _ _). s.watching) does.1
 
-module _ {T : Type 0} (first : SharedFlowState T) (h k : SharedSeats T) where
+module _ {Id T : Type 0} (first : SharedFlowState T) (h k : SharedSeats Id T) where
   put-sends : (x : T) (a : Result Bool FlowFault) (emission : Option ℕ) → PutBy first x h.sending a k.sending emission → Silent SharedSays h k ⊎ SendsOne SharedSays (puts x) h k
   put-sends x (Ok false) emission does = inr (_, refl, does.0.0.1.grows)
   put-sends x (Ok true) emission (number, does, is) = inr (_, refl, does.0.1.grows)
@@ -145,28 +144,28 @@ module _ {T : Type 0} (first : SharedFlowState T) (h k : SharedSeats T) where
   put-sends x (Err NeedsBuffer) emission does = inr (_, refl, does.0.0.1.grows)
   put-sends x (Err Exhausted) emission does = inr (_, refl, does.0.0.1.grows)
   put-sends x (Err Unsupported) emission does = inr (_, refl, does.0.0.1.grows)
-  put-sends x (Err Busy) emission does = inl (ap (λ (t : SharedToken T). t.knows.seen) does.0)
+  put-sends x (Err Busy) emission does = inl (ap (λ (t : SenderToken Id T). t.knows.seen) does.0)
 
   poll-sends : (waiting : Option ℕ) (a : Result Bool FlowFault) (emission : Option ℕ) → PollBy first waiting h.sending a k.sending emission → Silent SharedSays h k ⊎ SendsOne SharedSays polls h k
-  poll-sends None a emission does = inl (ap (λ (t : SharedToken T). t.knows.seen) does.1)
+  poll-sends None a emission does = inl (ap (λ (t : SenderToken Id T). t.knows.seen) does.1)
   poll-sends (Some number) (Ok waits) emission does = inr (_, (number, refl), does.0.0.1.grows)
-  poll-sends (Some number) (Err fault) emission does = inl (ap (λ (t : SharedToken T). t.knows.seen) does.1)
+  poll-sends (Some number) (Err fault) emission does = inl (ap (λ (t : SenderToken Id T). t.knows.seen) does.1)
 
   cancel-sends : (waiting : Option ℕ) (a : Result Bool FlowFault) (emission : Option ℕ) → CancelBy first waiting h.sending a k.sending emission → Silent SharedSays h k ⊎ SendsOne SharedSays cancels h k
-  cancel-sends None a emission does = inl (ap (λ (t : SharedToken T). t.knows.seen) does.1)
+  cancel-sends None a emission does = inl (ap (λ (t : SenderToken Id T). t.knows.seen) does.1)
   cancel-sends (Some number) (Ok waited) emission does = inr (_, (number, refl), does.0.0.1.grows)
-  cancel-sends (Some number) (Err fault) emission does = inl (ap (λ (t : SharedToken T). t.knows.seen) does.1)
+  cancel-sends (Some number) (Err fault) emission does = inl (ap (λ (t : SenderToken Id T). t.knows.seen) does.1)
 
-shared-sends : {T : Type 0} (c : HubCall T) (h k : SharedSeats T) (a : HubAnswer c) → SharedFlowHubDoes c h a k → Sends SharedSays c a h k
-shared-sends counts h k a does = ap (λ (s : SharedSeats _). s.sending.knows.seen) does.1
+shared-sends : {Id T : Type 0} (c : HubCall T) (h k : SharedSeats Id T) (a : HubAnswer c) → SharedFlowHubDoes c h a k → Sends SharedSays c a h k
+shared-sends counts h k a does = ap (λ (s : SharedSeats _ _). s.sending.knows.seen) does.1
 shared-sends (puts x) h k a does = put-sends h.flow.first h k x a k.emission does.0
 shared-sends polls h k a does = poll-sends h.flow.first h k h.emission a k.emission does.0
 shared-sends cancels h k a does = cancel-sends h.flow.first h k h.emission a k.emission does.0
 shared-sends resets h k (Ok done) does = (_, refl, does.0.0.0.1.grows)
-shared-sends resets h k (Err fault) does = ap (λ (t : SharedToken _). t.knows.seen) does.0.1
+shared-sends resets h k (Err fault) does = ap (λ (t : SenderToken _ _). t.knows.seen) does.0.1
 
-pub shared-by-seats : (T : Type 0) → BySeats (shared_flow {T = T}) SharedSays (HubStep SharedFlowHubDoes has_emission)
-shared-by-seats T = record {
+pub shared-by-seats : (Id T : Type 0) (waits : SharedSeats Id T → Bool) → BySeats (shared_flow {T = T}) SharedSays (HubStep SharedFlowHubDoes waits)
+shared-by-seats Id T waits = record {
   loses = λ c h k a told. (shared-steps c h k a told.0).0;
   counted = λ h k a told. told.0.0;
   watches = λ c h k a other told. shared-watches c h k a other told.0;

@@ -22,11 +22,12 @@ use Rattle.flow_law.specs.StateFlow.{state_flow}
 use Rattle.flow_law.specs.Steps.{Takes}
 use Rattle.flow_law.specs.Tokens.{HasSeenMore}
 use Rattle.flow_law.specs.TurnMeaning.{HasAccount, BetweenTurns, resets_at, HadCommand, IsCommand, TurnMeans, TurnResets}
-use Rattle.flow_sharing.specs.SeatedHub.{SeatedHub, has_emission}
+use Rattle.flow_sharing.specs.SeatedHub.{SeatedHub, has_emission, nothing_waits}
 use Rattle.flow_sharing.specs.SharedFlowHub.{SharedSeats, SharedFlowHubDoes, SharedSays}
-use Rattle.flow_sharing.specs.StateFlowHub.{StateSeats, StateFlowHubDoes, StateSays, nothing_waits}
+use Rattle.flow_sharing.specs.StateFlowHub.{StateSeats, StateFlowHubDoes, StateSays}
 use Rattle.flow_sharing.specs.WordHub.{WordHubDoes}
 use Rattle.flow_word.specs.Tokens.{WordId}
+use Rattle.flow_word_shared.specs.Tokens.{WordFlowId}
 
 -- ---- lost exchanges
 
@@ -112,9 +113,16 @@ pub record TurnBySeats {Id T S C R I : Type 0} (kind : Kind T S C R) (Says : I �
 -- A turn over a shared flow for several threads.
 abbrev pub LawTurnOverSharedFlow : Type 0 → Type 0
 LawTurnOverSharedFlow T =
-    (started : Started) (now : ℕ) (seen : List SharingObservation) (s : SharingState T) (old new : ChainAndHub T (SharedSeats T)) (turned : Turned T) →
+    (started : Started) (now : ℕ) (seen : List SharingObservation) (s : SharingState T) (old new : ChainAndHub T (SharedSeats TableId T)) (turned : Turned T) →
     Takes (CallDoes (HubStep SharedFlowHubDoes has_emission)) (turn_steps started now seen s) old turned new →
     TurnBySeats shared_flow SharedSays (HubStep SharedFlowHubDoes has_emission) started now seen s old turned new
+
+-- A turn over a shared flow that is read without a lock, in which no emission waits.
+abbrev pub LawTurnOverWordFlow : Type 0 → Type 0
+LawTurnOverWordFlow T =
+    (started : Started) (now : ℕ) (seen : List SharingObservation) (s : SharingState T) (old new : ChainAndHub T (SharedSeats WordFlowId T)) (turned : Turned T) →
+    Takes (CallDoes (HubStep SharedFlowHubDoes nothing_waits)) (turn_steps started now seen s) old turned new →
+    TurnBySeats shared_flow SharedSays (HubStep SharedFlowHubDoes nothing_waits) started now seen s old turned new
 
 -- A turn over a state flow for several threads.
 abbrev pub LawTurnOverStateFlow : Type 0 → Type 0

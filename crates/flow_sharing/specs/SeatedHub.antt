@@ -1,5 +1,5 @@
 -- What contracts see of a hub that emits into a flow for several threads. Begin with `SeatedHub`.
-use Rattle.std.specs.Prelude.{◌≡◌, ℕ, Bool, Option, None, is_some, Result}
+use Rattle.std.specs.Prelude.{◌≡◌, ℕ, Bool, false, Option, None, is_some, Result}
 use Rattle.flow_law.specs.declared.fault.FlowFault.{FlowFault}
 use Rattle.flow_law.specs.declared.history.Said.{Said}
 use Rattle.flow_law.specs.Growth.{makes, child}
@@ -40,6 +40,10 @@ module _ {Id S E I : Type 0} where
   -- the hub has an emission that waited at the last put or poll
   abbrev pub has_emission : SeatedHub Id S E I → Bool
   has_emission hub = is_some hub.emission
+
+  -- no emission of the hub ever waits
+  abbrev pub nothing_waits : SeatedHub Id S E I → Bool
+  nothing_waits hub = false
 
   -- only the sending seat and the emission change
   abbrev pub OnlySends : SeatedHub Id S E I → SeatedHub Id S E I → Type 0

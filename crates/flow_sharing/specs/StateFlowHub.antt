@@ -14,10 +14,6 @@ use Rattle.flow_law.specs.Promise.{said, Token, CallsAtOnceIn}
 use Rattle.flow_law.specs.Tokens.{Origin, IsBusy}
 use Rattle.flow_sharing.specs.SeatedHub.{SeatedHub, OnlySends, CountDoes}
 
--- nothing waits in a state flow
-abbrev pub nothing_waits : {Id S E I : Type 0} → SeatedHub Id S E I → Bool
-nothing_waits hub = false
-
 -- a hub of a state flow; `Id` identifies a flow
 abbrev pub StateSeats : Type 0 → Type 0 → Type 0
 StateSeats Id T = SeatedHub Id (StateFlowState T) (Said (StateCall T) (StateReply T)) T

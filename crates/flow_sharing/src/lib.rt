@@ -6,8 +6,8 @@
 //!
 //! # Which hub
 //! `share_in` and `state_in` make a sharing with a flow for one thread of its own (`CoreHub`, `StateHub`); callers use
-//! `subscribe`, `next` and `unsubscribe` of the sharing. A `SharedFlowHub`, `StateFlowHub` or `WordHub` borrows a flow
-//! for several threads: other callers subscribe to the flow, and emit into it, while the sharing runs.
+//! `subscribe`, `next` and `unsubscribe` of the sharing. A `SharedFlowHub`, `StateFlowHub`, `WordFlowHub` or `WordHub`
+//! borrows a flow for several threads: other callers subscribe to the flow, and emit into it, while the sharing runs.
 //!
 //! # A flow with other callers
 //! A hub of a borrowed flow has two seats: one counts the subscribers, the other one emits. None of its calls waits. If
@@ -16,7 +16,7 @@
 //!
 //! # A run
 //! `sharing.run(rt, &stop)` takes the turns on the calling thread. It sleeps while there is nothing to do, and ends
-//! when a `FlowStop` or a `WordStop` asks it to. `run_to_end` ends with the chain.
+//! when a `FlowStop` or a `WordStop` asks it to. `run_to_end` ends with the chain. A `WordFlowHub` has no run.
 //!
 //! # What a hub promises
 //! Contracts see a hub as its flow, its two seats, the number of its emission, and what a reset sets (`SeatedHub`).
@@ -34,6 +34,7 @@ mod laws;
 mod sender;
 mod shared_flow_hub;
 mod state_flow_hub;
+mod word_flow_hub;
 mod word_hub;
 mod word_stop;
 
@@ -41,10 +42,14 @@ pub use flow_stop::FlowStop;
 pub use flow_turns::{
     Asked, Backwards, ChainFault, Cold, Command, CoreHub, End, Event, Hub, NEVER, Policy, Report,
     ShareFault, Sharing, SharingObservation, Started, StateHub, StopSignal, WatchedHub,
-    law_turn_over_core, law_turn_over_state_core, share_in, state_in,
+    law_turn_over_core, law_turn_over_state_core, share_in, sharing_config, state_in,
 };
-pub use laws::{law_turn_over_shared_flow, law_turn_over_state_flow, law_turn_over_word_state};
+pub use laws::{
+    law_turn_over_shared_flow, law_turn_over_state_flow, law_turn_over_word_flow,
+    law_turn_over_word_state,
+};
 pub use shared_flow_hub::SharedFlowHub;
 pub use state_flow_hub::StateFlowHub;
+pub use word_flow_hub::WordFlowHub;
 pub use word_hub::WordHub;
 pub use word_stop::WordStop;

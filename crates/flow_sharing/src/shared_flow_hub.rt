@@ -29,21 +29,16 @@ pub struct SharedFlowHub<'a, T: FlowValue, A: Allocator + Copy = Global> {
 }
 
 impl<'a, T: FlowValue, A: Allocator + Copy> Model for SharedFlowHub<'a, T, A> {
-    ghost use Rattle.std.specs.Prelude.{◌≡◌};
-    ghost use Rattle.flow_sharing.specs.SharedFlowHub.{SharedSeats};
+    ghost use Rattle.atomic_table.specs.Seated.{TableId};
+    ghost use Rattle.flow_sharing.specs.SharedFlowHub.{SharedSeats, shared_seats};
 
-    ghost Value = { SharedSeats T };
+    ghost Value = { SharedSeats TableId T };
 
     ghost use Rattle.flow_sharing.specs.SeatedHub.{IsOf};
     ghost use Rattle.flow_sharing.specs.Sender.{sender_token, sender_emission};
 
-    ghost view = { λ h. record {
-      flow = h.flow.now;
-      watching = h.watching;
-      sending = sender_token h.sending;
-      emission = sender_emission h.sending;
-      initial = tt;
-    } };
+    ghost view = { λ h. shared_seats h.flow.now h.watching (sender_token h.sending)
+        (sender_emission h.sending) };
 
     ghost invariant = { λ h. IsOf h.watching h.flow.now × IsOf (sender_token h.sending) h.flow.now };
 }

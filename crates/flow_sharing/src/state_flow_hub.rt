@@ -65,7 +65,8 @@ impl<'a, T: FlowValue, A: Allocator + Copy> StateFlowHub<'a, T, A> {
 impl<'a, T: FlowValue, A: Allocator + Copy> Hub for StateFlowHub<'a, T, A> {
     type Item = T;
 
-    ghost use Rattle.flow_sharing.specs.StateFlowHub.{nothing_waits, StateFlowHubDoes};
+    ghost use Rattle.flow_sharing.specs.SeatedHub.{nothing_waits};
+    ghost use Rattle.flow_sharing.specs.StateFlowHub.{StateFlowHubDoes};
 
     ghost waits = { nothing_waits };
 

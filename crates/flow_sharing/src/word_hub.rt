@@ -60,7 +60,7 @@ impl<'a, T: Packed> WordHub<'a, T> {
 impl<'a, T: Packed> Hub for WordHub<'a, T> {
     type Item = T;
 
-    ghost use Rattle.flow_sharing.specs.StateFlowHub.{nothing_waits};
+    ghost use Rattle.flow_sharing.specs.SeatedHub.{nothing_waits};
     ghost use Rattle.flow_sharing.specs.WordHub.{WordHubDoes};
 
     ghost waits = { nothing_waits };

@@ -75,6 +75,8 @@ pub enum RecordedKind {
     Dropping,
     /// A shared flow without a buffer.
     Rendezvous,
+    /// A shared flow that is read without a lock.
+    WordFlow,
 }
 
 /// The task of the program.
@@ -130,6 +132,7 @@ fn kind_of(word: &str) -> Option<RecordedKind> {
         "shared" => Some(RecordedKind::Shared),
         "dropping" => Some(RecordedKind::Dropping),
         "rendezvous" => Some(RecordedKind::Rendezvous),
+        "word-flow" => Some(RecordedKind::WordFlow),
         _ => None,
     }
 }

@@ -84,6 +84,18 @@ where
     run(rt, alloc, first, job, size)
 }
 
+/// Does a job at a new shared flow that is read without a lock. Returns None if memory or a thread is refused.
+fn at_word_flow<R>(rt: &R, alloc: Global, config: Config, job: Job, size: Size) -> Option<Outcome>
+where
+    R: Threads + Wait + Clock + RandomSource + AllocGlobal + Sync,
+{
+    let Ok((flow, seat)) = WordFlow::new(alloc, config) else {
+        return None;
+    };
+    let first = WordFlowSubscriber::new(flow.emitter(seat));
+    run(rt, alloc, first, job, size)
+}
+
 /// Runs half or a quarter of the threads at one flow after another. Returns None if memory or a thread is refused.
 pub fn stress<R>(rt: &R, alloc: Global, size: Size) -> Option<Found>
 where
@@ -135,17 +147,13 @@ where
         threads: crowd.readers.saturating_add(crowd.emitters),
         rounds: crowd.values,
     };
-    let Ok((flow, seat)) = WordFlow::new(alloc, config) else {
-        return None;
-    };
-    let first = WordFlowSubscriber::new(flow.emitter(seat));
-    Some(run(rt, alloc, first, Job::Crowd(crowd), size)?.found)
+    Some(at_word_flow(rt, alloc, config, Job::Crowd(crowd), size)?.found)
 }
 
 fn config_of(kind: RecordedKind) -> Config {
     match kind {
         RecordedKind::Shared => Config::new().replay(1).extra(2),
-        RecordedKind::Dropping => Config::new()
+        RecordedKind::Dropping | RecordedKind::WordFlow => Config::new()
             .replay(1)
             .extra(1)
             .overflow(Overflow::DropOldest),
@@ -162,6 +170,7 @@ where
     let recorded = match kind {
         RecordedKind::Word => at_word(rt, alloc, Job::Record, size),
         RecordedKind::State => at_state(rt, alloc, Job::Record, size),
+        RecordedKind::WordFlow => at_word_flow(rt, alloc, config_of(kind), Job::Record, size),
         _ => at_shared(rt, alloc, config_of(kind), Job::Record, size),
     };
     Some(recorded?.turns)

@@ -130,7 +130,7 @@ fn tell_usage(rt: &HostRuntime) -> io::Result<u8> {
     println!(rt; "       flow_stress --crowd SEED EMITTERS READERS CAPACITY VALUES")?;
     println!(rt; "       flow_stress --word-crowd SEED EMITTERS READERS CAPACITY VALUES")?;
     println!(rt;
-        "       flow_stress --record word|state|shared|dropping|rendezvous SEED THREADS ROUNDS"
+        "       flow_stress --record word|state|shared|dropping|rendezvous|word-flow SEED THREADS ROUNDS"
     )?;
     Ok(REFUSED)
 }

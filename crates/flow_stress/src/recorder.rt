@@ -65,7 +65,7 @@ fn words_of(kind: RecordedKind) -> &'static str {
         RecordedKind::Word | RecordedKind::State => "\"kind\": \"state\", \"initial\": 0",
         RecordedKind::Shared =>
             "\"kind\": \"shared\", \"replay\": 1, \"extra\": 2, \"overflow\": \"suspend\"",
-        RecordedKind::Dropping => {
+        RecordedKind::Dropping | RecordedKind::WordFlow => {
             "\"kind\": \"shared\", \"replay\": 1, \"extra\": 1, \"overflow\": \"drop_oldest\""
         }
         RecordedKind::Rendezvous => {

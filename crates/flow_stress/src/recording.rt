@@ -68,6 +68,19 @@ pub fn call_of_state(number: u32) -> Call {
     }
 }
 
+/// Returns the call of a shared flow that a number stands for. No other call emits the value `fresh`.
+pub fn call_of_shared(number: u32, fresh: u64) -> Call {
+    match number % 12 {
+        0 | 1 => Call::TryEmit(fresh),
+        2 | 3 => Call::Emit(fresh),
+        4 => Call::SubscriptionCount,
+        5 => Call::ReplayCache,
+        6 => Call::ResetReplayCache,
+        7 => Call::Unsubscribe,
+        _ => Call::Next,
+    }
+}
+
 impl Call {
     fn name(self) -> &'static str {
         match self {
@@ -93,6 +106,14 @@ impl Answer {
         match next {
             Some(value) => Answer::Value(value),
             None => Answer::Empty,
+        }
+    }
+
+    /// Returns the answer for a replay cache of at most one value.
+    pub fn of_cache(cache: &[u64]) -> Answer {
+        match cache.first() {
+            Some(value) => Answer::Cache(*value),
+            None => Answer::EmptyCache,
         }
     }
 

@@ -7,7 +7,7 @@ use crate::exchanging::exchange_all;
 use crate::found::Found;
 use crate::reading::read_all;
 use crate::recorder::record_all;
-use crate::recording::{Answer, Call};
+use crate::recording::{Answer, Call, call_of_shared};
 use crate::subscriber::Subscriber;
 use flow_core::SharedCore;
 use flow_shared::{Emitter, SendEnd};
@@ -38,10 +38,7 @@ fn replay_cache<R: Wait>(rt: &R, emitter: &mut Emitter<'_, u64>) -> Option<Answe
     let Ok(cache) = emitter.replay_cache(rt) else {
         return None;
     };
-    Some(match cache.as_slice().first() {
-        Some(value) => Answer::Cache(*value),
-        None => Answer::EmptyCache,
-    })
+    Some(Answer::of_cache(cache.as_slice()))
 }
 
 fn reset_replay_cache<R: Wait>(rt: &R, emitter: &mut Emitter<'_, u64>) -> Answer {
@@ -78,15 +75,7 @@ impl Caller for Subscriber<'_, SharedCore<u64>> {
 
 impl Recorded for Subscriber<'_, SharedCore<u64>> {
     fn choose(number: u32, fresh: u64) -> Call {
-        match number % 12 {
-            0 | 1 => Call::TryEmit(fresh),
-            2 | 3 => Call::Emit(fresh),
-            4 => Call::SubscriptionCount,
-            5 => Call::ReplayCache,
-            6 => Call::ResetReplayCache,
-            7 => Call::Unsubscribe,
-            _ => Call::Next,
-        }
+        call_of_shared(number, fresh)
     }
 
     fn is_subscribed(&self) -> bool {

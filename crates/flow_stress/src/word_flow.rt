@@ -1,9 +1,12 @@
-//! A thread at a shared flow that is read without a lock: one of a crowd that emits, or one that receives all values.
+//! A thread at a shared flow that is read without a lock: one of a crowd that emits, one that receives all values, or one
+//! that makes calls that are recorded.
 use crate::arguments::{CrowdSize, Job};
-use crate::crew::{Caller, Host, Turn};
+use crate::crew::{Caller, Host, Recorded, Turn};
 use crate::crowd::{LIMIT, pause_at_random};
 use crate::found::{Found, NOTHING};
 use crate::order::{Gets, Order, value_of};
+use crate::recorder::record_all;
+use crate::recording::{Answer, Call, call_of_shared};
 use flow_word_shared::{WordEmitter, WordFlowReader};
 use rand_core::utils::NextWord;
 use rand_pcg::Pcg32;
@@ -24,6 +27,43 @@ impl<'a> WordFlowSubscriber<'a> {
         WordFlowSubscriber {
             emitter,
             reader: None,
+        }
+    }
+}
+
+impl WordFlowSubscriber<'_> {
+    /// Does the work of one thread of a crowd. Returns None if an emission is refused.
+    fn work_in_crowd<R: Wait + Clock>(
+        &mut self,
+        rt: &R,
+        size: CrowdSize,
+        turn: &mut Turn,
+    ) -> Option<Found> {
+        match self.reader.take() {
+            Some(mut reader) => Some(receive_all(rt, &mut reader, size.values, &mut turn.dice)),
+            None => {
+                let number = turn.number.saturating_sub(size.readers);
+                emit_all(rt, &mut self.emitter, number, size, &mut turn.dice)
+            }
+        }
+    }
+
+    /// Subscribes, reads or unsubscribes. Returns None if that was refused, or if there is no subscription.
+    fn make_of_reader<R: Wait>(&mut self, rt: &R, call: Call) -> Option<Answer> {
+        match call {
+            Call::Subscribe => {
+                self.reader = Some(self.emitter.subscribe(rt).ok()?);
+                Some(Answer::Done)
+            }
+            Call::Next => match &mut self.reader {
+                Some(reader) => Some(Answer::of(reader.next(rt))),
+                None => None,
+            },
+            Call::Unsubscribe => {
+                let _emitter = self.reader.take()?.unsubscribe();
+                Some(Answer::Done)
+            }
+            _ => None,
         }
     }
 }
@@ -83,17 +123,12 @@ impl Caller for WordFlowSubscriber<'_> {
         Some(made)
     }
 
-    /// Does the work of one thread of a crowd; another job is none.
-    fn work<R: Host>(&mut self, rt: &R, turn: &mut Turn, _clock: &AtomicU64) -> Option<Found> {
-        let Job::Crowd(size) = turn.job else {
-            return None;
-        };
-        match self.reader.take() {
-            Some(mut reader) => Some(receive_all(rt, &mut reader, size.values, &mut turn.dice)),
-            None => {
-                let number = turn.number.saturating_sub(size.readers);
-                emit_all(rt, &mut self.emitter, number, size, &mut turn.dice)
-            }
+    /// Does the work of a thread of a crowd, or makes calls that are recorded; another job is none.
+    fn work<R: Host>(&mut self, rt: &R, turn: &mut Turn, clock: &AtomicU64) -> Option<Found> {
+        match turn.job {
+            Job::Crowd(size) => self.work_in_crowd(rt, size, turn),
+            Job::Record => record_all(rt, self, turn, clock),
+            _ => None,
         }
     }
 
@@ -101,5 +136,35 @@ impl Caller for WordFlowSubscriber<'_> {
     fn check<R: Wait>(&mut self, _rt: &R, found: &mut Found) -> Option<()> {
         found.check(self.emitter.subscription_count() == 0);
         Some(())
+    }
+}
+
+impl Recorded for WordFlowSubscriber<'_> {
+    fn choose(number: u32, fresh: u64) -> Call {
+        call_of_shared(number, fresh)
+    }
+
+    fn is_subscribed(&self) -> bool {
+        self.reader.is_some()
+    }
+
+    fn make<R: Wait + Clock>(&mut self, rt: &R, call: Call) -> Option<Answer> {
+        match call {
+            Call::TryEmit(value) => Some(Answer::Truth(self.emitter.try_emit(rt, value).ok()?)),
+            Call::Emit(value) => {
+                self.emitter.emit(rt, value).ok()?;
+                Some(Answer::Done)
+            }
+            Call::SubscriptionCount => Some(Answer::Number(self.emitter.subscription_count())),
+            Call::ReplayCache => {
+                let cache = self.emitter.replay_cache(rt).ok()?;
+                Some(Answer::of_cache(cache.as_slice()))
+            }
+            Call::ResetReplayCache => {
+                self.emitter.reset_replay_cache(rt);
+                Some(Answer::Done)
+            }
+            _ => self.make_of_reader(rt, call),
+        }
     }
 }

@@ -65,6 +65,6 @@ pub use hub::Hub;
 pub use laws::{law_turn_over_core, law_turn_over_state_core};
 pub use policy::{Backwards, Policy};
 pub use run::{StopSignal, WatchedHub};
-pub use share::{share_in, state_in};
+pub use share::{share_in, sharing_config, state_in};
 pub use sharing::Sharing;
 pub use state_hub::StateHub;

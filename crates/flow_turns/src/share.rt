@@ -21,6 +21,19 @@ use std::alloc::Allocator;
 /// The least number of values that a shared chain keeps for slow subscribers.
 const LEAST_BUFFER: u32 = 64;
 
+/// Returns the configuration of the shared flow that `share_in` makes. It replays `replay` values to new subscribers, and
+/// buffers the greater of `replay` and 64. An emission waits for a subscriber that is a full buffer behind.
+pub fn sharing_config(replay: u32, limit: u64) -> Config
+    ensures { result ≡ share_config replay limit }
+{
+    Config {
+        replay,
+        extra: replay.max(LEAST_BUFFER) - replay,
+        overflow: Overflow::Suspend,
+        limit,
+    }
+}
+
 /// Shares a chain through a new shared flow (`shareIn`). The flow replays `replay` values to new subscribers, and
 /// buffers the greater of `replay` and 64. The chain waits for a subscriber that is a full buffer behind. The flow
 /// issues at most `limit` numbers.
@@ -48,13 +61,7 @@ pub fn share_in<C: Cold, A: Allocator + Copy>(
     ensures between { IfOk result (λ sharing. IsBetweenTurns C.whole C.rest sharing) }
     ensures quiet { IfOk result (λ sharing. IsQuietHub C.whole C.rest is_hub_waiting sharing) }
 {
-    let config = Config {
-        replay,
-        extra: replay.max(LEAST_BUFFER) - replay,
-        overflow: Overflow::Suspend,
-        limit,
-    };
-    match SharedCore::new(alloc, config) {
+    match SharedCore::new(alloc, sharing_config(replay, limit)) {
         Ok(core) => Ok(Sharing::new(chain, started, CoreHub::new(core))),
         Err(fault) => Err(ShareFault::Flow(fault)),
     }

@@ -1,7 +1,7 @@
 //! Plays flow scripts by the calls of flows for threads, and writes the lines of `flow_script`.
 //!
 //! A `Way` says by which calls: those of cores (`one-thread`), of handles (`threads`), of futures (`futures`) or of
-//! states without a lock (`word`). Each of them but the first gives each subscriber and each emission of a flow a
+//! flows of words (`word`). Each of them but the first gives each subscriber and each emission of a flow a
 //! thread of its own, so the tokens of a flow are used by many threads.
 //!
 //! # Turns
@@ -10,8 +10,8 @@
 //! flows of a script do not affect each other, and are played one after the other.
 //!
 //! # Tokens
-//! A `Token` makes one call at a time. `MakesTokens` makes the tokens of a flow: `shared_tokens`, `state_tokens` and
-//! `word_tokens` have handles, `seated`, `future_emission`, `future_reader` and `state_future` futures, and `drivers`
+//! A `Token` makes one call at a time. `MakesTokens` makes the tokens of a flow: `shared_tokens`, `state_tokens`,
+//! `word_tokens` and `word_flow_tokens` have handles, `seated`, `future_emission`, `future_reader` and `state_future` futures, and `drivers`
 //! the sharings of chains.
 //!
 //! # Lines
@@ -27,9 +27,14 @@ mod call;
 mod company;
 mod comparing;
 mod drivers;
+mod flow_calls;
 mod flows;
 mod future_emission;
 mod future_reader;
+mod over_shared;
+mod over_state;
+mod over_word_flow;
+mod over_word_state;
 mod playing;
 mod polled;
 mod program;
@@ -43,6 +48,7 @@ mod state_tokens;
 mod token;
 mod verdict;
 mod way;
+mod word_flow_tokens;
 mod word_tokens;
 mod worker;
 

@@ -7,7 +7,8 @@ ghost use Rattle.script_over.specs.Over.{IsPlayable, RefusesAlike};
 
 use crate::call::Call;
 use crate::company::{PlacedCall, PlacedSaid};
-use crate::flows::{PlayedCalls, play_flow};
+use crate::flow_calls::PlayedCalls;
+use crate::flows::play_flow;
 use crate::reading::{lines_in, script_in};
 use crate::said::{NamedHead, Said, Told, add_told};
 use crate::token::Host;

@@ -21,7 +21,7 @@ pub enum Head {
     Made,
     /// The flow was refused.
     Refused(Answer),
-    /// The way has no such flow, whose kind has this name in scripts.
+    /// The way does not have the flow, which needs what has this name in scripts.
     NoCall(&'static str),
 }
 
@@ -47,7 +47,7 @@ pub struct Told {
     pub steps: Vec<Said>,
 }
 
-/// Adds the line of a call that a way does not have.
+/// Adds the line of a call, or of what a flow needs, that a way does not have.
 pub fn add_no_call(text: &mut String, way: Way, call: &str) -> Result<(), AllocError> {
     let way = way.word();
     writeln!(text, "no such call over {way}: {call}")
@@ -71,9 +71,9 @@ pub fn add_head(text: &mut String, way: Way, named: &NamedHead) -> Result<(), Al
             add_name(text, &named.name)?;
             add_answer(text, answer)
         }
-        Head::NoCall(kind) => {
+        Head::NoCall(needed) => {
             add_name(text, &named.name)?;
-            add_no_call(text, way, kind)
+            add_no_call(text, way, needed)
         }
     }
 }

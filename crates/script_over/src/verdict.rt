@@ -21,7 +21,7 @@ pub struct Verdict {
     pub lines: usize,
     /// How many of them the way has, up to the first that differs.
     pub compared: usize,
-    /// The calls and the kinds of flows that the way does not have, each once.
+    /// The calls that the way does not have, and what the flows need that it does not have, each once.
     pub lacking: Vec<&'static str>,
     pub difference: Option<Difference>,
 }
@@ -83,7 +83,7 @@ impl Verdict {
         head: &Head,
     ) -> Result<(), AllocError> {
         match (refused, head) {
-            (_, Head::NoCall(kind)) => self.lack(kind),
+            (_, Head::NoCall(needed)) => self.lack(needed),
             (None, Head::Made) => Ok(()),
             (Some(refused), Head::Refused(answer)) => {
                 self.compare(alloc, line, &refused.answer, answer)

@@ -9,7 +9,8 @@ pub enum Way {
     Threads,
     /// By polls of futures, and by the other calls of handles.
     Futures,
-    /// By the calls of handles of states without a lock.
+    /// By the calls of handles of flows whose values are words: states without a lock, and shared flows that are read
+    /// without one.
     Word,
 }
 

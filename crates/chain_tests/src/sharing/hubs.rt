@@ -6,7 +6,8 @@ use flow_core::{SharedCore, StateCore};
 use flow_law::{Config, Next};
 use flow_sharing::{
     CoreHub, Hub, StateHub, law_turn_over_core, law_turn_over_shared_flow,
-    law_turn_over_state_core, law_turn_over_state_flow, law_turn_over_word_state,
+    law_turn_over_state_core, law_turn_over_state_flow, law_turn_over_word_flow,
+    law_turn_over_word_state,
 };
 use std::alloc::Global;
 use std::process::Abort;
@@ -17,6 +18,7 @@ fn laws_hold_of_whole_numbers() {
     law_turn_over_state_core::<i64, Global>();
     law_turn_over_shared_flow::<i64>();
     law_turn_over_state_flow::<i64>();
+    law_turn_over_word_flow::<i64>();
     law_turn_over_word_state::<i64>();
 }
 

@@ -6,4 +6,4 @@ use Rattle.flow_sharing.proofs.laws.law_turn_over_shared_flow.Goals as goal
 
 pub returns : goal.returns
 returns g c = λ started now seen s old new turned h.
-    turn-by-seats shared_flow SharedSays _ (shared-by-seats g.row.T.Denot) started now seen s old new turned h
+    turn-by-seats shared_flow SharedSays _ (shared-by-seats _ g.row.T.Denot _) started now seen s old new turned h
