@@ -1,7 +1,8 @@
 //! A script that was read and checked.
 
 use flow_law::{Config, Started};
-use script_chain_format::Build;
+use script_chain_format::{Build, text_at};
+use serde_json::Value;
 
 /// A step on a flow. An emission or a subscriber is given by its place: how many of its kind were introduced before it
 /// for that flow.
@@ -78,4 +79,36 @@ pub struct Script {
     /// In the order in which they are made.
     pub flows: Vec<NamedFlow>,
     pub steps: Vec<Step>,
+}
+
+/// A checked script with the data of the text that it was read from. The text has what a played script no longer needs:
+/// the names of its steps, and the words of its flows and chains.
+#[derive(Drop)]
+pub struct ReadScript {
+    pub script: Script,
+    pub value: Value,
+}
+
+/// A step as it is written. Its texts are those of the script's text.
+#[derive(Clone, Copy)]
+pub struct StepText<'a> {
+    pub value: &'a Value,
+}
+
+impl<'a> StepText<'a> {
+    /// Returns what the step does: the text of its key `do`.
+    pub fn word(self) -> &'a str {
+        text_at(self.value, "do").unwrap_or("")
+    }
+
+    /// Returns the name of the subscriber or the emission that the step introduces or acts on, or an empty text if it
+    /// has none.
+    pub fn name(self) -> &'a str {
+        text_at(self.value, "name").unwrap_or("")
+    }
+
+    /// Returns the name of the flow that the step acts on, or an empty text if it names none.
+    pub fn flow(self) -> &'a str {
+        text_at(self.value, "flow").unwrap_or("")
+    }
 }
