@@ -1,5 +1,6 @@
 -- The cases of steps, for what the player keeps.
-use Rattle.std.proofs.Common.{◌≡◌, ℤ, Global, Option, Some, None, refl, ap, ◌∙◌}
+use Rattle.std.proofs.Common.{◌≡◌, ◌≢◌, ℤ, Global, Option, Some, None, if◌then◌else◌, refl, sym, ap, ◌∙◌}
+use Rattle.std.specs.Ordering.{int_eq}
 use Rattle.flow_core.specs.declared.shared.SharedCore.{SharedCore}
 use Rattle.flow_core.specs.declared.state.StateCore.{StateCore}
 use Rattle.flow_cold.specs.declared.script_chain.ScriptChain.{ScriptChain}
@@ -11,13 +12,28 @@ use Rattle.flow_turns.specs.declared.sharing.Sharing.{Sharing}
 use Rattle.flow_turns.specs.declared.state_hub.StateHub.{StateHub}
 use Rattle.script_format.specs.declared.script.FlowStep.{FlowStep}
 use Rattle.flow_script.specs.declared.case.Case.{Case}
-use Rattle.flow_script.specs.declared.case.Case.TheVariants.{Plain}
+use Rattle.flow_script.specs.declared.case.Case.TheVariants.{Plain, Stores, Conflates, Keeps}
 use Rattle.flow_script.specs.declared.player.Player.TheVariants.{Shared, State, Share, StateIn}
 use Rattle.flow_script.specs.declared.row.PlayedFlow.{PlayedFlow as Kept}
 use Rattle.flow_script.specs.Cases.{shared_case, state_case, player_case, place_case}
 use Rattle.flow_script.specs.Players.{ShowsPlayer}
 use Rattle.flow_script.specs.Rows.{ShowsFlow, ShowsPlace}
 use Rattle.flow_script.specs.ScriptMeaning.{Player, PlayedFlow, shared, state, share, state_in}
+use Rattle.flow_script.proofs.StateLemmas.{same, differs}
+
+-- ---- values of state flows
+
+pub conflates : (v x : ℤ) → v ≡ x → Conflates ≡ (if int_eq v x then Conflates else Stores)
+conflates v x e = ap (λ t. if t then Conflates else Stores) (sym (same v x e))
+
+pub stores : (v x : ℤ) → v ≢ x → Stores ≡ (if int_eq v x then Conflates else Stores)
+stores v x ne = ap (λ t. if t then Conflates else Stores) (sym (differs v x ne))
+
+pub compares : (v expect : ℤ) (case taken : Case) → v ≡ expect → case ≡ taken → case ≡ (if int_eq v expect then taken else Keeps)
+compares v expect case taken e is = is ∙ ap (λ t. if t then taken else Keeps) (sym (same v expect e))
+
+pub keeps : (v expect : ℤ) (taken : Case) → v ≢ expect → Keeps ≡ (if int_eq v expect then taken else Keeps)
+keeps v expect taken ne = ap (λ t. if t then taken else Keeps) (sym (differs v expect ne))
 
 -- ---- players
 

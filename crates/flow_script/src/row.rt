@@ -5,9 +5,8 @@ ghost use Rattle.script_format.specs.Heads.{NamedHead};
 ghost use Rattle.flow_script.specs.declared.row.PlayedFlow.{PlayedFlow as Kept};
 ghost use Rattle.flow_script.specs.Players.{MakesPlayer, ShowsPlayer};
 ghost use Rattle.flow_script.specs.Refusals.{IsTold, refused_answer};
-ghost use Rattle.flow_script.specs.Cases.{player_case, step_case};
-ghost use Rattle.flow_script.specs.Cases as cases;
-ghost use Rattle.flow_script.specs.Rows.{AddsFlow, BeginsScript, FollowsPlace, FollowsRow, ShowsFlow, ShowsPlace, ShowsRow};
+ghost use Rattle.flow_script.specs.Cases.{player_case};
+ghost use Rattle.flow_script.specs.Rows.{AddsFlow, BeginsScript, FollowsPlace, FollowsRow, ShowsFlow};
 ghost use Rattle.flow_script.specs.Said.{all_not_made};
 ghost use Rattle.flow_script.specs.ScriptMeaning as meaning;
 
@@ -93,7 +92,7 @@ impl PlayedFlow {
     }
 
     /// Returns the case of a step on the flow.
-    fn case_of(&self, step: FlowStep) -> Case
+    pub fn case_of(&self, step: FlowStep) -> Case
         ensures { (flow : meaning.PlayedFlow) → ShowsFlow self.now flow →
             result ≡ player_case step flow.player }
     {
@@ -268,39 +267,6 @@ fn subscribe_at(
         return place_subscribe(&mut row[place], first);
     }
     Ok(Answer::NoFlow)
-}
-
-/// Returns the case of a step on what is at a place.
-fn place_case(place: &Option<PlayedFlow>, step: FlowStep) -> Case
-    ensures { (flow : Option meaning.PlayedFlow) → ShowsPlace place.now flow →
-        result ≡ cases.place_case step flow }
-{
-    match place {
-        Some(flow) => flow.case_of(step),
-        None => Case::Plain,
-    }
-}
-
-/// Returns the case of a step on the flow at a place.
-fn case_at(row: &[Option<PlayedFlow>], place: usize, step: FlowStep) -> Case
-    ensures { (flows : List (Option meaning.PlayedFlow)) → ShowsRow row.now flows →
-        result ≡ cases.place_case step (meaning.flow_at place flows) }
-{
-    if place < row.len() {
-        return place_case(&row[place], step);
-    }
-    Case::Plain
-}
-
-/// Returns the case of a step of a script, before it is played.
-pub fn row_case(row: &[Option<PlayedFlow>], step: &Step) -> Case
-    ensures { (flows : List (Option meaning.PlayedFlow)) → ShowsRow row.now flows →
-        result ≡ step_case (action_of step.now) flows }
-{
-    match step {
-        Step::Flow(place, step) => case_at(row, *place, *step),
-        Step::SubscribeWith(_, _) | Step::Collect(_) => Case::Plain,
-    }
 }
 
 /// Plays a step of a script.

@@ -8,9 +8,10 @@ ghost use Rattle.flow_script.specs.Traces.{trace_result, trace_seen};
 
 use crate::answer::{Answer, Answers};
 use crate::asking::Asking;
+use crate::flow_watch::Watch;
 use crate::row::{PlayedFlow, begin};
 use crate::trace::{FlowHead, FlowTrace, Seen, Trace};
-use crate::watching::{Watch, last_lags, watched_step};
+use crate::watching::{last_lags, watched_step};
 use script_chain_format::version_of;
 use script_format::{NamedFlow, ReadScript, Script, ScriptFault, Step, read_with_text};
 use serde_json::Value;

@@ -8,11 +8,11 @@
 //! character that JSON would escape: names, words and rules have letters, digits, spaces and a few signs.
 
 use crate::frame::Frame;
+use crate::json_picture::{Places, add_picture};
+use crate::json_words::{add_comma, add_key, add_number, add_text, add_value};
 use crate::page::Page;
 use crate::played::{Played, PlayedStep};
 use crate::script_words::{add_step, items_of};
-use crate::svg::{Column, LaneName};
-use crate::widths::add_label;
 use flow_law::Next;
 use flow_script::{Act, After, Answer, Case, FlowStep, FlowTrace, Moved, number_at, text_at};
 use json_places::{Extent, Spot, Text};
@@ -36,40 +36,6 @@ pub fn step_extents(
     match text.member(root, "steps")? {
         Some(steps) => text.items(steps),
         None => Ok(Vec::new(alloc)),
-    }
-}
-
-/// Adds a comma and a key.
-fn add_key(page: &mut Page, key: &str) {
-    page.push_str(",\"");
-    page.push_str(key);
-    page.push_str("\":");
-}
-
-fn add_number(page: &mut Page, key: &str, number: u64) {
-    add_key(page, key);
-    page.push_number(number);
-}
-
-fn add_text(page: &mut Page, key: &str, text: &str) {
-    add_key(page, key);
-    page.push('"');
-    page.push_str(text);
-    page.push('"');
-}
-
-/// Adds a value of a script as a text.
-fn add_value(page: &mut Page, key: &str, value: i64) {
-    add_key(page, key);
-    page.push('"');
-    page.push_number(value);
-    page.push('"');
-}
-
-/// Adds a comma before each entry of a list except the first.
-fn add_comma(page: &mut Page, index: usize) {
-    if index > 0 {
-        page.push(',');
     }
 }
 
@@ -292,51 +258,6 @@ pub fn add_json_before(
         page.push_str("{\"line\":\"");
     }
     words.push_str(page.finish()?.as_str())
-}
-
-/// Adds a text that may have quotes and line feeds.
-fn add_escaped(page: &mut Page, text: &str) {
-    page.push('"');
-    for letter in text.chars() {
-        match letter {
-            '"' => page.push_str("\\\""),
-            '\n' => page.push_str("\\n"),
-            _ => page.push(letter),
-        }
-    }
-    page.push('"');
-}
-
-/// Where the parts of a picture are: the columns of its steps, and the names of its lanes.
-pub type Places<'p, 'a> = (&'p [Column], &'p [LaneName<'a>]);
-
-/// Adds a picture as SVG, and where its parts are.
-fn add_picture(page: &mut Page, svg: &str, places: Places<'_, '_>) {
-    let (columns, names) = places;
-    page.push_str(",\n\"picture\":{\"columns\":[");
-    for (index, column) in columns.iter().enumerate() {
-        add_comma(page, index);
-        page.push_str("{\"step\":");
-        page.push_number(column.step);
-        add_number(page, "x", column.x as u64);
-        add_number(page, "y", column.y as u64);
-        add_number(page, "width", column.width as u64);
-        add_number(page, "bottom", column.bottom as u64);
-        page.push('}');
-    }
-    page.push_str("],\n\"lanes\":[");
-    for (index, name) in names.iter().enumerate() {
-        add_comma(page, index);
-        page.push_str("{\"y\":");
-        page.push_number(name.y);
-        add_key(page, "name");
-        page.push('"');
-        add_label(page, name.label, " < ");
-        page.push_str("\"}");
-    }
-    page.push_str("],\n\"svg\":");
-    add_escaped(page, svg);
-    page.push('}');
 }
 
 /// Returns the frame of a script's trace, around the entries of its lines, with a picture if there is one.

@@ -30,6 +30,8 @@ mod form;
 mod frame;
 mod growing;
 mod json;
+mod json_picture;
+mod json_words;
 mod layout;
 mod lines;
 mod listing;
