@@ -13,6 +13,25 @@ fn is_unsubscription(act: Act) -> bool {
     matches!(act, Act::OnFlow(_, FlowStep::Unsubscribe(_)))
 }
 
+/// Returns the only subscriber that a step may move: its own.
+fn moved_alone(seen: &Seen) -> Option<usize> {
+    match seen.act {
+        Act::OnFlow(_, FlowStep::Next(place)) => Some(place),
+        Act::OnFlow(_, FlowStep::Unsubscribe(place)) => Some(place),
+        Act::OnFlow(_, FlowStep::Subscribe) => seen.name,
+        Act::SubscribesWith(_, _) => seen.name,
+        _ => None,
+    }
+}
+
+/// Returns whether a step may move all subscribers: it cancels an emission, or drops the oldest value.
+fn may_move_all(seen: &Seen) -> bool {
+    match seen.act {
+        Act::OnFlow(_, FlowStep::Cancel(_)) => true,
+        _ => seen.loss.is_some(),
+    }
+}
+
 impl Watch {
     /// Returns what a subscriber has received after a step.
     fn progress(&self, flow: &PlayedFlow, seen: &Seen, answer: &Answer, place: usize) -> Progress {
@@ -65,34 +84,22 @@ impl Watch {
         Ok(())
     }
 
-    /// Records the subscribers that a step moved. An emission that drops the oldest value, and one that is cancelled,
-    /// may move all.
+    /// Records the subscribers that a step moved.
     pub(super) fn move_all(
         &mut self,
         flow: &PlayedFlow,
         seen: &mut Seen,
         answer: &Answer,
     ) -> Result<(), AllocError> {
-        match (seen.act, seen.name) {
-            (
-                Act::OnFlow(_, FlowStep::Subscribe | FlowStep::Next(_) | FlowStep::Unsubscribe(_))
-                | Act::SubscribesWith(_, _),
-                Some(place),
-            ) => self.move_one(flow, seen, answer, place),
-            (Act::OnFlow(_, FlowStep::Cancel(_)), _) => {
-                for place in 0..self.subscribers.len() {
-                    self.move_one(flow, seen, answer, place)?;
-                }
-                Ok(())
-            }
-            _ if seen.loss.is_some() => {
-                for place in 0..self.subscribers.len() {
-                    self.move_one(flow, seen, answer, place)?;
-                }
-                Ok(())
-            }
-            _ => Ok(()),
+        if let Some(place) = moved_alone(seen) {
+            return self.move_one(flow, seen, answer, place);
         }
+        if may_move_all(seen) {
+            for place in 0..self.subscribers.len() {
+                self.move_one(flow, seen, answer, place)?;
+            }
+        }
+        Ok(())
     }
 
     /// Records the emissions that no longer wait.
