@@ -11,7 +11,7 @@ import jsonschema
 import pytest
 
 from built import top
-from running import case_id, ended, examples, run
+from running import case_id, examples, run
 from scripts import all_cases, text_of, versions
 
 PLAYED = 0
