@@ -21,5 +21,5 @@ pub use name_form::is_name;
 pub use read::{MOST_BYTES, MOST_STEPS, read_script, read_with_text};
 pub use read_flows::MOST_FLOWS;
 pub use read_step::MOST_FIRST;
-pub use script::{FlowStep, NamedFlow, ReadScript, Script, ScriptFlow, Step, StepText};
+pub use script::{FlowStep, NamedFlow, ReadScript, Script, ScriptFlow, Step};
 pub use script_chain_format::{Build, ScriptFault};

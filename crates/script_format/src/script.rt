@@ -1,7 +1,7 @@
 //! A script that was read and checked.
 
 use flow_law::{Config, Started};
-use script_chain_format::{Build, text_at};
+use script_chain_format::Build;
 use serde_json::Value;
 
 /// A step on a flow. An emission or a subscriber is given by its place: how many of its kind were introduced before it
@@ -87,28 +87,4 @@ pub struct Script {
 pub struct ReadScript {
     pub script: Script,
     pub value: Value,
-}
-
-/// A step as it is written. Its texts are those of the script's text.
-#[derive(Clone, Copy)]
-pub struct StepText<'a> {
-    pub value: &'a Value,
-}
-
-impl<'a> StepText<'a> {
-    /// Returns what the step does: the text of its key `do`.
-    pub fn word(self) -> &'a str {
-        text_at(self.value, "do").unwrap_or("")
-    }
-
-    /// Returns the name of the subscriber or the emission that the step introduces or acts on, or an empty text if it
-    /// has none.
-    pub fn name(self) -> &'a str {
-        text_at(self.value, "name").unwrap_or("")
-    }
-
-    /// Returns the name of the flow that the step acts on, or an empty text if it names none.
-    pub fn flow(self) -> &'a str {
-        text_at(self.value, "flow").unwrap_or("")
-    }
 }
