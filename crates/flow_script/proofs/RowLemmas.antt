@@ -74,7 +74,7 @@ follows-past play i kept answer past is row shows =
 pub next_answers : (row : List (Option PlayedFlow)) (step : Step) (before after : List Step) (old new : List Given) (answer : Given) (all : List Answer) → before ≡ step ∷ after → new ≡ old ++ answer ∷ []
     → as_answer answer ≡ (turn (action_of step) row).result → map as_answer old ++ answers_from row (actions_of before) ≡ all
     → map as_answer new ++ answers_from (turn (action_of step) row).state (actions_of after) ≡ all
-next_answers row step before after old new told all is pushed answered so_far =
+next_answers row step before after old new answer all is pushed answered so_far =
     let t = turn (action_of step) row in
     let rest = answers_from t.state (actions_of after) in
     ap (λ l. map as_answer l ++ rest) pushed ∙ ap (λ l. l ++ rest) (map-append as_answer old (answer ∷ [])) ∙ append_assoc (map as_answer old) (as_answer answer ∷ []) rest

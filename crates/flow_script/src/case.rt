@@ -32,7 +32,7 @@ pub enum Case {
 }
 
 /// Returns the case of an emission.
-fn emission_case(case: EmitCase) -> Case
+fn case_of_emission(case: EmitCase) -> Case
     ensures { result ≡ meaning.as_case (case_of case) }
 {
     match case {
@@ -50,7 +50,8 @@ pub fn shared_case(core: &SharedCore<i64>, step: FlowStep) -> Case
         result ≡ meaning.shared_case step s }
 {
     match step {
-        FlowStep::TryEmit(_) | FlowStep::Emit(_) => emission_case(core.emission_case()),
+        FlowStep::TryEmit(_) => case_of_emission(core.emission_case()),
+        FlowStep::Emit(_) => case_of_emission(core.emission_case()),
         _ => Case::Plain,
     }
 }
@@ -91,7 +92,8 @@ pub fn state_case(core: &StateCore<i64>, step: FlowStep) -> Case
     ensures { result ≡ meaning.state_case step core.now }
 {
     match step {
-        FlowStep::TryEmit(value) | FlowStep::Set(value) => stored_case(core, value),
+        FlowStep::TryEmit(value) => stored_case(core, value),
+        FlowStep::Set(value) => stored_case(core, value),
         FlowStep::CompareAndSet(expect, update) => compared_case(core, expect, update),
         _ => Case::Plain,
     }

@@ -122,7 +122,8 @@ impl Player {
         match self {
             Player::Shared(core) => shared_case(core, step),
             Player::State(core) => state_case(core, step),
-            Player::Share(_) | Player::StateIn(_) => Case::Plain,
+            Player::Share(_) => Case::Plain,
+            Player::StateIn(_) => Case::Plain,
         }
     }
 
