@@ -3,7 +3,7 @@
 use crate::parts::Parts;
 use crate::picture::{Label, Lane, Mark, Picture};
 use crate::widths::{head_width, labels_width, mark_width};
-use flow_script::Told;
+use flow_script::Seen;
 use serde_json::Value;
 use std::alloc::{AllocError, Global};
 
@@ -32,7 +32,7 @@ pub struct Cell<'a> {
 #[derive(Clone, Copy)]
 pub struct Axis<'a> {
     pub steps: &'a [Value],
-    pub told: &'a [Told],
+    pub seen: &'a [Seen],
 }
 
 impl<'a> Axis<'a> {
@@ -40,13 +40,13 @@ impl<'a> Axis<'a> {
     pub fn none() -> Self {
         Axis {
             steps: &[],
-            told: &[],
+            seen: &[],
         }
     }
 
     /// Returns the moment of the turn in a column.
     fn moment(&self, column: usize) -> Option<u64> {
-        self.told.get(column)?.seen.at
+        self.seen.get(column)?.act.moment()
     }
 
     /// Returns the step of a column with this width.

@@ -60,19 +60,52 @@ fn add_front(page: &mut Page, script: &Value, width: usize, height: usize) {
     add_heads(page, script);
 }
 
+/// The column of a step, in pixels.
+#[derive(Clone, Copy)]
+pub struct Column {
+    /// The number of the step, from 1.
+    pub step: usize,
+    /// Where the column begins.
+    pub x: usize,
+    /// The line on which the number of the step is written.
+    pub y: usize,
+    pub width: usize,
+    /// The bottom of the lanes below the number.
+    pub bottom: usize,
+}
+
+/// The name of a lane, and the line on which it is written, in pixels.
+#[derive(Clone, Copy)]
+pub struct LaneName<'a> {
+    pub y: usize,
+    pub label: Label<'a>,
+}
+
+/// A picture as SVG, and where its parts are.
+#[derive(Drop)]
+pub struct SvgPicture<'a> {
+    pub frame: Frame,
+    pub columns: Vec<Column>,
+    pub names: Vec<LaneName<'a>>,
+}
+
 /// The text after the lines of a script: the end of the description, and the elements that were drawn so far, with the
 /// width and the height that they need.
 #[derive(Drop)]
-struct Canvas {
+struct Canvas<'a> {
     alloc: Global,
     page: Page,
     width: usize,
     height: usize,
     /// Where the next column begins.
     x: usize,
+    columns: Vec<Column>,
+    /// How many of the columns are in bands that have ended.
+    ended: usize,
+    names: Vec<LaneName<'a>>,
 }
 
-impl Canvas {
+impl<'a> Canvas<'a> {
     /// Adds a line of words. They have no character that SVG would interpret.
     fn add_words(&mut self, words: &str) {
         let y = self.height.saturating_add(22);
@@ -85,9 +118,9 @@ impl Canvas {
     }
 
     /// Adds the flows, and the lines of those that were refused.
-    fn add_heads(&mut self, script: &Value, played: Played<'_>) {
+    fn add_heads(&mut self, played: Played<'_>) {
         let mut heads = Page::new(self.alloc);
-        add_all_heads(&mut heads, script, played);
+        add_all_heads(&mut heads, played);
         match heads.finish() {
             Ok(heads) => {
                 for head in heads.as_str().lines() {
@@ -102,8 +135,28 @@ impl Canvas {
     fn add_number(&mut self, numbered: Numbered<'_>) {
         let x = pixels(1).saturating_add(self.x);
         let y = self.height.saturating_add(40);
-        self.x = self.x.saturating_add(pixels(numbered.width));
+        let width = pixels(numbered.width);
+        self.x = self.x.saturating_add(width);
         add_step_head(&mut self.page, numbered, x, y);
+        let column = Column {
+            step: numbered.number,
+            x,
+            y: y.saturating_add(14),
+            width,
+            bottom: 0,
+        };
+        if self.columns.push(column).is_err() {
+            self.page.fail();
+        }
+    }
+
+    /// Ends a band of this width: the lanes below its columns end here.
+    fn end_band(&mut self, width: usize) {
+        self.width = self.width.max(pixels(width).saturating_add(MARGIN));
+        for place in self.ended..self.columns.len() {
+            self.columns[place].bottom = self.height;
+        }
+        self.ended = self.columns.len();
     }
 
     /// Adds a collection in words.
@@ -117,8 +170,11 @@ impl Canvas {
     }
 
     /// Adds the label of a lane, and begins its columns after labels of this width.
-    fn add_name(&mut self, label: Label<'_>, width: usize) {
+    fn add_name(&mut self, label: Label<'a>, width: usize) {
         let y = self.height.saturating_add(LANE / 2 + 5);
+        if self.names.push(LaneName { y, label }).is_err() {
+            self.page.fail();
+        }
         self.x = pixels(width);
         begin_text(&mut self.page, "a", 8, y);
         add_label(&mut self.page, label, " &lt; ");
@@ -137,7 +193,7 @@ impl Canvas {
         );
     }
 
-    fn add_part(&mut self, part: Part<'_>) {
+    fn add_part(&mut self, part: Part<'a>) {
         match part {
             Part::Numbers(width) => self.x = pixels(width),
             Part::Number(numbered) => self.add_number(numbered),
@@ -145,15 +201,13 @@ impl Canvas {
             Part::Name(label, width) => self.add_name(label, width),
             Part::Cell(cell) => self.add_cell(cell),
             Part::EndLane => self.height = self.height.saturating_add(LANE),
-            Part::EndBand(width) => {
-                self.width = self.width.max(pixels(width).saturating_add(MARGIN));
-            }
+            Part::EndBand(width) => self.end_band(width),
             Part::Collection(step, chain) => self.add_collection(step, chain),
         }
     }
 
     /// Adds the parts, if there was memory for them.
-    fn add_parts(&mut self, parts: Result<Vec<Part<'_>>, AllocError>) {
+    fn add_parts(&mut self, parts: Result<Vec<Part<'a>>, AllocError>) {
         match parts {
             Ok(parts) => {
                 for part in parts.as_slice() {
@@ -172,20 +226,22 @@ impl Canvas {
     }
 
     /// Adds all that is drawn of a script.
-    fn add_all(&mut self, script: &Value, played: Played<'_>) {
+    fn add_all(&mut self, played: Played<'a>) {
         self.page.push_str(STYLE);
-        self.add_heads(script, played);
-        self.add_parts(parts_of(self.alloc, script, played));
+        self.add_heads(played);
+        self.add_parts(parts_of(self.alloc, played));
         self.add_legend();
     }
 
-    /// Returns the text before the lines of a script, and the text after them.
-    fn frame(self, script: &Value) -> Result<Frame, AllocError> {
+    /// Returns the picture: the text before the lines of a script and the text after them, and where its parts are.
+    fn finish(self, script: &Value) -> Result<SvgPicture<'a>, AllocError> {
         let Canvas {
             alloc,
             page,
             width,
             height,
+            columns,
+            names,
             ..
         } = self;
         let mut front = Page::new(alloc);
@@ -193,7 +249,11 @@ impl Canvas {
         let (Ok(before), Ok(after)) = (front.finish(), page.finish()) else {
             return Err(AllocError);
         };
-        Ok(Frame { before, after })
+        Ok(SvgPicture {
+            frame: Frame { before, after },
+            columns,
+            names,
+        })
     }
 }
 
@@ -203,15 +263,18 @@ role=\"img\" aria-labelledby=\"title lines\">
 <title id=\"title\">A flow script, step by step</title>
 <desc id=\"lines\">";
 
-/// Returns the frame of a script with its pictures as SVG, around the lines.
-pub fn svg_frame(alloc: Global, script: &Value, played: Played<'_>) -> Result<Frame, AllocError> {
+/// Returns the pictures of a script as SVG, around the lines.
+pub fn svg_picture<'a>(alloc: Global, played: Played<'a>) -> Result<SvgPicture<'a>, AllocError> {
     let mut canvas = Canvas {
         alloc,
         page: Page::new(alloc),
         width: LEAST_WIDTH,
         height: 12,
         x: 0,
+        columns: Vec::new(alloc),
+        ended: 0,
+        names: Vec::new(alloc),
     };
-    canvas.add_all(script, played);
-    canvas.frame(script)
+    canvas.add_all(played);
+    canvas.finish(&played.traced.value)
 }

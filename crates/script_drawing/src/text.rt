@@ -11,7 +11,6 @@ use crate::steps::add_all_heads;
 use crate::widths::{
     add_head, add_label, add_note, add_words, brackets, head_width, label_width, mark_width,
 };
-use serde_json::Value;
 use std::alloc::{AllocError, Global};
 
 /// What the marks mean.
@@ -93,11 +92,11 @@ fn add_parts(page: &mut Page, parts: Result<Vec<Part<'_>>, AllocError>) {
 }
 
 /// Returns the frame of a script with its pictures as text, before the lines.
-pub fn text_frame(alloc: Global, script: &Value, played: Played<'_>) -> Result<Frame, AllocError> {
+pub fn text_frame(alloc: Global, played: Played<'_>) -> Result<Frame, AllocError> {
     let mut page = Page::new(alloc);
-    add_all_heads(&mut page, script, played);
+    add_all_heads(&mut page, played);
     page.push('\n');
-    add_parts(&mut page, parts_of(alloc, script, played));
+    add_parts(&mut page, parts_of(alloc, played));
     page.push_str(LEGEND);
     Frame::before_lines(alloc, page)
 }

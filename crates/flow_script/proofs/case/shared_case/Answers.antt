@@ -1,0 +1,9 @@
+use Rattle.std.proofs.Common.{ap, ◌∙◌}
+use Rattle.flow_script.specs.Cases.{as_case}
+use Rattle.flow_script.proofs.case.shared_case.Goals as goal
+
+pub returns-in-TryEmit : goal.returns-in-TryEmit
+returns-in-TryEmit c = λ s stands. c.case_of_emission.ensures ∙ ap as_case (c.emission_case.ensures.documented s stands)
+
+pub returns-in-Emit : goal.returns-in-Emit
+returns-in-Emit c = λ s stands. c.case_of_emission.ensures ∙ ap as_case (c.emission_case.ensures.documented s stands)
