@@ -1,4 +1,4 @@
-"""The trace of each script of examples/ and cases/: what `flow_draw --json` prints.
+"""The trace of each script of examples/ and tests/cases/: what `flow_draw --json` prints.
 
 It follows docs/trace.schema.json. It has the lines that flow_play prints, the rules that `flow_draw --explain` prints, and the bytes of
 each step. What it says of a flow after each step is what the player answers when it is asked: it plays the steps up to there, and then
@@ -10,9 +10,9 @@ import re
 import jsonschema
 import pytest
 
-from built import top
+from wumsnair_tools.built import top
 from running import case_id, examples, run
-from scripts import all_cases, text_of, versions
+from wumsnair_tools.scripts import all_cases, text_of, versions
 
 PLAYED = 0
 SCHEMA = jsonschema.Draft202012Validator(json.loads((top / "docs" / "trace.schema.json").read_text()))

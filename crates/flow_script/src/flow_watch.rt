@@ -7,7 +7,8 @@ mod values;
 use crate::answer::Answer;
 use crate::asking::Asking;
 use crate::row::PlayedFlow;
-use crate::trace::{Act, After, FlowHead, FlowTrace, Progress, Seen};
+use crate::case::Case;
+use crate::trace::{Act, After, Changes, FlowHead, FlowTrace, Progress};
 use script_format::FlowStep;
 use std::alloc::{AllocError, Global};
 
@@ -16,6 +17,14 @@ use std::alloc::{AllocError, Global};
 struct Queued {
     emission: Option<usize>,
     value: i64,
+}
+
+/// A step that was played.
+#[derive(Clone, Copy)]
+pub struct Taken<'a> {
+    pub act: Act,
+    pub case: Case,
+    pub answer: &'a Answer,
 }
 
 /// What is known of a flow beside what the flow itself shows.
@@ -90,21 +99,21 @@ impl Watch {
     pub fn add_step(
         &mut self,
         flow: &PlayedFlow,
-        seen: &mut Seen,
-        answer: &Answer,
+        taken: &Taken<'_>,
+        changes: &mut Changes,
     ) -> Result<(), AllocError> {
-        seen.name = self.name_of(seen.act);
-        self.add_values(answer, seen)?;
-        self.move_all(flow, seen, answer)?;
-        self.end_waits(flow, seen)?;
+        changes.name = self.name_of(taken.act);
+        self.add_values(taken, changes)?;
+        self.move_all(flow, taken, changes)?;
+        self.end_waits(flow, taken.act, changes)?;
         let emitted = flow.emission_count().unwrap_or(0);
-        seen.lag = match seen.act {
+        changes.lag = match taken.act {
             Act::OnFlow(_, FlowStep::Subscribe | FlowStep::Next(_)) | Act::SubscribesWith(_, _) => {
-                flow.lag(seen.name.unwrap_or(0))
+                flow.lag(changes.name.unwrap_or(0))
             }
             _ => None,
         };
-        seen.after = Some(After {
+        changes.after = Some(After {
             emitted,
             held: flow.held(),
             cached: self.cached(emitted),

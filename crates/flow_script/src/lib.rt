@@ -69,7 +69,7 @@ pub use subscriber_names::SubscriberNames;
 pub use telling::{
     OUT_OF_MEMORY, REFUSED, TRANSFER_FAILED, line_of, tell, tell_arguments, tell_fault, tell_memory,
 };
-pub use trace::{Act, After, FlowHead, FlowTrace, Loss, Moved, Progress, Seen, Trace};
+pub use trace::{Act, After, Changes, FlowHead, FlowTrace, Loss, Moved, Progress, Seen, Trace};
 pub use tracing::{TracedScript, trace_of};
 pub use transfer::{read_all, write_all};
 pub use watched::Watched;

@@ -14,7 +14,7 @@ pub struct SubscriberNames<'a> {
 
 /// Returns the flow for which a step introduces a subscriber.
 fn introduces(seen: &Seen) -> Option<usize> {
-    match (seen.act, seen.name) {
+    match (seen.act, seen.changes.name) {
         (Act::OnFlow(flow, FlowStep::Subscribe) | Act::SubscribesWith(flow, _), Some(_)) => {
             Some(flow)
         }

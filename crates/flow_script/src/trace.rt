@@ -91,6 +91,12 @@ pub struct Seen {
     pub act: Act,
     /// The case of the documented flow that the step took.
     pub case: Case,
+    pub changes: Changes,
+}
+
+/// What a step changed.
+#[derive(Drop)]
+pub struct Changes {
     /// The place of the name that the step introduces or acts on, among those of its kind for its flow.
     pub name: Option<usize>,
     /// How many values the step emitted, or `None` if its flow is not a shared flow. A step that makes room emits

@@ -7,10 +7,10 @@ ghost use Rattle.flow_script.specs.ScriptMeaning as meaning;
 
 use crate::answer::Answer;
 use crate::case::Case;
-use crate::flow_watch::Watch;
+use crate::flow_watch::{Taken, Watch};
 use crate::row::{PlayedFlow, row_step};
 use crate::step_case::row_case;
-use crate::trace::{Act, Loss, Seen};
+use crate::trace::{Act, Changes, Loss, Seen};
 use script_format::{FlowStep, ScriptFault, Step};
 use std::alloc::{AllocError, Global};
 
@@ -42,23 +42,18 @@ fn loss_of(alloc: Global, flow: &PlayedFlow) -> Result<Option<Loss>, AllocError>
     Ok(Some(Loss { value, losers }))
 }
 
-/// Returns what is known of a step before it is played.
+/// Returns what is known of a step's changes before it is played: what it will drop.
 fn foreseen(
     alloc: Global,
     row: &[Option<PlayedFlow>],
-    step: &Step,
+    act: Act,
     case: Case,
-) -> Result<Seen, AllocError>
-    ensures { IfOk result (λ seen. seen.case ≡ case) }
-{
-    let act = act_of(step);
+) -> Result<Changes, AllocError> {
     let loss = match flow_at(row, act.flow()) {
         Some(flow) if case == Case::DropsOldest => loss_of(alloc, flow)?,
         _ => None,
     };
-    Ok(Seen {
-        act,
-        case,
+    Ok(Changes {
         name: None,
         emitted: None,
         lag: None,
@@ -70,32 +65,30 @@ fn foreseen(
     })
 }
 
-/// Completes what is seen of a step after it was played.
+/// Completes the changes of a step after it was played.
 fn complete(
     row: &[Option<PlayedFlow>],
     watches: &mut [Watch],
+    taken: &Taken<'_>,
     before: Option<u64>,
-    answer: &Answer,
-    seen: &mut Seen,
-) -> Result<(), AllocError>
-    ensures { seen.new.case ≡ seen.old.case }
-{
-    let Some(place) = seen.act.flow() else {
+    changes: &mut Changes,
+) -> Result<(), AllocError> {
+    let Some(place) = taken.act.flow() else {
         return Ok(());
     };
     let Some(flow) = flow_at(row, Some(place)) else {
         return Ok(());
     };
-    seen.emitted = match (before, flow.emission_count()) {
+    changes.emitted = match (before, flow.emission_count()) {
         (Some(before), Some(after)) => Some(after.saturating_sub(before)),
         _ => None,
     };
-    if seen.emitted == Some(0) {
+    if changes.emitted == Some(0) {
         // The flow refused the value: it has issued all its numbers.
-        seen.loss = None;
+        changes.loss = None;
     }
     match watches.get_mut(place) {
-        Some(watch) => watch.add_step(flow, seen, answer),
+        Some(watch) => watch.add_step(flow, taken, changes),
         None => Ok(()),
     }
 }
@@ -118,12 +111,18 @@ pub fn watched_step(
         ShowsRow row.old.items flows → told.1.case ≡ step_case (action_of step) flows) }
     ensures fault { IfErr result (λ fault. fault ≡ ScriptFault.OutOfMemory) }
 {
+    let act = act_of(&step);
     let case = row_case(row.as_slice(), &step);
-    let mut seen = foreseen(alloc, row.as_slice(), &step, case)?;
-    let before = emission_count(row.as_slice(), seen.act.flow());
+    let mut changes = foreseen(alloc, row.as_slice(), act, case)?;
+    let before = emission_count(row.as_slice(), act.flow());
     let answer = row_step(alloc, row, step)?;
-    complete(row.as_slice(), watches, before, &answer, &mut seen)?;
-    Ok((answer, seen))
+    let taken = Taken {
+        act,
+        case,
+        answer: &answer,
+    };
+    complete(row.as_slice(), watches, &taken, before, &mut changes)?;
+    Ok((answer, Seen { act, case, changes }))
 }
 
 /// Returns, for each step, the lag of the subscriber that it introduced.
@@ -135,7 +134,7 @@ pub fn last_lags(
     let mut lags = Vec::new(alloc);
     for seen in steps {
         let place = match seen.act {
-            Act::OnFlow(_, FlowStep::Subscribe) | Act::SubscribesWith(_, _) => seen.name,
+            Act::OnFlow(_, FlowStep::Subscribe) | Act::SubscribesWith(_, _) => seen.changes.name,
             _ => None,
         };
         lags.push(match (flow_at(row, seen.act.flow()), place) {

@@ -104,7 +104,7 @@ impl<'a> GrowingPicture<'a> {
 
     /// Marks the value that subscribers of a flow lose by a step on the lanes of the first of them.
     fn mark_lost(&mut self, flow: usize, seen: &Seen) {
-        let Some(loss) = &seen.loss else {
+        let Some(loss) = &seen.changes.loss else {
             return;
         };
         for loser in loss.losers.iter().take(MOST_LOST) {
@@ -127,14 +127,14 @@ impl<'a> GrowingPicture<'a> {
         let lane = self.named_lane(step);
         let emission = self.picture.open_value(lane);
         let Marks(on_flow, on_named, words) = marks_of(seen, answer, line, emission);
-        match (on_flow, seen.emitted) {
+        match (on_flow, seen.changes.emitted) {
             (Some(sign), _) => self.mark_flow(flow, sign, words, answer),
             (None, Some(count)) if count > 0 => {
                 self.mark_flow(flow, Sign::Value, Words::More(count), answer);
             }
             _ => {}
         }
-        self.mark_named(flow, lane, on_named, words, seen.lag.unwrap_or(0));
+        self.mark_named(flow, lane, on_named, words, seen.changes.lag.unwrap_or(0));
         self.mark_lost(flow, seen);
     }
 
@@ -161,7 +161,7 @@ impl<'a> GrowingPicture<'a> {
         }
         match (seen.act.flow(), answer) {
             (Some(flow), Answer::Turned(report)) => {
-                self.mark_turn(flow, *report, seen.item, line);
+                self.mark_turn(flow, *report, seen.changes.item, line);
             }
             (Some(flow), _) => self.mark_step(flow, step, seen, answer, line),
             (None, _) => {}

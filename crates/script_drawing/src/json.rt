@@ -191,27 +191,27 @@ fn add_effects(page: &mut Page, one: PlayedStep<'_>) {
     if let Some(word) = case_word(seen.case) {
         add_text(page, "case", word);
     }
-    if let Some(place) = seen.name {
+    if let Some(place) = seen.changes.name {
         add_text(page, "name", text_at(one.step, "name"));
         add_number(page, "place", place as u64);
     }
     add_given(page, one);
-    if let Some(item) = seen.item {
+    if let Some(item) = seen.changes.item {
         add_value(page, "item", item);
     }
-    if let Some(loss) = &seen.loss {
+    if let Some(loss) = &seen.changes.loss {
         add_value(page, "lost", loss.value);
         add_key(page, "losers");
         add_places(page, loss.losers.as_slice());
     }
-    if !seen.moved.is_empty() {
-        add_moved(page, seen.moved.as_slice());
+    if !seen.changes.moved.is_empty() {
+        add_moved(page, seen.changes.moved.as_slice());
     }
-    if !seen.ended.is_empty() {
+    if !seen.changes.ended.is_empty() {
         add_key(page, "ended");
-        add_places(page, seen.ended.as_slice());
+        add_places(page, seen.changes.ended.as_slice());
     }
-    if let Some(after) = seen.after {
+    if let Some(after) = seen.changes.after {
         add_after(page, after);
     }
 }

@@ -65,7 +65,7 @@ pub fn rules_of(alloc: Global, traced: &TracedScript) -> Result<Vec<String>, All
             break;
         };
         let mut words = String::new(alloc);
-        match &seen.loss {
+        match &seen.changes.loss {
             Some(loss) => write_loss(&mut words, &names, seen.act.flow().unwrap_or(0), loss)?,
             None => words.push_str(rule_of(trace, seen, answer))?,
         }

@@ -1,9 +1,9 @@
 //! What the subscribers of a flow have received, and which emissions wait.
 
-use super::Watch;
+use super::{Taken, Watch};
 use crate::answer::Answer;
 use crate::row::PlayedFlow;
-use crate::trace::{Act, Moved, Progress, Seen};
+use crate::trace::{Act, Changes, Moved, Progress};
 use flow_law::Next;
 use script_format::FlowStep;
 use std::alloc::AllocError;
@@ -14,45 +14,51 @@ fn is_unsubscription(act: Act) -> bool {
 }
 
 /// Returns the only subscriber that a step may move: its own.
-fn moved_alone(seen: &Seen) -> Option<usize> {
-    match seen.act {
+fn moved_alone(act: Act, name: Option<usize>) -> Option<usize> {
+    match act {
         Act::OnFlow(_, FlowStep::Next(place)) => Some(place),
         Act::OnFlow(_, FlowStep::Unsubscribe(place)) => Some(place),
-        Act::OnFlow(_, FlowStep::Subscribe) => seen.name,
-        Act::SubscribesWith(_, _) => seen.name,
+        Act::OnFlow(_, FlowStep::Subscribe) => name,
+        Act::SubscribesWith(_, _) => name,
         _ => None,
     }
 }
 
 /// Returns whether a step may move all subscribers: it cancels an emission, or drops the oldest value.
-fn may_move_all(seen: &Seen) -> bool {
-    match seen.act {
+fn may_move_all(act: Act, changes: &Changes) -> bool {
+    match act {
         Act::OnFlow(_, FlowStep::Cancel(_)) => true,
-        _ => seen.loss.is_some(),
+        _ => changes.loss.is_some(),
     }
 }
 
 impl Watch {
     /// Returns what a subscriber has received after a step.
-    fn progress(&self, flow: &PlayedFlow, seen: &Seen, answer: &Answer, place: usize) -> Progress {
+    fn progress(
+        &self,
+        flow: &PlayedFlow,
+        taken: &Taken<'_>,
+        name: Option<usize>,
+        place: usize,
+    ) -> Progress {
         let Some(before) = self.subscribers.get(place) else {
-            let own = match seen.act {
+            let own = match taken.act {
                 Act::SubscribesWith(_, count) => count,
                 _ => 0,
             };
-            let position = match answer {
+            let position = match taken.answer {
                 Answer::Subscribed => Some(flow.position(place).unwrap_or(0)),
                 _ => None,
             };
             return Progress { own, position };
         };
-        let position = match answer {
-            Answer::Tested(true) if seen.name == Some(place) && is_unsubscription(seen.act) => None,
+        let position = match taken.answer {
+            Answer::Tested(true) if name == Some(place) && is_unsubscription(taken.act) => None,
             _ if flow.emission_count().is_some() => flow.position(place),
             _ => before.position,
         };
-        let is_own = matches!(answer, Answer::Received(Next::Value(_)));
-        let own = if is_own && seen.name == Some(place) {
+        let is_own = matches!(taken.answer, Answer::Received(Next::Value(_)));
+        let own = if is_own && name == Some(place) {
             before.own.saturating_sub(1)
         } else {
             before.own
@@ -64,11 +70,11 @@ impl Watch {
     fn move_one(
         &mut self,
         flow: &PlayedFlow,
-        seen: &mut Seen,
-        answer: &Answer,
+        taken: &Taken<'_>,
+        changes: &mut Changes,
         place: usize,
     ) -> Result<(), AllocError> {
-        let progress = self.progress(flow, seen, answer, place);
+        let progress = self.progress(flow, taken, changes.name, place);
         if place < self.subscribers.len() {
             if self.subscribers[place] == progress {
                 return Ok(());
@@ -77,7 +83,7 @@ impl Watch {
         } else {
             self.subscribers.push(progress)?;
         }
-        seen.moved.push(Moved {
+        changes.moved.push(Moved {
             subscriber: place,
             progress,
         })?;
@@ -88,15 +94,15 @@ impl Watch {
     pub(super) fn move_all(
         &mut self,
         flow: &PlayedFlow,
-        seen: &mut Seen,
-        answer: &Answer,
+        taken: &Taken<'_>,
+        changes: &mut Changes,
     ) -> Result<(), AllocError> {
-        if let Some(place) = moved_alone(seen) {
-            return self.move_one(flow, seen, answer, place);
+        if let Some(place) = moved_alone(taken.act, changes.name) {
+            return self.move_one(flow, taken, changes, place);
         }
-        if may_move_all(seen) {
+        if may_move_all(taken.act, changes) {
             for place in 0..self.subscribers.len() {
-                self.move_one(flow, seen, answer, place)?;
+                self.move_one(flow, taken, changes, place)?;
             }
         }
         Ok(())
@@ -106,9 +112,10 @@ impl Watch {
     pub(super) fn end_waits(
         &mut self,
         flow: &PlayedFlow,
-        seen: &mut Seen,
+        act: Act,
+        changes: &mut Changes,
     ) -> Result<(), AllocError> {
-        let cancelled = match seen.act {
+        let cancelled = match act {
             Act::OnFlow(_, FlowStep::Cancel(place)) => Some(place),
             _ => None,
         };
@@ -119,10 +126,10 @@ impl Watch {
                     break;
                 }
             } else {
-                seen.ended.push(*place)?;
+                changes.ended.push(*place)?;
             }
         }
-        let ended = seen.ended.as_slice();
+        let ended = changes.ended.as_slice();
         self.waiting.retain(|place| !ended.contains(place));
         Ok(())
     }

@@ -1,9 +1,9 @@
 //! The values that a flow emitted, and those that wait.
 
-use super::{Queued, Watch};
+use super::{Queued, Taken, Watch};
 use crate::answer::Answer;
 use crate::case::Case;
-use crate::trace::{Act, Seen};
+use crate::trace::{Act, Changes};
 use flow_law::{Command, Event, Report};
 use script_format::FlowStep;
 use std::alloc::AllocError;
@@ -59,7 +59,7 @@ impl Watch {
     }
 
     /// Adds the item that a turn took from the chain, and forgets what a stop ended.
-    fn add_turn(&mut self, report: Report, seen: &mut Seen) -> Result<(), AllocError> {
+    fn add_turn(&mut self, report: Report, changes: &mut Changes) -> Result<(), AllocError> {
         if !matches!(report.command, Command::Keep | Command::Start) {
             self.queue.clear();
         }
@@ -69,8 +69,8 @@ impl Watch {
         let Some(asking) = &mut self.asking else {
             return Ok(());
         };
-        seen.item = asking.item(report)?;
-        let Some(value) = seen.item else {
+        changes.item = asking.item(report)?;
+        let Some(value) = changes.item else {
             return Ok(());
         };
         let queued = Queued {
@@ -78,7 +78,7 @@ impl Watch {
             value,
         };
         match report.event {
-            Event::Put => self.add_value(queued, Case::Appends, seen.emitted.unwrap_or(0)),
+            Event::Put => self.add_value(queued, Case::Appends, changes.emitted.unwrap_or(0)),
             Event::Queued => self.add_value(queued, Case::Queues, 0),
             _ => Ok(()),
         }
@@ -87,13 +87,13 @@ impl Watch {
     /// Adds the values that a step emitted or queued.
     pub(super) fn add_values(
         &mut self,
-        answer: &Answer,
-        seen: &mut Seen,
+        taken: &Taken<'_>,
+        changes: &mut Changes,
     ) -> Result<(), AllocError> {
-        let emitted = seen.emitted.unwrap_or(0);
-        match (seen.act, answer) {
-            (Act::OnFlow(_, FlowStep::Emit(value)), _) => {
-                self.add_emission(value, answer, seen.case, emitted)
+        let emitted = changes.emitted.unwrap_or(0);
+        match (taken.act, taken.answer) {
+            (Act::OnFlow(_, FlowStep::Emit(value)), answer) => {
+                self.add_emission(value, answer, taken.case, emitted)
             }
             (Act::OnFlow(_, FlowStep::TryEmit(value)), _) => {
                 let queued = Queued {
@@ -102,9 +102,9 @@ impl Watch {
                 };
                 self.add_value(queued, Case::Plain, emitted)
             }
-            (_, Answer::Turned(report)) => self.add_turn(*report, seen),
+            (_, Answer::Turned(report)) => self.add_turn(*report, changes),
             (Act::OnFlow(_, FlowStep::Cancel(_)), Answer::Tested(true)) => {
-                self.queue.retain(|queued| queued.emission != seen.name);
+                self.queue.retain(|queued| queued.emission != changes.name);
                 self.admit(emitted)
             }
             (_, Answer::Reset) => {
