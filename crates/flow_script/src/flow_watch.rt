@@ -6,8 +6,8 @@ mod values;
 
 use crate::answer::Answer;
 use crate::asking::Asking;
-use crate::row::PlayedFlow;
 use crate::case::Case;
+use crate::row::PlayedFlow;
 use crate::trace::{Act, After, Changes, FlowHead, FlowTrace, Progress};
 use script_format::FlowStep;
 use std::alloc::{AllocError, Global};
