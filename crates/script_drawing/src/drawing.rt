@@ -43,7 +43,7 @@ fn frame_of(alloc: Global, form: Form, played: Played<'_>) -> Result<Frame, Allo
             let picture = svg_picture(alloc, played)?;
             Ok(picture.frame)
         }
-        Form::Explained => explained_frame(alloc, &played.traced.value),
+        Form::Explained => explained_frame(alloc, played),
         Form::JsonWithPicture(most) if most > 0 && played.steps().len() <= most as usize => {
             pictured_json_frame(alloc, played)
         }

@@ -1,9 +1,9 @@
 //! A picture that grows with each step.
 
 use crate::marks::{Marks, Named, marks_of};
-use crate::picture::{Label, Note, Picture, Sign, Words};
+use crate::picture::{Admitted, Label, Note, Picture, Sign, Words};
 use flow_law::{Command, Event, Report};
-use flow_script::{Act, Answer, FlowStep, Seen, SubscriberNames, text_at};
+use flow_script::{Act, Answer, Changes, FlowStep, FlowTrace, Seen, SubscriberNames, text_at};
 use indexmap::IndexMap;
 use serde_json::Value;
 use std::alloc::{AllocError, Global};
@@ -16,9 +16,11 @@ const MOST_LOST: usize = 16;
 pub struct GrowingPicture<'a> {
     picture: Picture<'a>,
     /// The flows of the script. Their lanes are the first ones.
-    flows: usize,
+    flows: &'a [FlowTrace],
     /// The lanes of the subscribers and the emissions, by name. An emission that was done at once has none.
     lanes: IndexMap<&'a str, usize>,
+    /// The lanes of the emissions of each flow, by the places of their names.
+    emissions: Vec<Vec<Option<usize>>>,
     /// The subscribers that losses name.
     names: SubscriberNames<'a>,
 }
@@ -32,20 +34,31 @@ fn command_note(command: Command) -> Note {
 }
 
 impl<'a> GrowingPicture<'a> {
-    /// Returns a picture without lanes, for a script whose subscribers have these names.
-    pub fn new(alloc: Global, names: SubscriberNames<'a>) -> Self {
-        GrowingPicture {
-            picture: Picture::new(alloc),
-            flows: 0,
-            lanes: IndexMap::new(alloc),
-            names,
+    /// Returns a picture without lanes, for a script with these flows whose subscribers have these names.
+    ///
+    /// # Errors
+    /// `AllocError`: out of memory.
+    pub fn new(
+        alloc: Global,
+        flows: &'a [FlowTrace],
+        names: SubscriberNames<'a>,
+    ) -> Result<Self, AllocError> {
+        let mut emissions: Vec<Vec<Option<usize>>> = Vec::new(alloc);
+        for _ in flows {
+            emissions.push(Vec::new(alloc))?;
         }
+        Ok(GrowingPicture {
+            picture: Picture::new(alloc),
+            flows,
+            lanes: IndexMap::new(alloc),
+            emissions,
+            names,
+        })
     }
 
     /// Adds a lane for a flow.
     pub fn add_flow(&mut self, name: &'a str) {
         self.picture.add_lane(Label::of(name), None);
-        self.flows = self.flows.saturating_add(1);
     }
 
     /// Returns the lane of the subscriber or the emission that a step names.
@@ -57,7 +70,7 @@ impl<'a> GrowingPicture<'a> {
     /// emission.
     fn add_name(&mut self, step: &'a Value, waits: Option<i64>) {
         let name = text_at(step, "name");
-        let flow = if self.flows > 1 {
+        let flow = if self.flows.len() > 1 {
             Some(text_at(step, "flow"))
         } else {
             None
@@ -102,6 +115,58 @@ impl<'a> GrowingPicture<'a> {
         }
     }
 
+    /// Records the lane of an emission of a flow. One that was done at once has none.
+    fn add_emission(&mut self, flow: usize, lane: Option<usize>) {
+        if let Some(emissions) = self.emissions.get_mut(flow)
+            && emissions.push(lane).is_err()
+        {
+            self.picture.failed = true;
+        }
+    }
+
+    /// Ends the lanes of the emissions of a flow that no longer wait, and returns their values. One that was cancelled
+    /// has ended already.
+    fn end_emissions(&mut self, flow: usize, ended: &[usize]) -> Admitted {
+        let mut admitted = Admitted::none();
+        for place in ended {
+            let lane = match self.emissions.get(flow) {
+                Some(emissions) => emissions.get(*place).copied().unwrap_or(None),
+                None => None,
+            };
+            if let Some(lane) = lane
+                && let Some(value) = self.picture.open_value(Some(lane))
+            {
+                let column = self.picture.columns;
+                self.picture.end_lane(lane, column);
+                self.picture
+                    .add_mark(lane, Sign::Value, Words::Number(value), Note::None);
+                admitted.push(value);
+            }
+        }
+        admitted
+    }
+
+    /// Returns the values that a step let into a flow: those of the emissions that no longer wait, or else the items of
+    /// a shared chain that it emitted.
+    fn admit(&mut self, flow: usize, changes: &Changes) -> Admitted {
+        let mut admitted = self.end_emissions(flow, changes.ended.as_slice());
+        if !changes.ended.is_empty() {
+            return admitted;
+        }
+        if let (Some(flow), Some(after), Some(count)) = (
+            self.flows.get(flow),
+            changes.after,
+            changes.emitted,
+        ) {
+            let end = after.emitted as usize;
+            let from = end.saturating_sub(count as usize);
+            for value in flow.values.as_slice().get(from..end).unwrap_or(&[]) {
+                admitted.push(*value);
+            }
+        }
+        admitted
+    }
+
     /// Marks the value that subscribers of a flow lose by a step on the lanes of the first of them.
     fn mark_lost(&mut self, flow: usize, seen: &Seen) {
         let Some(loss) = &seen.changes.loss else {
@@ -127,14 +192,13 @@ impl<'a> GrowingPicture<'a> {
         let lane = self.named_lane(step);
         let emission = self.picture.open_value(lane);
         let Marks(on_flow, on_named, words) = marks_of(seen, answer, line, emission);
-        match (on_flow, seen.changes.emitted) {
-            (Some(sign), _) => self.mark_flow(flow, sign, words, answer),
-            (None, Some(count)) if count > 0 => {
-                self.mark_flow(flow, Sign::Value, Words::More(count), answer);
-            }
-            _ => {}
-        }
         self.mark_named(flow, lane, on_named, words, seen.changes.lag.unwrap_or(0));
+        let admitted = self.admit(flow, &seen.changes);
+        match (on_flow, admitted.words()) {
+            (Some(sign), _) => self.mark_flow(flow, sign, words, answer),
+            (None, Some(words)) => self.mark_flow(flow, Sign::Value, words, answer),
+            (None, None) => {}
+        }
         self.mark_lost(flow, seen);
     }
 
@@ -152,8 +216,11 @@ impl<'a> GrowingPicture<'a> {
     /// Adds the marks of the next step. An emission that is done at once has no lane.
     pub fn add_step(&mut self, step: &'a Value, seen: &Seen, answer: &Answer, line: &'a str) {
         match (seen.act, answer) {
-            (Act::OnFlow(_, FlowStep::Emit(_)), Answer::Done) => {}
-            (Act::OnFlow(_, FlowStep::Emit(value)), _) => self.add_name(step, Some(value)),
+            (Act::OnFlow(flow, FlowStep::Emit(_)), Answer::Done) => self.add_emission(flow, None),
+            (Act::OnFlow(flow, FlowStep::Emit(value)), _) => {
+                self.add_emission(flow, Some(self.picture.lanes.len()));
+                self.add_name(step, Some(value));
+            }
             (Act::OnFlow(_, FlowStep::Subscribe) | Act::SubscribesWith(_, _), _) => {
                 self.add_name(step, None);
             }

@@ -11,10 +11,10 @@ use crate::frame::Frame;
 use crate::json_picture::{Places, add_picture};
 use crate::json_words::{add_comma, add_key, add_number, add_text, add_value};
 use crate::page::Page;
-use crate::played::{Played, PlayedStep};
+use crate::played::{Played, PlayedFlow, PlayedStep};
 use crate::script_words::{add_step, items_of};
 use flow_law::Next;
-use flow_script::{Act, After, Answer, Case, FlowStep, FlowTrace, Moved, number_at, text_at};
+use flow_script::{Act, After, Answer, Case, FlowStep, Moved, number_at, text_at};
 use json_places::{Extent, Spot, Text};
 use serde_json::Value;
 use std::alloc::{AllocError, Global};
@@ -66,29 +66,23 @@ fn case_word(case: Case) -> Option<&'static str> {
 
 /// Adds a flow: its name, what the script says of it, its first value if it is a state flow, whether it was refused when
 /// it was made, and the values that it emitted.
-fn add_flow(
-    alloc: Global,
-    page: &mut Page,
-    (name, head): (&str, &Value),
-    flow: &FlowTrace,
-    refused: bool,
-) {
+fn add_flow(alloc: Global, page: &mut Page, flow: PlayedFlow<'_>, refused: bool) {
     page.push_str("{\"name\":\"");
-    page.push_str(name);
+    page.push_str(flow.name);
     page.push('"');
     add_key(page, "head");
-    match head.to_string(alloc) {
+    match flow.value.to_string(alloc) {
         Ok(text) => page.push_str(text.as_str()),
         Err(_) => page.fail(),
     }
-    if head.get("initial").is_some() {
-        add_value(page, "value", number_at(head, "initial"));
+    if flow.value.get("initial").is_some() {
+        add_value(page, "value", number_at(flow.value, "initial"));
     }
     add_key(page, "refused");
     page.push_str(if refused { "true" } else { "false" });
     add_key(page, "values");
     page.push('[');
-    for (index, value) in flow.values.iter().enumerate() {
+    for (index, value) in flow.trace.values.iter().enumerate() {
         add_comma(page, index);
         page.push('"');
         page.push_number(*value);
@@ -97,32 +91,28 @@ fn add_flow(
     page.push_str("]}");
 }
 
-/// Returns whether the flow with this name was refused when it was made.
+/// Returns whether the flow with this name was refused when it was made. A flow that the script does not name is the only
+/// one.
 fn is_refused(played: Played<'_>, name: &str) -> bool {
     for flow in &played.traced.trace.answers.not_made {
-        if let Some(refused) = &flow.name
-            && refused.as_str() == name
-        {
-            return true;
+        match &flow.name {
+            Some(refused) if refused.as_str() != name => {}
+            _ => return true,
         }
     }
     false
 }
 
-/// Adds the flows in the order in which they are made. The only flow of a script of version 1 has the name `flow`.
+/// Adds the flows in the order in which they are made.
 fn add_flows(alloc: Global, page: &mut Page, played: Played<'_>) {
-    let script = &played.traced.value;
-    let flows = played.traced.trace.flows.as_slice();
-    if let (Some(head), [flow]) = (script.get("flow"), flows) {
-        add_flow(alloc, page, ("flow", head), flow, played.refused() > 0);
-    } else if let Some(Value::Object(heads)) = script.get("flows") {
-        for (index, (name, head)) in heads.iter().enumerate() {
-            if let Some(flow) = flows.get(index) {
+    match played.flows(alloc) {
+        Ok(flows) => {
+            for (index, flow) in flows.iter().enumerate() {
                 add_comma(page, index);
-                let refused = is_refused(played, name.as_str());
-                add_flow(alloc, page, (name.as_str(), head), flow, refused);
+                add_flow(alloc, page, *flow, is_refused(played, flow.name));
             }
         }
+        Err(_) => page.fail(),
     }
 }
 

@@ -25,7 +25,9 @@
 #![tactic(auto)]
 
 mod collection;
+mod colours;
 mod drawing;
+mod flow_words;
 mod form;
 mod frame;
 mod growing;
@@ -33,6 +35,7 @@ mod json;
 mod json_picture;
 mod json_words;
 mod layout;
+mod legend;
 mod lines;
 mod listing;
 mod marks;

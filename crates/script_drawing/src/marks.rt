@@ -47,13 +47,12 @@ fn tested_marks(step: FlowStep, test: bool, case: Case, emission: Option<i64>) -
     }
 }
 
-/// Returns the marks of a poll, by whether the emission still waits, and the emission's value if it has a lane that has
-/// not ended.
-fn wait_marks(waits: bool, emission: Option<i64>) -> Marks<'static> {
-    match emission {
-        _ if waits => Marks(None, Named::Marked(Sign::Waits), Words::None),
-        Some(value) => Marks(None, Named::Ended(Sign::Value), Words::Number(value)),
-        None => NOTHING,
+/// Returns the marks of a poll with this line, by whether the emission still waits.
+fn wait_marks(waits: bool, line: &str) -> Marks<'_> {
+    if waits {
+        Marks(None, Named::Marked(Sign::Waits), Words::None)
+    } else {
+        Marks(None, Named::Marked(Sign::Told), Words::Text(line))
     }
 }
 
@@ -114,7 +113,7 @@ pub fn marks_of<'a>(
             Act::OnFlow(_, step) => tested_marks(step, *test, seen.case, emission),
             _ => NONE,
         },
-        Answer::Waits(waits) => wait_marks(*waits, emission),
+        Answer::Waits(waits) => wait_marks(*waits, line),
         Answer::Done => done_marks(value_of(seen.act), seen.case),
         Answer::Queued => Marks(
             Some(Sign::Waits),
@@ -124,11 +123,12 @@ pub fn marks_of<'a>(
         Answer::Subscribed => Marks(None, Named::Marked(Sign::Begins), Words::None),
         Answer::Received(next) => next_marks(next, line),
         Answer::Set => value_marks(true, value_of(seen.act)),
-        Answer::Cached(_)
-        | Answer::Counted(_)
-        | Answer::Got(_)
-        | Answer::Reset
-        | Answer::Turned(_) => Marks(Some(Sign::Told), Named::Untouched, Words::Text(line)),
+        Answer::Cached(_) => Marks(Some(Sign::Told), Named::Untouched, Words::List(line)),
+        Answer::Counted(_) | Answer::Got(_) | Answer::Reset | Answer::Turned(_) => Marks(
+            Some(Sign::Told),
+            Named::Untouched,
+            Words::Text(line),
+        ),
         Answer::Refused(_) | Answer::TurnRefused(_) | Answer::NoFlow => {
             refused_marks(seen.act, line)
         }

@@ -2,10 +2,10 @@
 
 use crate::page::Page;
 use crate::script_words::add_step;
-use flow_script::{Answer, Seen, TracedScript};
+use flow_script::{Answer, FlowTrace, Seen, TracedScript};
 use json_places::Extent;
 use serde_json::Value;
-use std::alloc::AllocError;
+use std::alloc::{AllocError, Global};
 
 /// A script that was played. A line that is missing counts as empty.
 #[derive(Clone, Copy)]
@@ -15,6 +15,15 @@ pub struct Played<'a> {
     pub lines: &'a [&'a str],
     /// The bytes of the steps in the script's text, if the form of the drawing has them.
     pub extents: &'a [Extent],
+}
+
+/// A flow of a script that was played.
+#[derive(Clone, Copy)]
+pub struct PlayedFlow<'a> {
+    pub name: &'a str,
+    /// The flow as the script has it.
+    pub value: &'a Value,
+    pub trace: &'a FlowTrace,
 }
 
 /// A step that was played.
@@ -31,6 +40,35 @@ impl<'a> Played<'a> {
     /// Returns the steps that were played, as the script has them.
     pub(crate) fn steps(&self) -> &'a [Value] {
         self.traced.steps()
+    }
+
+    /// Returns the flows in the order in which they are made. The only flow of a script that does not name it has the name
+    /// `flow`.
+    ///
+    /// # Errors
+    /// `AllocError`: out of memory.
+    pub(crate) fn flows(&self, alloc: Global) -> Result<Vec<PlayedFlow<'a>>, AllocError> {
+        let TracedScript {
+            value: script,
+            trace,
+        } = self.traced;
+        let mut flows = Vec::new(alloc);
+        if let (Some(value), Some(trace)) = (script.get("flow"), trace.flows.first()) {
+            flows.push(PlayedFlow {
+                name: "flow",
+                value,
+                trace,
+            })?;
+        } else if let Some(Value::Object(heads)) = script.get("flows") {
+            for ((name, value), trace) in heads.iter().zip(trace.flows.iter()) {
+                flows.push(PlayedFlow {
+                    name: name.as_str(),
+                    value,
+                    trace,
+                })?;
+            }
+        }
+        Ok(flows)
     }
 
     /// Returns how many lines precede that of the first step: one for each flow that was refused.
