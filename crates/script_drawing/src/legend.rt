@@ -6,7 +6,7 @@ use std::alloc::{AllocError, Global};
 
 /// A kind of marks.
 #[derive(Clone, Copy, PartialEq, Eq)]
-enum Kind {
+enum MarkKind {
     Taken,
     Admitted,
     Waits,
@@ -19,16 +19,16 @@ enum Kind {
 }
 
 /// The kinds in the order of their entries.
-static KINDS: [Kind; 9] = [
-    Kind::Taken,
-    Kind::Admitted,
-    Kind::Waits,
-    Kind::Lost,
-    Kind::Behind,
-    Kind::Edge,
-    Kind::Told,
-    Kind::Refused,
-    Kind::Nothing,
+static KINDS: [MarkKind; 9] = [
+    MarkKind::Taken,
+    MarkKind::Admitted,
+    MarkKind::Waits,
+    MarkKind::Lost,
+    MarkKind::Behind,
+    MarkKind::Edge,
+    MarkKind::Told,
+    MarkKind::Refused,
+    MarkKind::Nothing,
 ];
 
 /// An entry of a legend: a mark of its kind, and what it means.
@@ -39,16 +39,16 @@ pub struct Entry {
 }
 
 /// Returns the kind of a mark. A mark that only has a note has none.
-fn kind_of(mark: Mark<'_>) -> Option<Kind> {
+fn kind_of(mark: Mark<'_>) -> Option<MarkKind> {
     match (mark.sign, mark.words) {
-        (Sign::Value, Words::Admitted(_)) => Some(Kind::Admitted),
-        (Sign::Value, _) => Some(Kind::Taken),
-        (Sign::Waits, _) => Some(Kind::Waits),
-        (Sign::Lost, _) => Some(Kind::Lost),
-        (Sign::Nothing, _) => Some(Kind::Nothing),
-        (Sign::Begins | Sign::Ends, _) => Some(Kind::Edge),
-        (Sign::Told, _) => Some(Kind::Told),
-        (Sign::Refused, _) => Some(Kind::Refused),
+        (Sign::Value, Words::Admitted(_)) => Some(MarkKind::Admitted),
+        (Sign::Value, _) => Some(MarkKind::Taken),
+        (Sign::Waits, _) => Some(MarkKind::Waits),
+        (Sign::Lost, _) => Some(MarkKind::Lost),
+        (Sign::Nothing, _) => Some(MarkKind::Nothing),
+        (Sign::Begins | Sign::Ends, _) => Some(MarkKind::Edge),
+        (Sign::Told, _) => Some(MarkKind::Told),
+        (Sign::Refused, _) => Some(MarkKind::Refused),
         (Sign::Over, _) => None,
     }
 }
@@ -72,39 +72,39 @@ fn two_values() -> Words<'static> {
     Words::Admitted(admitted)
 }
 
-fn entry_of(kind: Kind) -> Entry {
+fn entry_of(kind: MarkKind) -> Entry {
     let three = Words::Number(3);
     let (mark, words) = match kind {
-        Kind::Taken => (
+        MarkKind::Taken => (
             sample(Sign::Value, three, Note::None),
             "taken by the flow, or received",
         ),
-        Kind::Admitted => (
+        MarkKind::Admitted => (
             sample(Sign::Value, two_values(), Note::None),
             "waiting values that got in",
         ),
-        Kind::Waits => (sample(Sign::Waits, three, Note::None), "its emitter waits"),
-        Kind::Lost => (
+        MarkKind::Waits => (sample(Sign::Waits, three, Note::None), "its emitter waits"),
+        MarkKind::Lost => (
             sample(Sign::Lost, three, Note::None),
             "not taken, cancelled or dropped",
         ),
-        Kind::Behind => (
+        MarkKind::Behind => (
             sample(Sign::Over, Words::None, Note::Behind(2)),
             "2 emitted values behind",
         ),
-        Kind::Edge => (
+        MarkKind::Edge => (
             sample(Sign::Begins, Words::None, Note::None),
             "begins, or ends",
         ),
-        Kind::Told => (
+        MarkKind::Told => (
             sample(Sign::Told, three, Note::None),
             "what the flow answers",
         ),
-        Kind::Refused => (
+        MarkKind::Refused => (
             sample(Sign::Refused, three, Note::None),
             "refused, or failed",
         ),
-        Kind::Nothing => (
+        MarkKind::Nothing => (
             sample(Sign::Nothing, Words::None, Note::None),
             "nothing there",
         ),
@@ -113,7 +113,7 @@ fn entry_of(kind: Kind) -> Entry {
 }
 
 /// Adds a kind to those that were found.
-fn add_kind(found: &mut Vec<Kind>, kind: Kind) -> Result<(), AllocError> {
+fn add_kind(found: &mut Vec<MarkKind>, kind: MarkKind) -> Result<(), AllocError> {
     if !found.as_slice().contains(&kind) {
         found.push(kind)?;
     }
@@ -121,7 +121,7 @@ fn add_kind(found: &mut Vec<Kind>, kind: Kind) -> Result<(), AllocError> {
 }
 
 /// Returns the kinds of the marks of these parts.
-fn kinds_of(alloc: Global, parts: &[Part<'_>]) -> Result<Vec<Kind>, AllocError> {
+fn kinds_of(alloc: Global, parts: &[Part<'_>]) -> Result<Vec<MarkKind>, AllocError> {
     let mut found = Vec::new(alloc);
     for part in parts {
         if let Part::Cell(
@@ -135,7 +135,7 @@ fn kinds_of(alloc: Global, parts: &[Part<'_>]) -> Result<Vec<Kind>, AllocError> 
                 add_kind(&mut found, kind)?;
             }
             if matches!(mark.note, Note::Behind(_)) {
-                add_kind(&mut found, Kind::Behind)?;
+                add_kind(&mut found, MarkKind::Behind)?;
             }
         }
     }
