@@ -52,11 +52,11 @@ fn add_items(page: &mut Page, items: &[Value]) {
     });
 }
 
-/// Adds the values of an object's members, except one, each after a space.
-fn add_members(page: &mut Page, object: &Value, but: &str) {
-    if let Value::Object(members) = object {
+/// Adds the words or the other values among the members of an operator, each after a space.
+fn add_members(page: &mut Page, op: &Value, are_words: bool) {
+    if let Value::Object(members) = op {
         for (key, value) in members {
-            if key.as_str() != but {
+            if key.as_str() != "op" && value.is_string() == are_words {
                 page.push(' ');
                 add_value(page, value);
             }
@@ -89,7 +89,10 @@ fn add_op(page: &mut Page, op: &Value) {
             page.push_str(" with ");
             add_short_chain(page, with);
         }
-        None => add_members(page, op, "op"),
+        None => {
+            add_members(page, op, true);
+            add_members(page, op, false);
+        }
     }
 }
 
