@@ -6,7 +6,7 @@
 //! # What a step did
 //! A step has an `Answer`, which its line reports. If the answer does not say what the step did, its `Case` does: a
 //! `try_emit` that returns `true` may have appended its value, dropped it, or dropped the oldest one. The case is found
-//! before the step is played, and is the one that the documented flow takes in that state (`Traced`).
+//! before the step is played: `traced` says that it is the one that the documented flow takes in that state.
 //!
 //! # What a step left
 //! A trace has each emitted value of a flow once, in order. A position counts the emitted values before it, so a cache,

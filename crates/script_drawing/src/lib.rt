@@ -5,8 +5,9 @@
 //!
 //! # Lanes and marks
 //! `steps_picture` has a lane for each flow, each subscriber and each emission that was not done at once, and a column
-//! for each step that was played. `collection_picture` has two lanes, one for a chain's source and one for what it
-//! gave. `marks` has the marks of a step, by what its trace says that it did.
+//! for each step that was played. `collection_picture` has a lane for a chain's source, for the other side of each zip,
+//! and for what the chain gave. `marks` has the marks of a step, by what its trace says that it did. `legend_of` has an
+//! entry for each kind of mark that was drawn.
 //!
 //! # Where the marks are
 //! `add_parts` gives each column of a picture a width in characters, cuts the picture into bands of at most
