@@ -11,7 +11,8 @@ returns-then-current-expect c =
     let right : to_z w64 (of_z w64 c.args.expect) ≡ c.args.expect = to_z-of_z c.ranges.expect in
     let value = c.args.core.now.value in
     compares value c.args.expect c.stored_case.result (stored_case c.args.update c.args.core.now)
-    (sym c.current.ensures ∙ sym left ∙ ap (to_z w64) c.if-current-expect.true ∙ right) c.stored_case.ensures
+    (sym c.current.ensures ∙ sym left ∙ ap (to_z w64) c.if-current-expect.true ∙ right)
+    (c.stored_case.ensures ∙ ap (λ u. stored_case u c.args.core.now) (to_z-of_z c.ranges.update))
 
 pub returns-else-current-expect : goal.returns-else-current-expect
 returns-else-current-expect c =
