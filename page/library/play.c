@@ -1,4 +1,4 @@
-/* Plays the script of standard input as flow_play does. With the word svg, text or explain, prints what flow_draw prints; with the
+/* Plays the script of standard input as flow_play does. With the word svg, text, explain or json, prints what flow_draw prints; with the
  * word why, where and why the script is refused. With check or order, judges the record of standard input and prints what
  * flow_judge prints, except that the status of an illegal record is 5, and not 1. With any other word, plays the script. */
 #include "wumsnair.h"
@@ -42,6 +42,9 @@ static uint32_t call(const char *what, const uint8_t *text, size_t bytes, uint8_
     }
     if (strcmp(what, "check") == 0 || strcmp(what, "order") == 0) {
         return wumsnair_check(what[0] == 'o', text, bytes, out, room, needed);
+    }
+    if (strcmp(what, "json") == 0) {
+        return wumsnair_trace(0, text, bytes, out, room, needed);
     }
     if (strcmp(what, "why") == 0) {
         return wumsnair_explain(text, bytes, out, room, needed);

@@ -43,6 +43,11 @@ uint32_t wumsnair_play(const uint8_t *script, size_t script_bytes, uint8_t *out,
  * is none of those above counts as WUMSNAIR_EXPLAINED. */
 uint32_t wumsnair_draw(uint32_t form, const uint8_t *script, size_t script_bytes, uint8_t *out, size_t out_bytes, size_t *needed);
 
+/* Gives the trace of a script as JSON: its lines, each with the rule behind it, what the step did, and what it left of its flow, as
+ * docs/trace.schema.json describes it. If `most_drawn` is not 0, and the script has at most that many steps, the trace has its picture, too. If the script is
+ * refused, gives the line that says so. */
+uint32_t wumsnair_trace(uint32_t most_drawn, const uint8_t *script, size_t script_bytes, uint8_t *out, size_t out_bytes, size_t *needed);
+
 /* Gives lines for a human reader that say where and why a script is refused; nothing if it is not refused. */
 uint32_t wumsnair_explain(const uint8_t *script, size_t script_bytes, uint8_t *out, size_t out_bytes, size_t *needed);
 

@@ -1,4 +1,4 @@
-"""The proved player of flow scripts and the checker of records, called by ctypes: `play`, `draw`, `explain` and `check` take the
+"""The proved player of flow scripts and the checker of records, called by ctypes: `play`, `draw`, `trace`, `explain` and `check` take the
 bytes of a script or a record, JSON in UTF-8, and return a status and bytes. If memory is refused, the status is OUT_OF_MEMORY.
 
     import wumsnair
@@ -14,7 +14,7 @@ SVG, TEXT, EXPLAINED = range(3)
 
 _library = ctypes.CDLL(str(pathlib.Path(__file__).resolve().with_name("libwumsnair.so")))
 _bytes = [ctypes.c_char_p, ctypes.c_size_t, ctypes.c_char_p, ctypes.c_size_t, ctypes.POINTER(ctypes.c_size_t)]
-for _name, _first in (("play", []), ("draw", [ctypes.c_uint32]), ("explain", []), ("check", [ctypes.c_uint32])):
+for _name, _first in (("play", []), ("draw", [ctypes.c_uint32]), ("trace", [ctypes.c_uint32]), ("explain", []), ("check", [ctypes.c_uint32])):
     _call = getattr(_library, f"wumsnair_{_name}")
     _call.argtypes, _call.restype = _first + _bytes, ctypes.c_uint32
 
@@ -37,6 +37,11 @@ def play(script):
 def draw(script, form=SVG):
     """Returns the drawing of a script, or the line by which it is refused."""
     return _given(lambda *rest: _library.wumsnair_draw(form, *rest), script)
+
+
+def trace(script, most_drawn=0):
+    """Returns the trace of a script as JSON, with its picture if it has at most this many steps, or the line by which it is refused."""
+    return _given(lambda *rest: _library.wumsnair_trace(most_drawn, *rest), script)
 
 
 def explain(script):

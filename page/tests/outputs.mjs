@@ -12,6 +12,7 @@ const calls = {
     svg: (script) => player.draw(FORM.SVG, script),
     text: (script) => player.draw(FORM.TEXT, script),
     explain: (script) => player.draw(FORM.EXPLAINED, script),
+    json: (script) => player.trace(0, script),
     why: (script) => player.explain(script),
   },
   record: {

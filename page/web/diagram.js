@@ -28,19 +28,20 @@ let drawn = "";
 /** Returns the text of the diagram that is shown; empty if none is. */
 export const diagram = () => drawn;
 
-/** Shows a diagram. */
-export function showDiagram(text) {
-  drawn = text;
-  root.innerHTML = `<style>${STYLE}</style><div class="drawn">${text}</div>`;
-  const svg = root.querySelector("svg");
-  columns = svg ? columnsOf(svg) : [];
-  svg?.before(namesOf(svg));
+/** Shows a diagram: its text, the boxes of its columns, and the names of its lanes. */
+export function showDiagram({ svg, columns: boxes, lanes }) {
+  drawn = svg;
+  root.innerHTML = `<style>${STYLE}</style><div class="drawn">${svg}</div>`;
+  columns = [];
+  boxes.forEach((box) => {
+    columns[box.step] = box;
+  });
+  root.querySelector("svg").before(namesOf(lanes));
 }
 
 /** Returns copies of the names of the lanes, each over its place, which stay visible when the diagram is scrolled sideways. */
-function namesOf(svg) {
-  const lanes = [...svg.querySelectorAll("text.a")].filter((text) => text.nextElementSibling?.localName === "line");
-  const names = lanes.map((text) => element("span", { style: `top: ${text.getAttribute("y") - RISE}px` }, text.textContent));
+function namesOf(lanes) {
+  const names = lanes.map(({ y, name }) => element("span", { style: `top: ${y - RISE}px` }, name));
   return element("div", { class: "names", "aria-hidden": "true" }, ...names);
 }
 
@@ -55,39 +56,6 @@ export function offerDiagram(words, draw) {
   const button = root.querySelector("button");
   button.textContent = words;
   button.addEventListener("click", draw);
-}
-
-/** Returns the numbers above the columns, each with its step. */
-const headsOf = (svg) => [...svg.querySelectorAll("text[data-step][x]")].map((text) => [Number(text.dataset.step), text]);
-
-/** Returns the box of each step's column. */
-function columnsOf(svg) {
-  const boxes = [];
-  for (const [step, text] of headsOf(svg)) {
-    boxes[step] = { x: Number(text.getAttribute("x")), y: Number(text.getAttribute("y")) };
-  }
-  const tops = [...new Set(boxes.filter(Boolean).map(({ y }) => y))].sort((a, b) => a - b);
-  const bottoms = bottomsOf(svg, tops);
-  boxes.forEach((box, step) => {
-    const next = boxes[step + 1];
-    box.width = next?.y === box.y ? next.x - box.x : Math.min(60, svg.viewBox.baseVal.width - box.x);
-    box.bottom = bottoms[tops.indexOf(box.y)];
-  });
-  return boxes;
-}
-
-/** Returns the bottom of the lanes below each row of numbers. */
-function bottomsOf(svg, tops) {
-  const bottoms = tops.map((y) => y + 24);
-  let row = 0;
-  for (const mark of svg.querySelectorAll(":scope > rect[y]")) {
-    const y = Number(mark.getAttribute("y"));
-    while (row + 1 < tops.length && y > tops[row + 1]) {
-      row += 1;
-    }
-    bottoms[row] = Math.max(bottoms[row], y + Number(mark.getAttribute("height")) + 4);
-  }
-  return bottoms;
 }
 
 /** Marks the column of a step, and returns the mark; undefined if the step has none. */

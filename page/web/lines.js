@@ -3,24 +3,9 @@ import { byId, element } from "./dom.js";
 
 const rows = byId("rows");
 
-/** Returns the entries of a listing, one per line: the number of the step, the step in words, the line, and its rule. */
-export function entriesOf(listing, lines) {
-  const listed = listing.split("\n").slice(-lines.length - 1, -1);
-  return lines.map((line, index) => {
-    const [, number, rest] = /^ *(\d*) {2}(.*)$/.exec(listed[index]) ?? ["", "", listed[index]];
-    const at = rest.indexOf(`: ${line}`);
-    if (at < 0) {
-      return { step: Number(number), words: "", line, rule: "" };
-    }
-    const rule = rest.slice(at + line.length + 2).replace(/^ {2}-- /, "");
-    return { step: Number(number), words: rest.slice(0, at), line, rule };
-  });
-}
-
-/** Returns entries of the lines without words and rules. The first `before` lines belong to no step. */
-export function plainEntries(lines, before) {
-  return lines.map((line, at) => ({ step: Math.max(0, at + 1 - before), words: "", line, rule: "" }));
-}
+/** Returns an entry for each line of a trace: the number of its step, the step in words, the line, and its rule. The line of a flow that
+ * was refused has no step. */
+export const entriesOf = ({ lines }) => lines.map(({ step = 0, words = "", line, rule = "" }) => ({ step, words, line, rule }));
 
 /** The most rows that are in the page at once. For a longer script these are the rows around the chosen step. */
 const MOST_ROWS = 400;

@@ -3,19 +3,21 @@
 import { diagram, markColumn, offerDiagram, onColumnClick, showDiagram, widthOfNames } from "./diagram.js";
 import { bringInto, byId, element } from "./dom.js";
 import { Editor, showWhy } from "./editor.js";
-import { entriesOf, markEntry, plainEntries, showEntries, stepOfEvent } from "./lines.js";
+import { entriesOf, markEntry, showEntries, stepOfEvent } from "./lines.js";
 import { RECORD_LINK, SCRIPT_LINK, bytesOf, exampleOf, isRecordLink, linkOf, passed, stopOf, textIn } from "./link.js";
-import { FORM, Player, STATUS, hasWideMemories, textOf } from "./player.js";
+import { Player, STATUS, hasWideMemories, textOf } from "./player.js";
 import { goToRefusal, judge, onRecordChange, openRecord, recordText } from "./record.js";
-import { mostItemsOfOne, placeOf, stepsOf } from "./script_text.js";
+import { mostItemsOfOne, placeOf } from "./script_text.js";
 import { showStates } from "./state_panel.js";
-import { PlayedScript, statesAfter } from "./states.js";
 import { isRecordTab, listenToTabs, showTab } from "./tabs.js";
 import { TOUR } from "./tour.js";
+import { statesAfter } from "./trace.js";
 
-/** A script with more steps is drawn only if its button is pressed. Its rules are shown after its lines, and the states of its flows
- * once the chosen step no longer changes. */
+/** A script with more steps is drawn only if its button is pressed. */
 const MOST_AT_ONCE = 1500;
+
+/** The most steps that a script may have. */
+const MOST_STEPS = 10_000;
 
 /** A script with a chain that makes more items from one item may take long to play, and the page does nothing else meanwhile. It is
  * played only if its button is pressed. */
@@ -34,14 +36,14 @@ let player;
 let examples = {};
 let records = {};
 let chosen = 0;
-/** The result of a script: its steps and their lines, or the place at which it is refused. */
-const NOTHING = { steps: undefined, entries: [], place: undefined, played: undefined };
+/** The result of a script: its text and its trace, or the place at which it is refused. */
+const NOTHING = { text: undefined, trace: undefined, steps: [], entries: [], place: undefined };
 let shown = { ...NOTHING };
 
-const stepCount = () => shown.steps?.places.length ?? 0;
+const stepCount = () => shown.steps.length;
 
 /** Whether the script in the editor is the one that was played. */
-const isPlayed = () => !shown.place && editor.text === shown.played?.text;
+const isPlayed = () => !shown.place && editor.text === shown.text;
 
 // ---- playing
 
@@ -57,9 +59,9 @@ function play() {
   const start = performance.now();
   const bytes = new TextEncoder().encode(editor.text);
   try {
-    const answer = player.play(bytes);
+    const answer = player.trace(MOST_AT_ONCE, bytes);
     if (answer.status === STATUS.GIVEN) {
-      showPlayed(textOf(answer).split("\n").slice(0, -1));
+      showPlayed(JSON.parse(textOf(answer)));
     } else {
       showRefused(textOf(answer).trimEnd(), textOf(player.explain(editor.text)).trimEnd());
     }
@@ -85,42 +87,26 @@ function offerToPlay() {
   document.body.dataset.status = "asked";
 }
 
-function showPlayed(lines) {
-  const { text } = editor;
-  const steps = stepsOf(text);
-  // The first lines are those of refused flows.
-  const entries = plainEntries(lines, lines.length - steps.places.length);
-  const stepLines = lines.slice(lines.length - steps.places.length);
-  shown = { steps, entries, place: undefined, played: new PlayedScript(player, text, steps, stepLines) };
+/** Shows the trace of the script. Nothing of it is played again, whichever step is chosen. */
+function showPlayed(trace) {
+  const steps = trace.lines.filter(({ step }) => step);
+  shown = { text: editor.text, trace, steps, entries: entriesOf(trace), place: undefined };
   setRefused(false);
-  byId("count").textContent = `${lines.length}`;
+  byId("count").textContent = `${trace.lines.length}`;
   slider.max = stepCount();
-  if (stepCount() <= MOST_AT_ONCE) {
-    showRules(lines);
-    draw();
+  showEntries(shown.entries);
+  if (trace.picture) {
+    showDiagram(trace.picture);
   } else {
-    showEntries(entries);
     offerDiagram(`Draw all ${stepCount()} steps`, draw);
-    const mine = shown;
-    setTimeout(() => {
-      if (mine === shown && editor.text === text) {
-        showRules(lines);
-        markEntry(chosen);
-      }
-    });
   }
   byId("save").disabled = !diagram();
   choose(Math.min(chosen, stepCount()), false);
 }
 
-/** Shows the lines with the rules behind them. */
-function showRules(lines) {
-  shown.entries = entriesOf(textOf(player.draw(FORM.EXPLAINED, editor.text)), lines);
-  showEntries(shown.entries);
-}
-
+/** Draws a script that has too many steps to be drawn each time that its text changes. */
 function draw() {
-  showDiagram(textOf(player.draw(FORM.SVG, shown.played.text)));
+  showDiagram(JSON.parse(textOf(player.trace(MOST_STEPS, shown.text))).picture);
   markColumn(chosen);
   byId("save").disabled = !refusal.hidden;
 }
@@ -140,29 +126,17 @@ function setRefused(isRefused) {
   }
   editor.showRefusal(isRefused, shown.place);
   byId("right").classList.toggle("stale", isRefused);
-  byId("right").classList.toggle("bare", isRefused && !shown.played);
+  byId("right").classList.toggle("bare", isRefused && !shown.trace);
   byId("save").disabled = isRefused;
 }
 
 // ---- the chosen step
 
-let asking;
-
-/** Shows the states after the chosen step; for a long script, once the step no longer changes. */
-function askStates() {
-  clearTimeout(asking);
-  if (!shown.played) {
-    return;
-  }
-  const { played } = shown;
-  const ask = () => {
-    showStates(statesAfter(played, played.lines.length < chosen ? played.lines.length : chosen));
+/** Shows the states after the chosen step. */
+function showChosenStates() {
+  if (shown.trace) {
+    showStates(statesAfter(shown.trace, chosen));
     document.body.dataset.asked = chosen;
-  };
-  if (stepCount() <= MOST_AT_ONCE) {
-    ask();
-  } else {
-    asking = setTimeout(ask, 250);
   }
 }
 
@@ -177,9 +151,10 @@ function choose(step, scrolls = true) {
   const row = markEntry(chosen);
   const mark = markColumn(chosen);
   if (isPlayed()) {
-    editor.showMarks(shown.steps.places[chosen - 1], "step", undefined);
+    const step = shown.steps[chosen - 1];
+    editor.showMarks(step && [step.from, step.to], "step", undefined);
   }
-  askStates();
+  showChosenStates();
   if (scrolls) {
     const entry = shown.entries.find((each) => each.step === chosen);
     said.textContent = entry ? `${words}: ${entry.words}: ${entry.line}. ${entry.rule}` : words;
@@ -312,7 +287,7 @@ function followCaret() {
     return;
   }
   const caret = editor.area.selectionStart;
-  const step = shown.steps.places.findIndex(([from, to]) => from <= caret && caret <= to) + 1;
+  const step = shown.steps.findIndex(({ from, to }) => from <= caret && caret <= to) + 1;
   if (step && step !== chosen) {
     choose(step);
   }

@@ -55,6 +55,11 @@ export class Player {
     return this.#call("wumsnair_draw", [form], script);
   }
 
+  /** Returns the trace of a script as JSON, with its picture if it has at most `mostDrawn` steps. */
+  trace(mostDrawn, script) {
+    return this.#call("wumsnair_trace", [mostDrawn], script);
+  }
+
   /** Returns where and why a script is refused, as `./draw` says it on standard error; nothing if it is not refused. */
   explain(script) {
     return this.#call("wumsnair_explain", [], script);

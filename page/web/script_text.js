@@ -1,48 +1,4 @@
-// The places of the parts of a script in its text, which is valid JSON, since the player has read it already; and the number of items
-// that the chains of any text make.
-
-/** Returns the offset after a string that begins at `from` with its quote. */
-function endOfString(text, from) {
-  let index = from + 1;
-  while (index < text.length && text[index] !== '"') {
-    index += text[index] === "\\" ? 2 : 1;
-  }
-  return index + 1;
-}
-
-/** Returns the place of the list "steps" at the top of a script, as `open` and `close`, and the start and end of each of its items in
- * `places`; undefined if there is no such list. If there are two lists, the last one counts, as it does for the player. */
-export function stepsOf(text) {
-  let found, steps, key;
-  let depth = 0, start = 0;
-  for (let index = 0; index < text.length; index += 1) {
-    const sign = text[index];
-    if (sign === '"') {
-      const end = endOfString(text, index);
-      if (depth === 1) {
-        key = text.slice(index, end);
-      }
-      index = end - 1;
-    } else if (sign === "{" || sign === "[") {
-      if (depth === 1 && sign === "[" && isSteps(key)) {
-        steps = { open: index, close: text.length, places: [] };
-      }
-      if (steps && depth === 2) {
-        start = index;
-      }
-      depth += 1;
-    } else if (sign === "}" || sign === "]") {
-      depth -= 1;
-      if (steps && depth === 2) {
-        steps.places.push([start, index + 1]);
-      } else if (steps && depth === 1) {
-        steps.close = index;
-        [found, steps] = [steps, undefined];
-      }
-    }
-  }
-  return found;
-}
+// The place of a refusal in the text of a script, and the number of items that the chains of any text make.
 
 /** Returns the most items that an operator makes from one item. */
 function itemsOfOne(operator) {
@@ -71,14 +27,6 @@ export function mostItemsOfOne(text) {
     // The player explains what is wrong with the text.
   }
   return most;
-}
-
-function isSteps(key) {
-  try {
-    return JSON.parse(key) === "steps";
-  } catch {
-    return false;
-  }
 }
 
 /** Returns the offset of a line and a column, which are counted from 1; a column is a character. */

@@ -75,9 +75,7 @@ function flowState(state) {
 
 /** Shows the states of the flows. */
 export function showStates(states) {
-  if (states === undefined) {
-    panel.replaceChildren(element("p", {}, "The player was not asked here: a script has at most 10,000 steps."));
-  } else if (states.length === 0) {
+  if (states.length === 0) {
     panel.replaceChildren(element("p", {}, "The script has no flow."));
   } else {
     panel.replaceChildren(...states.map(flowState));

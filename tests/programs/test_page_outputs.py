@@ -18,6 +18,7 @@ from worked_scripts import worked_scripts
 
 # The outputs that are compared, each by its word for play.c, and the words for the native programs.
 DRAWN = {"svg": [], "text": ["--text"], "explain": ["--explain"]}
+JSON = ["--json"]
 JUDGED = {"check": [], "order": ["--order"]}
 HARD = [b"", b"\xff", b"[" * 200_000, b"{" * 126, b'{"version":1', b'"\xed\xa0\x80"', b" " * 1_048_577]
 OUT_OF_MEMORY = ended(4, "out of memory")
@@ -57,7 +58,7 @@ def native(name):
     if name in RECORDS:
         judged = {word: run(program("flow_judge"), *flags, text=text)[:2] for word, flags in JUDGED.items()}
         return {word: (ILLEGAL if status == 1 else status, printed) for word, (status, printed) in judged.items()}
-    drawn = {word: run(program("flow_draw"), *flags, text=text) for word, flags in DRAWN.items()}
+    drawn = {word: run(program("flow_draw"), *flags, text=text) for word, flags in (DRAWN | {"json": JSON}).items()}
     why = drawn["explain"].status, drawn["explain"].said
     return {"play": run(program("flow_play"), text=text)[:2], **{word: each[:2] for word, each in drawn.items()}, "why": why}
 
@@ -95,7 +96,7 @@ def from_python(library, name):
     if name in RECORDS:
         return {"check": library.check(text), "order": library.check(text, True)}
     drawn = {word: library.draw(text, form) for form, word in enumerate(DRAWN)}
-    return {"play": library.play(text), **drawn, "why": library.explain(text)}
+    return {"play": library.play(text), **drawn, "json": library.trace(text), "why": library.explain(text)}
 
 
 def expect_all(came, wanted):

@@ -15,7 +15,7 @@ COMMANDS = {
 }
 # The packages that have a module of Debian's Python.
 PYTHON = "/usr/bin/python3"
-MODULES = {"pytest": ("python3-pytest",), "xdist": ("python3-pytest-xdist",), "hypothesis": ("python3-hypothesis",)}
+MODULES = {"pytest": ("python3-pytest",), "xdist": ("python3-pytest-xdist",), "hypothesis": ("python3-hypothesis",), "jsonschema": ("python3-jsonschema",)}
 
 
 def has(need):

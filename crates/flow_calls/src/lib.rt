@@ -64,7 +64,39 @@ pub extern "C" fn wumsnair_draw(
 ) -> u32
     ensures { DrawsInto (script_meaning script.now) out.old out.new needed.new result }
 {
-    match drawing_of(alloc, form_of(form), script) {
+    give_drawing(alloc, form_of(form), script, out, needed)
+}
+
+/// Gives the trace of a script as JSON, as `flow_draw --json` prints it: its lines, each with the rule behind it, what
+/// the step did, and what it left of its flow. If `most_drawn` is not 0, and the script has at most that many
+/// steps, the trace also has the picture as SVG. `docs/trace.schema.json` describes it.
+///
+/// Returns 0 for a script that was played, 1 if the buffer is too short, 2 with the line of its refusal for a script
+/// that is refused, and 4 if it is out of memory.
+#[unsafe(no_mangle)]
+pub extern "C" fn wumsnair_trace(
+    alloc: Global,
+    most_drawn: u32,
+    script: &[u8],
+    out: &mut [u8],
+    needed: &mut usize,
+) -> u32
+    ensures { DrawsInto (script_meaning script.now) out.old out.new needed.new result }
+{
+    give_drawing(
+        alloc,
+        Form::JsonWithPicture(most_drawn),
+        script,
+        out,
+        needed,
+    )
+}
+
+/// Gives a script in a form.
+fn give_drawing(alloc: Global, form: Form, script: &[u8], out: &mut [u8], needed: &mut usize) -> u32
+    ensures { DrawsInto (script_meaning script.now) out.old out.new needed.new result }
+{
+    match drawing_of(alloc, form, script) {
         Ok(drawn) => give(drawn.as_bytes(), GIVEN, out, needed),
         Err(fault) => give_fault(alloc, fault, out, needed),
     }

@@ -1,5 +1,5 @@
 -- What contracts see of a shared core, and the results of its calls as the replies of a history.
--- Public clauses cite the replies (`try_emit_reply` to `cache_reply`); the rest is for private functions.
+-- Public clauses cite the replies (`try_emit_reply` to `cache_reply`) and `case_of`; the rest is for private functions.
 use Rattle.std.specs.Prelude.{◌≡◌, ℕ, ◌+◌, ◌-◌, ◌<◌, ◌≤◌, max, Bool, true, false, List, [], ◌∷◌, ◌++◌, map, length, Vec, Result, Ok, Err}
 use Rattle.std.specs.List.{AllByRecursion}
 use Rattle.circular_buffer.specs.Buffer.{keep_last}
@@ -58,6 +58,16 @@ SharedCoreNexts number old result new = Conforms old (call.TakeNext number) (nex
 abbrev pub cache_reply : {T A : Type 0} → Result (Vec T A) FlowFault → SharedReply T
 cache_reply = replied shared_flow (λ values. reply.Cached values.items)
 
+-- ---- cases
+
+-- a case of the code as a case of the definitions
+abbrev pub case_of : EmitCase → law.EmitCase
+case_of Appends = law.appends
+case_of Offers = law.offers
+case_of Queues = law.queues
+case_of DropsLatest = law.drops_latest
+case_of DropsOldest = law.drops_oldest
+
 -- ---- the fields
 
 -- how many values the ring has room for
@@ -99,14 +109,6 @@ pub record IsSound {T A : Type 0} (c : Inside T A) : Type 0 where
   pub rising : RisesTo 0 (map (λ q. q.number) c.queue) c.issued
 
 -- ---- private steps
-
--- a case of the code as a case of the definitions
-abbrev pub case_of : EmitCase → law.EmitCase
-case_of Appends = law.appends
-case_of Offers = law.offers
-case_of Queues = law.queues
-case_of DropsLatest = law.drops_latest
-case_of DropsOldest = law.drops_oldest
 
 -- by the core's fields, a subscriber is a whole window behind
 abbrev pub kept_full : {T : Type 0} → Core T → Bool

@@ -36,6 +36,6 @@ mod state;
 mod sub_id;
 
 pub use kind::{FlowCore, ReaderCalls, Signs, SubscriberCalls};
-pub use shared::SharedCore;
+pub use shared::{EmitCase, SharedCore};
 pub use state::StateCore;
 pub use sub_id::SubId;

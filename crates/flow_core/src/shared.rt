@@ -16,6 +16,7 @@ mod subscribe;
 mod taking;
 
 use circular_buffer::HeapCircularBuffer;
+pub use emission::EmitCase;
 use flow_containers::{Queue, Subscribers};
 use flow_law::{Config, FlowFault, FlowValue, Overflow};
 use std::alloc::{Allocator, Global};

@@ -1,4 +1,4 @@
-//! Draws a flow script from standard input to standard output: `flow_draw [--text | --explain]`. Why a script
+//! Draws a flow script from standard input to standard output: `flow_draw [--text | --explain | --json]`. Why a script
 //! is refused is explained on standard error, too, beside the line on standard output.
 #![tactic(auto)]
 

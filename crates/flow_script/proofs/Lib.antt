@@ -9,3 +9,5 @@ pub mod StateLemmas
 pub mod TellingLemmas
 pub mod TextLemmas
 pub mod WorkedScripts
+pub mod CaseLemmas
+pub mod TraceLemmas

@@ -6,9 +6,18 @@ use Rattle.std.proofs.lemmas.Bool.Decides.{nat_tests}
 use Rattle.script_chain_format.specs.declared.reading.fault.ScriptFault.{ScriptFault}
 use Rattle.script_chain_format.specs.declared.reading.fault.ScriptFault.TheVariants.{OutOfMemory, ReadFailed, WriteFailed, NotJson, BadVersion, BadShape, UnknownName, DuplicateName, TooLarge}
 use Rattle.script_chain_format.specs.Results.{Gives, result_map, result_then}
-use Rattle.script_format.specs.Checks.{most_bytes, read_script, script_of, json_of}
-use Rattle.flow_script.specs.ScriptMeaning.{answers_of, script_meaning, text_of}
+use Rattle.script_format.specs.Checks.{Checked, most_bytes, read_script, script_of, json_of}
+use Rattle.flow_script.specs.Cases.{trace_of, traced}
+use Rattle.flow_script.specs.ScriptMeaning.{answered, answers_of, script_meaning, text_of}
 use Rattle.flow_script.specs.Playing.{Plays}
+
+answers_traced : (r : Result Checked ScriptFault) → result_map (λ s. answers_of s.flows s.steps) r ≡ result_map (λ t. t.answers) (result_map (λ s. trace_of s.flows s.steps) r)
+answers_traced (Ok s) = refl
+answers_traced (Err fault) = refl
+
+-- a trace has the answers of its script
+pub answered_traced : (bytes : List ℕ) → answered bytes ≡ result_map (λ t. t.answers) (traced bytes)
+answered_traced bytes = answers_traced (read_script bytes)
 
 below : (n : ℕ) → most_bytes < n → nat_lt most_bytes n ≡ true
 below n lt = grind (arith, nat_tests)

@@ -9,9 +9,13 @@ use Rattle.flow_script.specs.declared.player.Player.{Player as KeptPlayer}
 use Rattle.flow_script.specs.declared.row.PlayedFlow.{PlayedFlow as Kept}
 use Rattle.flow_script.specs.declared.refusal.Refusal.{Refusal}
 use Rattle.flow_script.specs.declared.answer.Answer.{Answer as Given}
-use Rattle.flow_script.specs.declared.answer.Told.{Told}
+use Rattle.flow_script.specs.declared.trace.Seen.{Seen}
+use Rattle.flow_script.specs.declared.case.Case.{Case}
+use Rattle.flow_script.specs.declared.case.Case.TheVariants.{Plain}
+use Rattle.script_format.specs.declared.script.FlowStep.{FlowStep}
 use Rattle.flow_script.specs.Answers.{Answer, as_answer, no_flow}
-use Rattle.flow_script.specs.Said.{said_of}
+use Rattle.flow_script.specs.Cases.{cases_from, place_case, row_from, step_case, with_place}
+use Rattle.flow_script.specs.Traces.{seen_case}
 use Rattle.flow_script.specs.Refusals.{IsTold, refused_answer}
 use Rattle.flow_script.specs.Players.{MakesPlayer, ShowsPlayer}
 use Rattle.flow_script.specs.Rows.{AddsFlow, FollowsPlace, FollowsRow, ShowsFlow, ShowsPlace, ShowsRow}
@@ -67,14 +71,32 @@ follows-past play i kept answer past is row shows =
     subst over (sym (none-past kept row i shows past)) (subst (λ r. ShowsRow kept r) (sym (set-past kept row i None shows past)) shows, is)
 
 -- if the answers so far and those of the rest are all answers, so are they after one more step
-pub next_answers : (row : List (Option PlayedFlow)) (step : Step) (before after : List Step) (old new : List Told) (told : Told) (all : List Answer) → before ≡ step ∷ after → new ≡ old ++ told ∷ []
-    → as_answer told.answer ≡ (turn (action_of step) row).result → map said_of old ++ answers_from row (actions_of before) ≡ all
-    → map said_of new ++ answers_from (turn (action_of step) row).state (actions_of after) ≡ all
-next_answers row step before after old new told all is pushed answered so_far =
+pub next_answers : (row : List (Option PlayedFlow)) (step : Step) (before after : List Step) (old new : List Given) (answer : Given) (all : List Answer) → before ≡ step ∷ after → new ≡ old ++ answer ∷ []
+    → as_answer answer ≡ (turn (action_of step) row).result → map as_answer old ++ answers_from row (actions_of before) ≡ all
+    → map as_answer new ++ answers_from (turn (action_of step) row).state (actions_of after) ≡ all
+next_answers row step before after old new answer all is pushed answered so_far =
     let t = turn (action_of step) row in
     let rest = answers_from t.state (actions_of after) in
-    ap (λ l. map said_of l ++ rest) pushed ∙ ap (λ l. l ++ rest) (map-append said_of old (told ∷ [])) ∙ append_assoc (map said_of old) (as_answer told.answer ∷ []) rest
-    ∙ ap (λ a. map said_of old ++ (a ∷ rest)) answered ∙ ap (λ l. map said_of old ++ answers_from row (actions_of l)) (sym is) ∙ so_far
+    ap (λ l. map as_answer l ++ rest) pushed ∙ ap (λ l. l ++ rest) (map-append as_answer old (answer ∷ [])) ∙ append_assoc (map as_answer old) (as_answer answer ∷ []) rest
+    ∙ ap (λ a. map as_answer old ++ (a ∷ rest)) answered ∙ ap (λ l. map as_answer old ++ answers_from row (actions_of l)) (sym is) ∙ so_far
+
+-- if the cases so far and those of the rest are all cases, so are they after one more step
+pub next_cases : (row : List (Option PlayedFlow)) (step : Step) (before after : List Step) (old new : List Seen) (seen : Seen) (all : List Case) → before ≡ step ∷ after → new ≡ old ++ seen ∷ []
+    → seen.case ≡ step_case (action_of step) row → map seen_case old ++ cases_from row (actions_of before) ≡ all
+    → map seen_case new ++ cases_from (turn (action_of step) row).state (actions_of after) ≡ all
+next_cases row step before after old new seen all is pushed took so_far =
+    let t = turn (action_of step) row in
+    let rest = cases_from t.state (actions_of after) in
+    ap (λ l. map seen_case l ++ rest) pushed ∙ ap (λ l. l ++ rest) (map-append seen_case old (seen ∷ [])) ∙ append_assoc (map seen_case old) (seen.case ∷ []) rest
+    ∙ ap (λ a. map seen_case old ++ (a ∷ rest)) took ∙ ap (λ l. map seen_case old ++ cases_from row (actions_of l)) (sym is) ∙ so_far
+
+-- the case of a step on what is at a place
+pub case-at : (kept : List (Option Kept)) (row : List (Option PlayedFlow)) (i : ℕ) (k : Option Kept) (step : FlowStep) (case : Case) → ShowsRow kept row → i < length kept → k ≡ get_or kept i k
+    → ((flow : Option PlayedFlow) → ShowsPlace k flow → case ≡ place_case step flow) → case ≡ place_case step (flow_at i row)
+case-at kept row i k step case shows here is takes = takes (flow_at i row) (shown-at kept row i k shows here is)
+
+pub case-past : (kept : List (Option Kept)) (row : List (Option PlayedFlow)) (i : ℕ) (step : FlowStep) → ShowsRow kept row → length kept ≤ i → Plain ≡ place_case step (flow_at i row)
+case-past kept row i step shows past = ap (place_case step) (sym (none-past kept row i shows past))
 
 -- ---- flows that are made
 
@@ -85,6 +107,7 @@ adds-made name head kept new player k before made begins pushed row shows =
     let p = made.0 in (
       row ++ Some (first_played p) ∷ [],
       subst (λ l. ShowsRow l (row ++ Some (first_played p) ∷ [])) (sym pushed) (shown-push kept row (Some k) (Some (first_played p)) shows (begins p made.2)),
+      ap (λ r. with_place name r row) made.1,
       λ rest. ap (λ r. after_refusals before (with_flow name r rest row)) made.1,
     )
 
@@ -99,6 +122,7 @@ adds-refused name head kept new refused before after has_name makes told ends pu
     let one = not_made_flow (Some name) (refused_answer refused) ∷ [] in (
       row ++ None ∷ [],
       subst (λ l. ShowsRow l (row ++ None ∷ [])) (sym pushed) (shown-push kept row None None shows tt),
+      ap (λ n. with_place n (player_of head.flow) row) has_name ∙ ap (λ r. with_place (Some name) r row) (makes told),
       λ rest. ap (λ n. after_refusals before (with_flow n (player_of head.flow) rest row)) has_name
           ∙ ap (λ r. after_refusals before (with_flow (Some name) r rest row)) (makes told)
           ∙ refusals-assoc before one (rest (row ++ None ∷ [])) ∙ ap (λ l. after_refusals l (rest (row ++ None ∷ []))) (sym ends),
@@ -106,7 +130,9 @@ adds-refused name head kept new refused before after has_name makes told ends pu
 
 pub ends-refused : (head : NamedHead) (kept : List (Option Kept)) (refused : Refusal) (before after : List NotMade)
     → head.name ≡ None → MakesPlayer head.flow (Err refused) → IsTold refused → after ≡ before ++ not_made_flow None (refused_answer refused) ∷ [] → AddsFlow head false kept kept before after
-ends-refused head kept refused before after unnamed makes told ends row rest =
-    let one = not_made_flow None (refused_answer refused) ∷ [] in
-    ap (λ n. after_refusals before (with_flow n (player_of head.flow) rest row)) unnamed ∙ ap (λ r. after_refusals before (with_flow None r rest row)) (makes told)
-    ∙ refusals-assoc before one (only_steps []) ∙ ap (λ l. after_refusals l (only_steps [])) (sym ends)
+ends-refused head kept refused before after unnamed makes told ends row =
+    let one = not_made_flow None (refused_answer refused) ∷ [] in (
+      ap (λ n. with_place n (player_of head.flow) row) unnamed ∙ ap (λ r. with_place None r row) (makes told),
+      λ rest. ap (λ n. after_refusals before (with_flow n (player_of head.flow) rest row)) unnamed ∙ ap (λ r. after_refusals before (with_flow None r rest row)) (makes told)
+          ∙ refusals-assoc before one (only_steps []) ∙ ap (λ l. after_refusals l (only_steps [])) (sym ends),
+    )

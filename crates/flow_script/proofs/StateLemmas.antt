@@ -12,10 +12,10 @@ use Rattle.flow_law.specs.StateFlow.{last_got_by}
 use Rattle.flow_law.specs.StateFlow as documented
 use Rattle.flow_script.specs.StateMeaning.{documented_state_reply, received_by_state, is_last}
 
-same : (a b : ℤ) → a ≡ b → int_eq a b ≡ true
+pub same : (a b : ℤ) → a ≡ b → int_eq a b ≡ true
 same a b e = (Decides-int_eq a b).1 e
 
-differs : (a b : ℤ) → a ≢ b → int_eq a b ≡ false
+pub differs : (a b : ℤ) → a ≢ b → int_eq a b ≡ false
 differs a b ne = elim (int_eq a b) as (λ t. int_eq a b ≡ t → t ≡ false) [ true ↦ λ h. absurd (ne ((Decides-int_eq a b).0 h)) | false ↦ λ _. refl ] refl
 
 compared : (v a : ℤ) (r : StateReply ℤ) → ((v ≡ a) × (r ≡ reply.Answered true)) ⊎ ((v ≢ a) × (r ≡ reply.Answered false)) → r ≡ reply.Answered (int_eq v a)

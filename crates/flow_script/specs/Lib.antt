@@ -8,7 +8,9 @@ pub mod SharedMeaning
 pub mod StateMeaning
 pub mod SharingMeaning
 pub mod ScriptMeaning
+pub mod Cases
 pub mod Said
+pub mod Traces
 pub mod Shown
 pub mod Sharings
 pub mod Players

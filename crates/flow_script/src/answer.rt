@@ -1,4 +1,4 @@
-//! The answers of a script, and what is observed with them.
+//! The answers of a script.
 
 use flow_law::{ChainFault, End, FlowFault, Next, Report, ShareFault};
 
@@ -44,44 +44,11 @@ pub struct NotMade {
     pub answer: Answer,
 }
 
-/// What is observed of a step's flow and subscriber, beside the answer.
-#[derive(Clone, Copy)]
-pub struct Seen {
-    /// How many values the step emitted, or `None` if its flow is not a shared flow. A step that makes room emits
-    /// values that were waiting.
-    pub emitted: Option<u64>,
-    /// The lag of the step's subscriber after the step: how many emitted values it has yet to receive. Its own first
-    /// values do not count.
-    pub lag: Option<u64>,
-    /// The moment of a turn.
-    pub at: Option<u64>,
-}
-
-/// The subscriber of a step: the place of its flow, and the place of its name in that flow.
-#[derive(Clone, Copy)]
-pub struct Subscriber {
-    pub flow: usize,
-    pub place: usize,
-    /// Whether the step introduces it.
-    pub is_new: bool,
-}
-
-/// A step's answer, and what was observed with it.
-#[derive(Drop)]
-pub struct Told {
-    pub answer: Answer,
-    pub seen: Seen,
-    /// The subscriber that the step introduces, or that receives by it.
-    pub subscriber: Option<Subscriber>,
-}
-
 /// All answers of a script.
 #[derive(Drop)]
 pub struct Answers {
     /// The flows that were refused when they were made.
     pub not_made: Vec<NotMade>,
     /// The answers of the steps that were played, in order.
-    pub steps: Vec<Told>,
-    /// For each of these steps, the final lag of the subscriber that it introduced.
-    pub last_lags: Vec<Option<u64>>,
+    pub steps: Vec<Answer>,
 }

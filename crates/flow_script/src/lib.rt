@@ -13,27 +13,29 @@
 //! `shared_calls`, `state_calls` and `sharing_steps` those of one kind. `row` plays a step on the flow at its place,
 //! `collecting` collects a chain.
 //!
-//! Each step has one `Answer`, and with it what is observed of its flow (`Seen`). A call that runs out of memory has no
-//! answer: it ends the script with `ScriptFault::OutOfMemory`.
+//! Each step has one `Answer`. A call that runs out of memory has no answer: it ends the script with
+//! `ScriptFault::OutOfMemory`.
 //!
 //! # Lines
 //! The text of a script has a line for each answer (`text_of`): `lines` has the lines of flows, `chain_lines` those of
 //! collections, `share_lines` those of turns.
 //!
-//! # Losses
-//! `Losses` finds the values that subscribers lose in a flow that drops its oldest values, for programs that show them.
+//! # Traces
+//! `trace_of` plays a script and also watches its flows: for each step it returns the case of the documented flow that
+//! the step took, and what it left. The head of `trace` says how a trace is read. Only who asks for a trace pays for it.
 #![tactic(auto)]
 
 mod answer;
+mod asking;
+mod case;
 mod chain_lines;
 mod collecting;
 mod flow_steps;
+mod flow_watch;
 mod lines;
-mod losses;
 mod members;
 mod memory;
 mod numbers;
-mod observing;
 mod player;
 mod playing;
 mod refusal;
@@ -45,21 +47,29 @@ mod share_lines;
 mod shared_calls;
 mod sharing_steps;
 mod state_calls;
+mod step_case;
+mod subscriber_names;
 mod telling;
+mod trace;
+mod tracing;
 mod transfer;
 mod watched;
+mod watching;
 
-pub use answer::{Answer, Answers, NotMade, Seen, Subscriber, Told};
+pub use answer::{Answer, Answers, NotMade};
+pub use case::Case;
 pub use chain_lines::chain_fault_words;
-pub use losses::{Loss, Losses};
 pub use members::{number_at, text_at};
 pub use playing::{answers_of, lines_of, play, played};
 pub use script_format::{
-    Build, FlowStep, NamedFlow, Script, ScriptFault, ScriptFlow, Step, read_script,
+    Build, FlowStep, NamedFlow, ReadScript, Script, ScriptFault, ScriptFlow, Step, read_script,
 };
 pub use script_text::{add_answer, text_of};
+pub use subscriber_names::SubscriberNames;
 pub use telling::{
     OUT_OF_MEMORY, REFUSED, TRANSFER_FAILED, line_of, tell, tell_arguments, tell_fault, tell_memory,
 };
+pub use trace::{Act, After, Changes, FlowHead, FlowTrace, Loss, Moved, Progress, Seen, Trace};
+pub use tracing::{TracedScript, trace_of};
 pub use transfer::{read_all, write_all};
 pub use watched::Watched;

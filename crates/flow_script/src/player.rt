@@ -4,10 +4,12 @@ ghost use Rattle.script_format.specs.Actions.{head_of_flow};
 ghost use Rattle.script_chain_format.specs.Chains.{build_of};
 ghost use Rattle.script_format.specs.Heads.{shared_chain, state_chain};
 ghost use Rattle.flow_script.specs.ScriptMeaning as meaning;
+ghost use Rattle.flow_script.specs.Cases.{player_case};
 ghost use Rattle.flow_script.specs.Players.{MakesPlayer, MakesSharing, Rewinds, ShowsPlayer};
 ghost use Rattle.flow_script.specs.Shown.{FollowsStep};
 
 use crate::answer::Answer;
+use crate::case::{Case, shared_case, state_case};
 use crate::flow_steps::{answer_without_call, flow_step};
 use crate::numbers::Numbers;
 use crate::refusal::Refusal;
@@ -92,6 +94,36 @@ impl Player {
             Player::Shared(core) => Some(core),
             Player::Share(sharing) => Some(sharing.hub().core()),
             Player::State(_) | Player::StateIn(_) => None,
+        }
+    }
+
+    /// Returns the state flow that the steps are played on, if it is one.
+    pub fn state_core(&self) -> Option<&StateCore<i64>> {
+        match self {
+            Player::State(core) => Some(core),
+            Player::StateIn(sharing) => Some(sharing.hub().core()),
+            Player::Shared(_) | Player::Share(_) => None,
+        }
+    }
+
+    /// Returns the number of subscribers.
+    pub fn subscription_count(&self) -> u64 {
+        match (self.shared_core(), self.state_core()) {
+            (Some(core), _) => core.subscription_count(),
+            (None, Some(core)) => core.subscription_count(),
+            (None, None) => 0,
+        }
+    }
+
+    /// Returns the case of a step, before it is played.
+    pub fn case_of(&self, step: FlowStep) -> Case
+        ensures { (p : meaning.Player) → ShowsPlayer self.now p → result ≡ player_case step p }
+    {
+        match self {
+            Player::Shared(core) => shared_case(core, step),
+            Player::State(core) => state_case(core, step),
+            Player::Share(_) => Case::Plain,
+            Player::StateIn(_) => Case::Plain,
         }
     }
 

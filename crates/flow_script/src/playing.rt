@@ -8,9 +8,8 @@ ghost use Rattle.flow_script.specs.Rows.{FollowsSteps};
 ghost use Rattle.flow_script.specs.Said.{all_said};
 ghost use Rattle.flow_script.specs.Watching.{inner_of, has_failed};
 
-use crate::answer::{Answers, Told};
-use crate::observing::{last_lags, seen_step};
-use crate::row::{PlayedFlow, begin};
+use crate::answer::{Answer, Answers};
+use crate::row::{PlayedFlow, begin, row_step};
 use crate::script_text::text_of;
 use crate::transfer::{read_all, write_all};
 use crate::watched::Watched;
@@ -23,16 +22,16 @@ fn play_steps(
     alloc: Global,
     row: &mut Vec<Option<PlayedFlow>>,
     steps: Vec<Step>,
-) -> Result<Vec<Told>, ScriptFault>
-    ensures plays { IfOk result (λ told.
-        FollowsSteps (actions_of steps.items) row.old.items told.items) }
+) -> Result<Vec<Answer>, ScriptFault>
+    ensures plays { IfOk result (λ answers.
+        FollowsSteps (actions_of steps.items) row.old.items answers.items) }
     ensures fault { IfErr result (λ fault. fault ≡ ScriptFault.OutOfMemory) }
 {
-    let mut told = Vec::new(alloc);
+    let mut answers = Vec::new(alloc);
     for step in steps {
-        told.push(seen_step(alloc, row, step)?)?;
+        answers.push(row_step(alloc, row, step)?)?;
     }
-    Ok(told)
+    Ok(answers)
 }
 
 /// Plays a script that was read: makes its flows, and then plays its steps on them.
@@ -47,16 +46,10 @@ pub fn played(alloc: Global, script: Script) -> Result<Answers, ScriptFault>
         return Ok(Answers {
             not_made,
             steps: Vec::new(alloc),
-            last_lags: Vec::new(alloc),
         });
     };
     let steps = play_steps(alloc, &mut row, steps)?;
-    let last_lags = last_lags(alloc, row.as_slice(), steps.as_slice())?;
-    Ok(Answers {
-        not_made,
-        steps,
-        last_lags,
-    })
+    Ok(Answers { not_made, steps })
 }
 
 /// Reads a script and plays it.

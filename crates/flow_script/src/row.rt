@@ -5,11 +5,13 @@ ghost use Rattle.script_format.specs.Heads.{NamedHead};
 ghost use Rattle.flow_script.specs.declared.row.PlayedFlow.{PlayedFlow as Kept};
 ghost use Rattle.flow_script.specs.Players.{MakesPlayer, ShowsPlayer};
 ghost use Rattle.flow_script.specs.Refusals.{IsTold, refused_answer};
+ghost use Rattle.flow_script.specs.Cases.{player_case};
 ghost use Rattle.flow_script.specs.Rows.{AddsFlow, BeginsScript, FollowsPlace, FollowsRow, ShowsFlow};
 ghost use Rattle.flow_script.specs.Said.{all_not_made};
 ghost use Rattle.flow_script.specs.ScriptMeaning as meaning;
 
 use crate::answer::{Answer, NotMade};
+use crate::case::{Case, current};
 use crate::collecting::collect;
 use crate::numbers::Numbers;
 use crate::player::Player;
@@ -41,15 +43,60 @@ impl PlayedFlow {
         Some(self.player.shared_core()?.emission_count())
     }
 
+    /// Returns how many values a shared flow keeps; those that a present or a new subscriber may still receive.
+    pub fn held(&self) -> usize {
+        match self.player.shared_core() {
+            Some(core) => core.held(),
+            None => 0,
+        }
+    }
+
+    /// Returns the oldest value that a shared flow keeps.
+    pub fn oldest(&self) -> Option<i64> {
+        self.player.shared_core()?.held_value(0).copied()
+    }
+
     /// Returns how many names of subscribers were introduced.
     pub fn subscribers(&self) -> usize {
         self.numbers.subscribers()
+    }
+
+    /// Returns the number of subscribers.
+    pub fn subscription_count(&self) -> u64 {
+        self.player.subscription_count()
+    }
+
+    /// Returns the value of a state flow.
+    pub fn value(&self) -> Option<i64> {
+        Some(current(self.player.state_core()?))
     }
 
     /// Returns the lag of the subscriber whose name has this place, if the flow is a shared flow.
     pub fn lag(&self, place: usize) -> Option<u64> {
         let id = self.numbers.subscriber_at(place)?;
         self.player.shared_core()?.lag(id)
+    }
+
+    /// Returns how many emitted values the subscriber whose name has this place has passed.
+    pub fn position(&self, place: usize) -> Option<u64> {
+        let lag = self.lag(place)?;
+        Some(self.emission_count()?.saturating_sub(lag))
+    }
+
+    /// Returns whether the emission whose name has this place still waits.
+    pub fn waits(&self, place: usize) -> bool {
+        match (self.numbers.emission_at(place), self.player.shared_core()) {
+            (Some(number), Some(core)) => core.poll(number),
+            _ => false,
+        }
+    }
+
+    /// Returns the case of a step on the flow.
+    pub fn case_of(&self, step: FlowStep) -> Case
+        ensures { (flow : meaning.PlayedFlow) → ShowsFlow self.now flow →
+            result ≡ player_case step flow.player }
+    {
+        self.player.case_of(step)
     }
 }
 

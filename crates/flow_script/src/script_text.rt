@@ -3,9 +3,9 @@ ghost use Rattle.std.specs.Prelude.{◌≡◌, ◌++◌, OnOk, IfOk, codes, map,
 ghost use Rattle.flow_script.specs.Answers.{as_answer};
 ghost use Rattle.flow_script.specs.Lines as lines;
 ghost use Rattle.flow_script.specs.ScriptMeaning as meaning;
-ghost use Rattle.flow_script.specs.Said.{not_made_of, all_said, said_of};
+ghost use Rattle.flow_script.specs.Said.{not_made_of, all_said};
 
-use crate::answer::{Answer, Answers, NotMade, Told};
+use crate::answer::{Answer, Answers, NotMade};
 use crate::chain_lines::{add_collected, add_with_chain_fault};
 use crate::lines::{
     add_count, add_line, add_list, add_next, add_test, add_value, add_wait, add_with_flow_fault,
@@ -68,11 +68,11 @@ fn add_all_not_made(text: &mut String, flows: &[NotMade]) -> Result<(), AllocErr
     Ok(())
 }
 
-fn add_steps(text: &mut String, steps: &[Told]) -> Result<(), AllocError>
-    ensures { OnOk result (lines.AddsText (lines.lines_of (map said_of steps.now)) text.old text.new) }
+fn add_steps(text: &mut String, steps: &[Answer]) -> Result<(), AllocError>
+    ensures { OnOk result (lines.AddsText (lines.lines_of (map as_answer steps.now)) text.old text.new) }
 {
-    for told in steps {
-        add_answer(text, &told.answer)?;
+    for answer in steps {
+        add_answer(text, answer)?;
     }
     Ok(())
 }

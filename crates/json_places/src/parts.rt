@@ -34,6 +34,15 @@ pub struct Member<'a> {
     pub end: usize,
 }
 
+/// The bytes of a value in a text.
+#[derive(Clone, Copy)]
+pub struct Extent {
+    /// The offset of its first byte.
+    pub from: usize,
+    /// The offset after its last byte.
+    pub to: usize,
+}
+
 /// Whether a byte is in a text between quotes.
 #[derive(Clone, Copy)]
 pub enum Quoted {
@@ -191,6 +200,26 @@ impl<'a> Text<'a> {
             at = self.part_after(at)?;
         }
         Some(Spot { value, at })
+    }
+
+    /// Returns the bytes of each item of a list. A value that is not a list has no items.
+    ///
+    /// # Errors
+    /// `AllocError`: out of memory.
+    pub fn items(self, list: Spot<'a>) -> Result<Vec<Extent>, AllocError> {
+        let mut items = Vec::new(self.alloc);
+        let Some(values) = list.value.as_array() else {
+            return Ok(items);
+        };
+        let mut at = list.at.saturating_add(1);
+        for _ in 0..values.len() {
+            let Some(from) = self.part_from(at) else {
+                break;
+            };
+            at = from.saturating_add(self.raw(from).len());
+            items.push(Extent { from, to: at })?;
+        }
+        Ok(items)
     }
 
     /// Returns the value that begins at an offset as messages show it, and what follows it. A value of more than 48

@@ -1,4 +1,4 @@
-//! The picture of a collected chain: a lane for its source, and one for what it gives.
+//! The picture of a collected chain: a lane for its source, one for the other side of each zip, and one for what it gives.
 
 use crate::picture::{Label, Note, Picture, Sign, Words};
 use crate::script_words::items_of;
@@ -16,6 +16,7 @@ type Content<'a> = (Sign, Words<'a>);
 /// The source of a chain.
 #[derive(Clone, Copy)]
 struct Source<'a> {
+    label: &'static str,
     name: &'static str,
     items: &'a [Value],
 }
@@ -26,6 +27,7 @@ impl<'a> Source<'a> {
             for name in ["of", "range", "script"] {
                 if source.get(name).is_some() {
                     return Source {
+                        label: name,
                         name,
                         items: items_of(source, name),
                     };
@@ -33,6 +35,7 @@ impl<'a> Source<'a> {
             }
         }
         Source {
+            label: "",
             name: "",
             items: &[],
         }
@@ -90,6 +93,23 @@ impl<'a> Given<'a> {
     }
 }
 
+/// Returns the sources of a chain: its own one, and the other side of each zip.
+fn sources_of(alloc: Global, chain: &Value) -> Result<Vec<Source<'_>>, AllocError> {
+    let mut sources = Vec::new(alloc);
+    sources.push(Source::new(chain))?;
+    for op in items_of(chain, "ops") {
+        if let Some(other) = op.get("with") {
+            let Source { name, items, .. } = Source::new(other);
+            sources.push(Source {
+                label: "zip with",
+                name,
+                items,
+            })?;
+        }
+    }
+    Ok(sources)
+}
+
 /// Adds a mark to a lane that has not ended. After the last column of items, a lane that goes on gets two dots.
 fn add_content<'a>(picture: &mut Picture<'a>, lane: usize, content: Content<'a>) {
     if !picture.is_open(lane) {
@@ -108,13 +128,27 @@ fn add_content<'a>(picture: &mut Picture<'a>, lane: usize, content: Content<'a>)
     picture.add_mark(lane, sign, words, Note::None);
 }
 
+/// Adds the marks of a column, and returns whether a lane has not ended.
+fn add_column<'a>(
+    picture: &mut Picture<'a>,
+    sources: &[Source<'a>],
+    given: Given<'a>,
+    column: usize,
+) -> bool {
+    let mut is_open = false;
+    for (lane, source) in sources.iter().enumerate() {
+        add_content(picture, lane, source.at(column));
+        is_open = is_open || picture.is_open(lane);
+    }
+    add_content(picture, sources.len(), given.at(column));
+    picture.columns = picture.columns.saturating_add(1);
+    is_open || picture.is_open(sources.len())
+}
+
 /// Adds the marks of a collection.
-fn add_columns<'a>(picture: &mut Picture<'a>, source: Source<'a>, given: Given<'a>) {
+fn add_columns<'a>(picture: &mut Picture<'a>, sources: &[Source<'a>], given: Given<'a>) {
     for column in 0..MOST_ITEMS + 1 {
-        add_content(picture, 0, source.at(column));
-        add_content(picture, 1, given.at(column));
-        picture.columns = picture.columns.saturating_add(1);
-        if !picture.is_open(0) && !picture.is_open(1) {
+        if !add_column(picture, sources, given, column) {
             break;
         }
     }
@@ -131,10 +165,12 @@ pub fn collection_picture<'a>(
     answer: &'a Answer,
     line: &'a str,
 ) -> Result<Picture<'a>, AllocError> {
-    let source = Source::new(chain);
+    let sources = sources_of(alloc, chain)?;
     let mut picture = Picture::new(alloc);
-    picture.add_lane(Label::of(source.name), None);
+    for source in &sources {
+        picture.add_lane(Label::of(source.label), None);
+    }
     picture.add_lane(Label::of("result"), None);
-    add_columns(&mut picture, source, Given::new(answer, line));
+    add_columns(&mut picture, sources.as_slice(), Given::new(answer, line));
     picture.finish()
 }

@@ -1,47 +1,60 @@
 //! The drawing of a script.
 ghost use Rattle.std.specs.Prelude.{IfOk, string_bytes};
-ghost use Rattle.flow_script.specs.Said.{all_said};
+ghost use Rattle.flow_script.specs.Traces.{trace_seen};
 ghost use Rattle.flow_script.specs.ScriptMeaning.{script_meaning, text_of};
 ghost use Rattle.script_drawing.specs.Drawing.{Pictures, TellsInOrder, TellsLines};
 ghost use Rattle.script_drawing.specs.Listing.{told};
 
+use crate::form::Form;
 use crate::frame::{Frame, explained_frame};
+use crate::json::{json_frame, step_extents};
 use crate::lines::split_lines;
 use crate::listing::add_listing;
 use crate::played::Played;
-use crate::script_words::items_of;
-use crate::svg::svg_frame;
+use crate::svg::{SvgPicture, svg_picture};
 use crate::text::text_frame;
-use flow_script::{Answers, ScriptFault, answers_of, text_of};
+use flow_script::{ScriptFault, TracedScript, text_of, trace_of};
+use json_places::Extent;
 use script_explain::rules_of;
 use serde_json::Value;
 use std::alloc::{AllocError, Global};
 
-/// The form of a drawing.
-#[derive(Clone, Copy)]
-pub enum Form {
-    Text,
-    Svg,
-    /// No picture, but after each line that a step wrote the rule by which it wrote it.
-    Explained,
+/// Returns the picture of a script with all its lines.
+fn whole_svg(alloc: Global, frame: Frame, played: Played<'_>) -> Result<String, AllocError> {
+    framed(alloc, Form::Svg, frame, played, &[])
 }
 
-fn frame_of(
-    alloc: Global,
-    form: Form,
-    script: &Value,
-    played: Played<'_>,
-) -> Result<Frame, AllocError> {
+/// Returns the frame of the trace as JSON, with the picture of the script.
+fn pictured_json_frame(alloc: Global, played: Played<'_>) -> Result<Frame, AllocError> {
+    let SvgPicture {
+        frame,
+        columns,
+        names,
+    } = svg_picture(alloc, played)?;
+    let svg = whole_svg(alloc, frame, played)?;
+    let places = (columns.as_slice(), names.as_slice());
+    json_frame(alloc, played, Some((svg.as_str(), places)))
+}
+
+fn frame_of(alloc: Global, form: Form, played: Played<'_>) -> Result<Frame, AllocError> {
     match form {
-        Form::Text => text_frame(alloc, script, played),
-        Form::Svg => svg_frame(alloc, script, played),
-        Form::Explained => explained_frame(alloc, script),
+        Form::Text => text_frame(alloc, played),
+        Form::Svg => {
+            let picture = svg_picture(alloc, played)?;
+            Ok(picture.frame)
+        }
+        Form::Explained => explained_frame(alloc, played),
+        Form::JsonWithPicture(most) if most > 0 && played.steps().len() <= most as usize => {
+            pictured_json_frame(alloc, played)
+        }
+        Form::Json | Form::JsonWithPicture(_) => json_frame(alloc, played, None),
     }
 }
 
 /// Returns the frame around the lines of a script, with the rules beside the lines, if there are rules.
 fn framed(
     alloc: Global,
+    form: Form,
     frame: Frame,
     played: Played<'_>,
     rules: &[String],
@@ -50,7 +63,7 @@ fn framed(
         TellsInOrder (told played.entry.lines.now) (string_bytes drawn)) }
 {
     let mut listing = String::new(alloc);
-    add_listing(alloc, &mut listing, played, rules)?;
+    add_listing(alloc, &mut listing, played, rules, form)?;
     let Frame { before, after } = frame;
     let mut drawn = before;
     drawn.push_str(listing.as_str())?;
@@ -59,40 +72,50 @@ fn framed(
 }
 
 /// Returns the picture of a script, or its rules, around its lines.
-fn pictured(
-    alloc: Global,
-    form: Form,
-    script: &Value,
-    played: Played<'_>,
-) -> Result<String, AllocError>
+fn pictured(alloc: Global, form: Form, played: Played<'_>) -> Result<String, AllocError>
     ensures { IfOk result (λ drawn.
         TellsInOrder (told played.entry.lines.now) (string_bytes drawn)) }
 {
-    let frame = frame_of(alloc, form, script, played)?;
+    let frame = frame_of(alloc, form, played)?;
     let rules = match form {
-        Form::Explained => rules_of(alloc, script, played.steps, played.answers.steps.as_slice())?,
+        Form::Explained | Form::Json | Form::JsonWithPicture(_) => rules_of(alloc, played.traced)?,
         Form::Text | Form::Svg => Vec::new(alloc),
     };
-    framed(alloc, frame, played, rules.as_slice())
+    framed(alloc, form, frame, played, rules.as_slice())
 }
 
-/// Draws the script of these bytes, by its answers.
-fn drawn(alloc: Global, form: Form, bytes: &[u8], answers: &Answers) -> Result<String, ScriptFault>
-    ensures { IfOk result (λ drawn. TellsLines (text_of (all_said answers.now)) (string_bytes drawn)) }
+/// Returns the bytes of the steps in the text of a script, if the form of its drawing has them.
+fn extents_of(
+    alloc: Global,
+    form: Form,
+    bytes: &[u8],
+    script: &Value,
+) -> Result<Vec<Extent>, AllocError> {
+    match form {
+        Form::Json | Form::JsonWithPicture(_) => step_extents(alloc, bytes, script),
+        _ => Ok(Vec::new(alloc)),
+    }
+}
+
+/// Draws a script that was played, and whose text has these bytes.
+fn drawn(
+    alloc: Global,
+    form: Form,
+    bytes: &[u8],
+    traced: &TracedScript,
+) -> Result<String, ScriptFault>
+    ensures { IfOk result (λ drawn.
+        TellsLines (text_of (trace_seen traced.now.trace).answers) (string_bytes drawn)) }
 {
-    // The reader has accepted these bytes, so only memory can be refused.
-    let Ok(script) = Value::from_slice(alloc, bytes) else {
-        return Err(ScriptFault::OutOfMemory);
-    };
-    let text = text_of(alloc, answers)?;
+    let text = text_of(alloc, &traced.trace.answers)?;
     let lines = split_lines(alloc, text.as_str())?;
-    let steps = items_of(&script, "steps");
+    let extents = extents_of(alloc, form, bytes, &traced.value)?;
     let played = Played {
-        steps: steps.get(..answers.steps.len()).unwrap_or(&[]),
-        answers,
+        traced,
         lines: lines.as_slice(),
+        extents: extents.as_slice(),
     };
-    match pictured(alloc, form, &script, played) {
+    match pictured(alloc, form, played) {
         Ok(drawn) => Ok(drawn),
         Err(_) => Err(ScriptFault::OutOfMemory),
     }
@@ -102,11 +125,11 @@ fn drawn(alloc: Global, form: Form, bytes: &[u8], answers: &Answers) -> Result<S
 pub fn drawing_of(alloc: Global, form: Form, bytes: &[u8]) -> Result<String, ScriptFault>
     ensures { Pictures (script_meaning bytes.now) result }
 {
-    let answers = match answers_of(alloc, bytes) {
-        Ok(answers) => answers,
+    let traced = match trace_of(alloc, bytes) {
+        Ok(traced) => traced,
         Err(fault) => return Err(fault),
     };
-    match drawn(alloc, form, bytes, &answers) {
+    match drawn(alloc, form, bytes, &traced) {
         Ok(drawn) => Ok(drawn),
         Err(_) => Err(ScriptFault::OutOfMemory),
     }

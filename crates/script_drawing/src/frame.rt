@@ -1,8 +1,8 @@
 //! The text around the lines of a script.
 
 use crate::page::Page;
+use crate::played::Played;
 use crate::steps::add_heads;
-use serde_json::Value;
 use std::alloc::{AllocError, Global};
 
 /// The text before the lines of a script, and the text after them.
@@ -24,9 +24,9 @@ impl Frame {
 }
 
 /// Returns a frame with the flows of a script before its lines. The rules are beside the lines, not in the frame.
-pub fn explained_frame(alloc: Global, script: &Value) -> Result<Frame, AllocError> {
+pub fn explained_frame(alloc: Global, played: Played<'_>) -> Result<Frame, AllocError> {
     let mut page = Page::new(alloc);
-    add_heads(&mut page, script);
+    add_heads(alloc, &mut page, played);
     page.push('\n');
     Frame::before_lines(alloc, page)
 }

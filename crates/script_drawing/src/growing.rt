@@ -1,69 +1,28 @@
 //! A picture that grows with each step.
 
 use crate::marks::{Marks, Named, marks_of};
-use crate::picture::{Label, Note, Picture, Sign, Words};
-use crate::turns::Asking;
+use crate::picture::{Admitted, Label, Note, Picture, Sign, Words};
 use flow_law::{Command, Event, Report};
-use flow_script::{Answer, Loss, Losses, Told, number_at, text_at};
+use flow_script::{Act, Answer, Changes, FlowStep, FlowTrace, Seen, SubscriberNames, text_at};
 use indexmap::IndexMap;
-use script_chain_format::Version;
 use serde_json::Value;
 use std::alloc::{AllocError, Global};
 
 /// The most subscribers whose losses a step shows.
 const MOST_LOST: usize = 16;
 
-/// What a picture shows of a flow, beside the answers.
-#[derive(Drop)]
-struct Inside {
-    /// The chain of a sharing.
-    asking: Option<Asking>,
-    /// What subscribers lose, by their lanes, in a flow that drops its oldest values.
-    losses: Option<Losses<usize>>,
-}
-
-impl Inside {
-    /// Returns the item that the flow accepted in a turn.
-    fn item(&mut self, report: Report) -> Result<Option<i64>, AllocError> {
-        match &mut self.asking {
-            Some(asking) => asking.item(report),
-            None => Ok(None),
-        }
-    }
-}
-
-/// Marks a value on the lanes of the subscribers that lose it.
-fn mark_loss(picture: &mut Picture<'_>, loss: Loss<'_, usize>) {
-    for lane in loss.losers.iter().take(MOST_LOST) {
-        picture.add_mark(*lane, Sign::Lost, Words::Number(loss.value), Note::None);
-    }
-}
-
-/// Adds the next step on a flow, with the lane of its subscriber, if it has one. Marks what subscribers lose by it.
-fn mark_losses(
-    picture: &mut Picture<'_>,
-    losses: &mut Losses<usize>,
-    lane: Option<usize>,
-    step: &Value,
-    told: &Told,
-) -> Result<(), AllocError> {
-    match losses.add_step(lane, step, told)? {
-        Some(loss) => mark_loss(picture, loss),
-        None => {}
-    }
-    Ok(())
-}
-
 /// A picture that grows by a column with each step.
 #[derive(Drop)]
 pub struct GrowingPicture<'a> {
-    alloc: Global,
-    version: Version,
     picture: Picture<'a>,
-    /// What is shown of each flow, by name. The lanes of the flows are the first ones, in this order.
-    flows: IndexMap<&'a str, Inside>,
+    /// The flows of the script. Their lanes are the first ones.
+    flows: &'a [FlowTrace],
     /// The lanes of the subscribers and the emissions, by name. An emission that was done at once has none.
     lanes: IndexMap<&'a str, usize>,
+    /// The lanes of the emissions of each flow, by the places of their names.
+    emissions: Vec<Vec<Option<usize>>>,
+    /// The subscribers that losses name.
+    names: SubscriberNames<'a>,
 }
 
 /// Returns the note beside the item of a turn, which says whether the turn started the chain.
@@ -75,38 +34,31 @@ fn command_note(command: Command) -> Note {
 }
 
 impl<'a> GrowingPicture<'a> {
-    /// Returns a picture without lanes, for a script of this version.
-    pub fn new(alloc: Global, version: Version) -> Self {
-        GrowingPicture {
-            alloc,
-            version,
-            picture: Picture::new(alloc),
-            flows: IndexMap::new(alloc),
-            lanes: IndexMap::new(alloc),
+    /// Returns a picture without lanes, for a script with these flows whose subscribers have these names.
+    ///
+    /// # Errors
+    /// `AllocError`: out of memory.
+    pub fn new(
+        alloc: Global,
+        flows: &'a [FlowTrace],
+        names: SubscriberNames<'a>,
+    ) -> Result<Self, AllocError> {
+        let mut emissions: Vec<Vec<Option<usize>>> = Vec::new(alloc);
+        for _ in flows {
+            emissions.push(Vec::new(alloc))?;
         }
-    }
-
-    /// Records that there was no memory for a part of the picture.
-    fn fail(&mut self) {
-        self.picture.failed = true;
+        Ok(GrowingPicture {
+            picture: Picture::new(alloc),
+            flows,
+            lanes: IndexMap::new(alloc),
+            emissions,
+            names,
+        })
     }
 
     /// Adds a lane for a flow.
-    pub fn add_flow(&mut self, name: &'a str, flow: &Value) {
+    pub fn add_flow(&mut self, name: &'a str) {
         self.picture.add_lane(Label::of(name), None);
-        let added = match Asking::new(self.alloc, self.version, flow) {
-            Ok(asking) => {
-                let losses = Losses::new(self.alloc, flow);
-                self.flows.insert(name, Inside { asking, losses }).is_ok()
-            }
-            Err(_) => false,
-        };
-        self.picture.failed = self.picture.failed || !added;
-    }
-
-    /// Returns the lane of the flow that a step acts on.
-    fn flow_lane(&self, step: &Value) -> usize {
-        self.flows.get_index_of(text_at(step, "flow")).unwrap_or(0)
     }
 
     /// Returns the lane of the subscriber or the emission that a step names.
@@ -126,7 +78,7 @@ impl<'a> GrowingPicture<'a> {
         let lane = self.picture.lanes.len();
         self.picture.add_lane(Label { name, flow }, waits);
         if self.lanes.insert(name, lane).is_err() {
-            self.fail();
+            self.picture.failed = true;
         }
     }
 
@@ -163,69 +115,123 @@ impl<'a> GrowingPicture<'a> {
         }
     }
 
-    /// Adds the marks of a step on a flow, by its answer and what was observed with it.
-    fn mark_step(&mut self, flow: usize, step: &'a Value, told: &Told, line: &'a str) {
-        let Told { answer, seen, .. } = told;
-        let lane = self.named_lane(step);
-        let emission = self.picture.open_value(lane);
-        let marks = marks_of(text_at(step, "do"), answer, emission.is_some());
-        let Marks(on_flow, on_named, content) = marks.seen(*seen);
-        let words = content.words(step, line, emission);
-        match (on_flow, seen.emitted) {
-            (Some(sign), _) => self.mark_flow(flow, sign, words, answer),
-            (None, Some(count)) if count > 0 => {
-                self.mark_flow(flow, Sign::Value, Words::More(count), answer);
-            }
-            _ => {}
+    /// Records the lane of an emission of a flow. One that was done at once has none.
+    fn add_emission(&mut self, flow: usize, lane: Option<usize>) {
+        if let Some(emissions) = self.emissions.get_mut(flow)
+            && emissions.push(lane).is_err()
+        {
+            self.picture.failed = true;
         }
-        self.mark_named(flow, lane, on_named, words, seen.lag.unwrap_or(0));
-        self.mark_lost(flow, lane, step, told);
     }
 
-    /// Marks the value that subscribers lose by the step, if its flow drops its oldest values.
-    fn mark_lost(&mut self, flow: usize, lane: Option<usize>, step: &Value, told: &Told) {
-        let Some(
-            Inside {
-                losses: Some(losses),
-                ..
-            },
-        ) = self.flows.get_index_mut(flow)
-        else {
+    /// Ends the lanes of the emissions of a flow that no longer wait, and returns their values. One that was cancelled
+    /// has ended already.
+    fn end_emissions(&mut self, flow: usize, ended: &[usize]) -> Admitted {
+        let mut admitted = Admitted::none();
+        for place in ended {
+            let lane = match self.emissions.get(flow) {
+                Some(emissions) => emissions.get(*place).copied().unwrap_or(None),
+                None => None,
+            };
+            if let Some(lane) = lane
+                && let Some(value) = self.picture.open_value(Some(lane))
+            {
+                let column = self.picture.columns;
+                self.picture.end_lane(lane, column);
+                self.picture
+                    .add_mark(lane, Sign::Value, Words::Number(value), Note::None);
+                admitted.push(value);
+            }
+        }
+        admitted
+    }
+
+    /// Returns the values that a step let into a flow: those of the emissions that no longer wait, or else the items of
+    /// a shared chain that it emitted.
+    fn admit(&mut self, flow: usize, changes: &Changes) -> Admitted {
+        let mut admitted = self.end_emissions(flow, changes.ended.as_slice());
+        if !changes.ended.is_empty() {
+            return admitted;
+        }
+        if let (Some(flow), Some(after), Some(count)) = (
+            self.flows.get(flow),
+            changes.after,
+            changes.emitted,
+        ) {
+            let end = after.emitted as usize;
+            let from = end.saturating_sub(count as usize);
+            for value in flow.values.as_slice().get(from..end).unwrap_or(&[]) {
+                admitted.push(*value);
+            }
+        }
+        admitted
+    }
+
+    /// Marks the value that subscribers of a flow lose by a step on the lanes of the first of them.
+    fn mark_lost(&mut self, flow: usize, seen: &Seen) {
+        let Some(loss) = &seen.changes.loss else {
             return;
         };
-        if mark_losses(&mut self.picture, losses, lane, step, told).is_err() {
-            self.fail();
+        for loser in loss.losers.iter().take(MOST_LOST) {
+            if let Some(lane) = self.lanes.get(self.names.name(flow, *loser)) {
+                self.picture
+                    .add_mark(*lane, Sign::Lost, Words::Number(loss.value), Note::None);
+            }
         }
+    }
+
+    /// Adds the marks of a step on a flow, by its answer and what was seen of it.
+    fn mark_step(
+        &mut self,
+        flow: usize,
+        step: &'a Value,
+        seen: &Seen,
+        answer: &Answer,
+        line: &'a str,
+    ) {
+        let lane = self.named_lane(step);
+        let emission = self.picture.open_value(lane);
+        let Marks(on_flow, on_named, words) = marks_of(seen, answer, line, emission);
+        self.mark_named(flow, lane, on_named, words, seen.changes.lag.unwrap_or(0));
+        let admitted = self.admit(flow, &seen.changes);
+        match (on_flow, admitted.words()) {
+            (Some(sign), _) => self.mark_flow(flow, sign, words, answer),
+            (None, Some(words)) => self.mark_flow(flow, Sign::Value, words, answer),
+            (None, None) => {}
+        }
+        self.mark_lost(flow, seen);
     }
 
     /// Adds the mark of a turn: the item that the flow accepted, or else the turn's line.
-    fn mark_turn(&mut self, flow: usize, report: Report, line: &'a str) {
-        let item = match self.flows.get_index_mut(flow) {
-            Some(inside) => inside.item(report),
-            None => Ok(None),
-        };
+    fn mark_turn(&mut self, flow: usize, report: Report, item: Option<i64>, line: &'a str) {
         let note = command_note(report.command);
         let (sign, words, note) = match (report.event, item) {
-            (Event::Put, Ok(Some(item))) => (Sign::Value, Words::Number(item), note),
-            (Event::Queued, Ok(Some(item))) => (Sign::Waits, Words::Number(item), note),
-            (_, Ok(_)) => (Sign::Told, Words::Text(line), Note::None),
-            (_, Err(_)) => return self.fail(),
+            (Event::Put, Some(item)) => (Sign::Value, Words::Number(item), note),
+            (Event::Queued, Some(item)) => (Sign::Waits, Words::Number(item), note),
+            _ => (Sign::Told, Words::Text(line), Note::None),
         };
         self.picture.add_mark(flow, sign, words, note);
     }
 
     /// Adds the marks of the next step. An emission that is done at once has no lane.
-    pub fn add_step(&mut self, step: &'a Value, told: &Told, line: &'a str) {
-        match (text_at(step, "do"), &told.answer) {
-            ("emit", Answer::Done) => {}
-            ("emit", _) => self.add_name(step, Some(number_at(step, "value"))),
-            ("subscribe", _) => self.add_name(step, None),
+    pub fn add_step(&mut self, step: &'a Value, seen: &Seen, answer: &Answer, line: &'a str) {
+        match (seen.act, answer) {
+            (Act::OnFlow(flow, FlowStep::Emit(_)), Answer::Done) => self.add_emission(flow, None),
+            (Act::OnFlow(flow, FlowStep::Emit(value)), _) => {
+                self.add_emission(flow, Some(self.picture.lanes.len()));
+                self.add_name(step, Some(value));
+            }
+            (Act::OnFlow(_, FlowStep::Subscribe) | Act::SubscribesWith(_, _), _) => {
+                self.add_name(step, None);
+            }
             _ => {}
         }
-        let flow = self.flow_lane(step);
-        match &told.answer {
-            Answer::Turned(report) => self.mark_turn(flow, *report, line),
-            _ => self.mark_step(flow, step, told, line),
+        match (seen.act.flow(), answer) {
+            (Some(flow), Answer::Turned(report)) => {
+                self.mark_turn(flow, *report, seen.changes.item, line);
+            }
+            (Some(flow), _) => self.mark_step(flow, step, seen, answer, line),
+            (None, _) => {}
         }
         self.picture.columns = self.picture.columns.saturating_add(1);
     }

@@ -2,8 +2,8 @@
 
 use crate::parts::Parts;
 use crate::picture::{Label, Lane, Mark, Picture};
-use crate::widths::{head_width, labels_width, mark_width};
-use flow_script::Told;
+use crate::widths::{head_width, labels_width, mark_width, words_width};
+use flow_script::Seen;
 use serde_json::Value;
 use std::alloc::{AllocError, Global};
 
@@ -32,7 +32,7 @@ pub struct Cell<'a> {
 #[derive(Clone, Copy)]
 pub struct Axis<'a> {
     pub steps: &'a [Value],
-    pub told: &'a [Told],
+    pub seen: &'a [Seen],
 }
 
 impl<'a> Axis<'a> {
@@ -40,22 +40,23 @@ impl<'a> Axis<'a> {
     pub fn none() -> Self {
         Axis {
             steps: &[],
-            told: &[],
+            seen: &[],
         }
     }
 
     /// Returns the moment of the turn in a column.
     fn moment(&self, column: usize) -> Option<u64> {
-        self.told.get(column)?.seen.at
+        self.seen.get(column)?.act.moment()
     }
 
-    /// Returns the step of a column with this width.
-    fn at(&self, column: usize, width: usize) -> Option<Numbered<'a>> {
+    /// Returns the step of a column with this width and this widest mark.
+    fn at(&self, column: usize, width: usize, widest: Option<Mark<'a>>) -> Option<Numbered<'a>> {
         Some(Numbered {
             number: column.saturating_add(1),
             moment: self.moment(column),
             step: self.steps.get(column)?,
             width,
+            widest,
         })
     }
 }
@@ -70,6 +71,8 @@ pub struct Numbered<'a> {
     pub step: &'a Value,
     /// The width of the column.
     pub width: usize,
+    /// The widest mark in the column.
+    pub widest: Option<Mark<'a>>,
 }
 
 /// A part of a picture. The parts are in order from left to right, line by line.
@@ -170,6 +173,22 @@ impl<'a> Band<'_, 'a> {
         None
     }
 
+    /// Returns the mark with the widest words in a column.
+    fn widest(&self, column: usize) -> Option<Mark<'a>> {
+        let mut widest: Option<Mark<'a>> = None;
+        for mark in self.marks {
+            let width = words_width(mark.words);
+            let most = match widest {
+                Some(most) => words_width(most.words),
+                None => 0,
+            };
+            if mark.column == column && (widest.is_none() || width > most) {
+                widest = Some(*mark);
+            }
+        }
+        widest
+    }
+
     /// Returns the width of the band, including the labels.
     fn width(&self) -> usize {
         let mut total = self.labels;
@@ -184,7 +203,7 @@ impl<'a> Band<'_, 'a> {
         parts.push(Part::Numbers(self.labels));
         let mut column = self.from;
         for width in self.widths {
-            if let Some(numbered) = axis.at(column, *width) {
+            if let Some(numbered) = axis.at(column, *width, self.widest(column)) {
                 parts.push(Part::Number(numbered));
             }
             column = column.saturating_add(1);

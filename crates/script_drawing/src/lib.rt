@@ -5,8 +5,9 @@
 //!
 //! # Lanes and marks
 //! `steps_picture` has a lane for each flow, each subscriber and each emission that was not done at once, and a column
-//! for each step that was played. `collection_picture` has two lanes, one for a chain's source and one for what it
-//! gave. The table in `marks` has the marks of a step, and `turns` finds the items that turns put into their flows.
+//! for each step that was played. `collection_picture` has a lane for a chain's source, for the other side of each zip,
+//! and for what the chain gave. `marks` has the marks of a step, by what its trace says that it did. `legend_of` has an
+//! entry for each kind of mark that was drawn.
 //!
 //! # Where the marks are
 //! `add_parts` gives each column of a picture a width in characters, cuts the picture into bands of at most
@@ -14,9 +15,9 @@
 //! script.
 //!
 //! # How the parts are written
-//! `text_frame` and `svg_frame` write the same parts, one as text and the other as SVG. A `Frame` has the text before
+//! `text_frame` and `svg_picture` write the same parts, one as text and the other as SVG. A `Frame` has the text before
 //! the lines of the script, and the text after them. `explained_frame` is the frame of lines with their rules, which
-//! has no picture. `add_listing` writes the lines, each after the words of `Played::add_words_before`: the step that
+//! has no picture, and `json_frame` that of the trace as JSON. `add_listing` writes the lines, each after the words of `Played::add_words_before`: the step that
 //! wrote it.
 //!
 //! # Scripts
@@ -25,10 +26,17 @@
 #![tactic(auto)]
 
 mod collection;
+mod colours;
 mod drawing;
+mod flow_words;
+mod form;
 mod frame;
 mod growing;
+mod json;
+mod json_picture;
+mod json_words;
 mod layout;
+mod legend;
 mod lines;
 mod listing;
 mod marks;
@@ -43,13 +51,13 @@ mod style;
 mod svg;
 mod svg_marks;
 mod text;
-mod turns;
 mod widths;
 
-pub use drawing::{Form, drawing_of};
+pub use drawing::drawing_of;
+pub use form::Form;
 pub use frame::{Frame, explained_frame};
 pub use played::Played;
 pub use program::{refuse_arguments, run};
 pub use script_words::items_of;
-pub use svg::svg_frame;
+pub use svg::{Column, LaneName, SvgPicture, svg_picture};
 pub use text::text_frame;

@@ -2,12 +2,14 @@
 ghost use Rattle.std.specs.Prelude.{OnOk, string_bytes};
 ghost use Rattle.script_drawing.specs.Listing.{AddsLast, AddsLines, told};
 
+use crate::form::Form;
+use crate::json::add_json_before;
 use crate::played::Played;
 use std::alloc::{AllocError, Global};
 
 /// Returns the rule of the step that wrote the line before the one at a place. A line without a step has no rule.
 fn rule_before<'a>(rules: &'a [String], played: Played<'_>, place: usize) -> &'a str {
-    let refused = played.answers.not_made.len();
+    let refused = played.refused();
     match rules.get(place.wrapping_sub(refused).wrapping_sub(1)) {
         Some(rule) => rule.as_str(),
         None => "",
@@ -23,12 +25,14 @@ fn add_entry(listing: &mut String, words: &str, line: &str) -> Result<(), AllocE
     listing.push_str(line)
 }
 
-/// Adds the lines of a script, each with the step that wrote it, and its rule, if there are rules.
+/// Adds the lines of a script, each with the step that wrote it, and its rule, if there are rules: as a list for people,
+/// or as entries in JSON.
 pub fn add_listing(
     alloc: Global,
     listing: &mut String,
     played: Played<'_>,
     rules: &[String],
+    form: Form,
 ) -> Result<(), AllocError>
     ensures { OnOk result (AddsLines (told played.entry.lines.now)
         (string_bytes listing.old) (string_bytes listing.new)) }
@@ -38,7 +42,12 @@ pub fn add_listing(
     for (place, line) in lines.iter().enumerate() {
         words.clear();
         let rule = rule_before(rules, played, place);
-        played.add_words_before(&mut words, place, rule)?;
+        match form {
+            Form::Json | Form::JsonWithPicture(_) => add_json_before(
+                &mut words, played, place, rule,
+            )?,
+            _ => played.add_words_before(&mut words, place, rule)?,
+        }
         add_entry(listing, words.as_str(), line)?;
     }
     Ok(())

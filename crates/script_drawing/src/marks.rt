@@ -1,23 +1,8 @@
-//! The marks of a step, by its tag and its answer.
+//! The marks of a step, by what it does, its answer, and the case that it took.
 
 use crate::picture::{Sign, Words};
 use flow_law::Next;
-use flow_script::{Answer, Seen, number_at};
-use serde_json::Value;
-
-/// What the marks of a step contain.
-#[derive(Clone, Copy)]
-pub enum Content {
-    Nothing,
-    /// The number under this key of the step.
-    Member(&'static str),
-    /// The step's line.
-    Line,
-    /// The value that a subscriber received.
-    Received(i64),
-    /// The value of the emission that the step names.
-    Emission,
-}
+use flow_script::{Act, Answer, Case, FlowStep, Seen};
 
 /// What becomes of the lane of the subscriber or the emission that a step names.
 #[derive(Clone, Copy)]
@@ -28,123 +13,125 @@ pub enum Named {
     Ended(Sign),
 }
 
-/// The marks of a step: on the lane of its flow, and on the lane of its name.
+/// The marks of a step: on the lane of its flow, and on the lane of its name, with these words.
 #[derive(Clone, Copy)]
-pub struct Marks(pub Option<Sign>, pub Named, pub Content);
+pub struct Marks<'a>(pub Option<Sign>, pub Named, pub Words<'a>);
 
 /// The subscriber or the emission of the step has nothing to receive or to end.
-const NOTHING: Marks = Marks(None, Named::Marked(Sign::Nothing), Content::Nothing);
+const NOTHING: Marks<'static> = Marks(None, Named::Marked(Sign::Nothing), Words::None);
 
-/// What the flow answered.
-const TOLD: Marks = Marks(Some(Sign::Told), Named::Untouched, Content::Line);
+/// A step without marks.
+const NONE: Marks<'static> = Marks(None, Named::Untouched, Words::None);
 
-/// Returns the marks of the value under this key of the step, which the flow took or did not take.
-fn value_marks(accepted: bool, key: &'static str) -> Marks {
-    let sign = if accepted { Sign::Value } else { Sign::Lost };
-    Marks(Some(sign), Named::Untouched, Content::Member(key))
+/// Returns the marks of a value that the flow took or did not take.
+fn value_marks(is_taken: bool, value: i64) -> Marks<'static> {
+    let sign = if is_taken { Sign::Value } else { Sign::Lost };
+    Marks(Some(sign), Named::Untouched, Words::Number(value))
 }
 
-/// Returns the marks of a step whose answer is `true` or `false`. `goes_on` says whether its emission has a lane that
-/// has not ended: otherwise there was nothing to cancel.
-fn tested_marks(tag: &str, test: bool, goes_on: bool) -> Marks {
-    match tag {
-        "compare_and_set" => value_marks(test, "update"),
-        "cancel" if test && goes_on => Marks(
+/// Returns the marks of a step on a flow whose answer is `true` or `false`. `emission` is the value of the step's
+/// emission, if that has a lane that has not ended: otherwise there was nothing to cancel.
+fn tested_marks(step: FlowStep, test: bool, case: Case, emission: Option<i64>) -> Marks<'static> {
+    match (step, emission) {
+        (FlowStep::TryEmit(value), _) => value_marks(test && case != Case::DropsLatest, value),
+        (FlowStep::CompareAndSet(_, update), _) => value_marks(test, update),
+        (FlowStep::Cancel(_), Some(value)) if test => Marks(
             Some(Sign::Lost),
             Named::Ended(Sign::Lost),
-            Content::Emission,
+            Words::Number(value),
         ),
-        "unsubscribe" if test => Marks(None, Named::Ended(Sign::Ends), Content::Nothing),
-        "cancel" | "unsubscribe" => NOTHING,
-        _ => value_marks(test, "value"),
+        (FlowStep::Unsubscribe(_), _) if test => {
+            Marks(None, Named::Ended(Sign::Ends), Words::None)
+        }
+        _ => NOTHING,
     }
 }
 
-/// Returns the marks of a poll, by whether the emission still waits, and whether it has a lane that has not ended.
-fn wait_marks(waits: bool, goes_on: bool) -> Marks {
+/// Returns the marks of a poll with this line, by whether the emission still waits.
+fn wait_marks(waits: bool, line: &str) -> Marks<'_> {
     if waits {
-        Marks(None, Named::Marked(Sign::Waits), Content::Nothing)
-    } else if goes_on {
-        Marks(None, Named::Ended(Sign::Value), Content::Emission)
+        Marks(None, Named::Marked(Sign::Waits), Words::None)
     } else {
-        NOTHING
+        Marks(None, Named::Marked(Sign::Told), Words::Text(line))
     }
 }
 
-/// Returns the marks of a `next`.
-fn next_marks(next: &Next<i64>) -> Marks {
+/// Returns the marks of an emission that was done at once.
+fn done_marks(value: i64, case: Case) -> Marks<'static> {
+    let sign = if case == Case::DropsLatest {
+        Sign::Lost
+    } else {
+        Sign::Value
+    };
+    Marks(Some(sign), Named::Ended(sign), Words::Number(value))
+}
+
+/// Returns the marks of a `next` with this line.
+fn next_marks<'a>(next: &Next<i64>, line: &'a str) -> Marks<'a> {
     match next {
-        Next::Value(value) => Marks(None, Named::Marked(Sign::Value), Content::Received(*value)),
+        Next::Value(value) => Marks(None, Named::Marked(Sign::Value), Words::Number(*value)),
         Next::Empty => NOTHING,
-        Next::Gone => refused_marks("next"),
+        Next::Gone => Marks(None, Named::Marked(Sign::Refused), Words::Text(line)),
     }
 }
 
-/// Returns the marks of a step that was refused.
-fn refused_marks(tag: &str) -> Marks {
-    match tag {
-        "emit" | "subscribe" => Marks(None, Named::Ended(Sign::Refused), Content::Line),
-        "next" => Marks(None, Named::Marked(Sign::Refused), Content::Line),
-        "poll" | "cancel" | "unsubscribe" => NOTHING,
-        _ => Marks(Some(Sign::Refused), Named::Untouched, Content::Line),
+/// Returns the marks of a step that was refused with this line.
+fn refused_marks(act: Act, line: &str) -> Marks<'_> {
+    let words = Words::Text(line);
+    match act {
+        Act::OnFlow(_, FlowStep::Emit(_) | FlowStep::Subscribe) | Act::SubscribesWith(_, _) => {
+            Marks(None, Named::Ended(Sign::Refused), words)
+        }
+        Act::OnFlow(_, FlowStep::Next(_)) => Marks(None, Named::Marked(Sign::Refused), words),
+        Act::OnFlow(_, FlowStep::Poll(_) | FlowStep::Cancel(_) | FlowStep::Unsubscribe(_)) => {
+            NOTHING
+        }
+        _ => Marks(Some(Sign::Refused), Named::Untouched, words),
     }
 }
 
-/// Returns the marks of a step with this tag and answer. `goes_on` says whether its emission has a lane that has not
-/// ended.
-pub fn marks_of(tag: &str, answer: &Answer, goes_on: bool) -> Marks {
+/// Returns the value that a step emits or sets.
+fn value_of(act: Act) -> i64 {
+    match act {
+        Act::OnFlow(_, FlowStep::TryEmit(value) | FlowStep::Emit(value) | FlowStep::Set(value)) => {
+            value
+        }
+        _ => 0,
+    }
+}
+
+/// Returns the marks of a step with this answer and line. `emission` is the value of its emission, if that has a lane
+/// that has not ended.
+pub fn marks_of<'a>(
+    seen: &Seen,
+    answer: &Answer,
+    line: &'a str,
+    emission: Option<i64>,
+) -> Marks<'a> {
     match answer {
-        Answer::Tested(test) => tested_marks(tag, *test, goes_on),
-        Answer::Waits(waits) => wait_marks(*waits, goes_on),
-        Answer::Done => Marks(
-            Some(Sign::Value),
-            Named::Ended(Sign::Value),
-            Content::Member("value"),
-        ),
+        Answer::Tested(test) => match seen.act {
+            Act::OnFlow(_, step) => tested_marks(step, *test, seen.case, emission),
+            _ => NONE,
+        },
+        Answer::Waits(waits) => wait_marks(*waits, line),
+        Answer::Done => done_marks(value_of(seen.act), seen.case),
         Answer::Queued => Marks(
             Some(Sign::Waits),
             Named::Marked(Sign::Waits),
-            Content::Member("value"),
+            Words::Number(value_of(seen.act)),
         ),
-        Answer::Subscribed => Marks(None, Named::Marked(Sign::Begins), Content::Nothing),
-        Answer::Received(next) => next_marks(next),
-        Answer::Set => value_marks(true, "value"),
-        Answer::Cached(_)
-        | Answer::Counted(_)
-        | Answer::Got(_)
-        | Answer::Reset
-        | Answer::Turned(_) => TOLD,
-        Answer::Refused(_) | Answer::TurnRefused(_) | Answer::NoFlow => { refused_marks(tag) }
-        Answer::Collected(_, _) | Answer::NotBuilt(_) => {
-            Marks(None, Named::Untouched, Content::Nothing)
+        Answer::Subscribed => Marks(None, Named::Marked(Sign::Begins), Words::None),
+        Answer::Received(next) => next_marks(next, line),
+        Answer::Set => value_marks(true, value_of(seen.act)),
+        Answer::Cached(_) => Marks(Some(Sign::Told), Named::Untouched, Words::List(line)),
+        Answer::Counted(_) | Answer::Got(_) | Answer::Reset | Answer::Turned(_) => Marks(
+            Some(Sign::Told),
+            Named::Untouched,
+            Words::Text(line),
+        ),
+        Answer::Refused(_) | Answer::TurnRefused(_) | Answer::NoFlow => {
+            refused_marks(seen.act, line)
         }
-    }
-}
-
-impl Marks {
-    /// Returns these marks, or those of a lost value if the flow took the value and dropped it.
-    pub fn seen(self, seen: Seen) -> Marks {
-        let Marks(on_flow, on_named, content) = self;
-        match (on_flow, on_named, seen.emitted) {
-            (Some(Sign::Value), Named::Ended(_), Some(0)) => {
-                Marks(Some(Sign::Lost), Named::Ended(Sign::Lost), content)
-            }
-            (Some(Sign::Value), _, Some(0)) => Marks(Some(Sign::Lost), on_named, content),
-            _ => self,
-        }
-    }
-}
-
-impl Content {
-    /// Returns the words in the marks of a step with this line. `emission` is the value of its emission, if that has a
-    /// lane that has not ended.
-    pub fn words<'a>(self, step: &Value, line: &'a str, emission: Option<i64>) -> Words<'a> {
-        match self {
-            Content::Nothing => Words::None,
-            Content::Member(key) => Words::Number(number_at(step, key)),
-            Content::Line => Words::Text(line),
-            Content::Received(value) => Words::Number(value),
-            Content::Emission => Words::Number(emission.unwrap_or(0)),
-        }
+        Answer::Collected(_, _) | Answer::NotBuilt(_) => NONE,
     }
 }

@@ -5,7 +5,6 @@ use crate::layout::{Axis, Part, add_parts};
 use crate::picture::Picture;
 use crate::played::Played;
 use crate::steps::steps_picture;
-use serde_json::Value;
 use std::alloc::{AllocError, Global};
 
 /// The parts of pictures so far.
@@ -57,26 +56,24 @@ fn add_picture<'a>(
 
 /// Adds the pictures of the collections.
 fn add_collections<'a>(alloc: Global, parts: &mut Parts<'a>, played: Played<'a>) {
-    for (place, step) in played.steps.iter().enumerate() {
-        if let (Some(chain), Some(told)) = (step.get("chain"), played.told(place)) {
+    for place in 0..played.steps().len() {
+        if let Some(one) = played.step(place)
+            && let Some(chain) = one.step.get("chain")
+        {
             parts.push(Part::Collection(place.saturating_add(1), chain));
-            let picture = collection_picture(alloc, chain, &told.answer, played.line(place));
+            let picture = collection_picture(alloc, chain, one.answer, one.line);
             add_picture(alloc, parts, picture, Axis::none());
         }
     }
 }
 
 /// Returns the parts of the pictures of a script that was played: that of its steps, and those of its collections.
-pub fn parts_of<'a>(
-    alloc: Global,
-    script: &'a Value,
-    played: Played<'a>,
-) -> Result<Vec<Part<'a>>, AllocError> {
+pub fn parts_of<'a>(alloc: Global, played: Played<'a>) -> Result<Vec<Part<'a>>, AllocError> {
     let mut parts = Parts::new(alloc);
-    let picture = steps_picture(alloc, script, played);
+    let picture = steps_picture(alloc, played);
     let axis = Axis {
-        steps: played.steps,
-        told: played.answers.steps.as_slice(),
+        steps: played.steps(),
+        seen: played.traced.trace.steps.as_slice(),
     };
     add_picture(alloc, &mut parts, picture, axis);
     add_collections(alloc, &mut parts, played);

@@ -33,19 +33,68 @@ pub enum Words<'a> {
     None,
     /// A value.
     Number(i64),
-    /// This many more values.
-    More(u64),
-    /// A line or a part of one, of any length.
+    /// Values that waited, and that one step let in.
+    Admitted(Admitted),
+    /// A line or a part of one.
     Text(&'a str),
+    /// A list, which is cut if it is long.
+    List(&'a str),
     /// Why a chain failed.
     Failed(ChainFault),
+}
+
+/// The most values in a mark.
+const MOST_ADMITTED: usize = 3;
+
+/// Values that one step let in: the first of them, and how many there are.
+#[derive(Clone, Copy)]
+pub struct Admitted {
+    first: [i64; MOST_ADMITTED],
+    count: usize,
+}
+
+impl Admitted {
+    pub(crate) fn none() -> Self {
+        Admitted {
+            first: [0; MOST_ADMITTED],
+            count: 0,
+        }
+    }
+
+    pub(crate) fn push(&mut self, value: i64) {
+        if self.count < MOST_ADMITTED {
+            self.first[self.count] = value;
+        }
+        self.count = self.count.saturating_add(1);
+    }
+
+    /// Returns the values that are written in the mark.
+    pub fn written(&self) -> &[i64] {
+        self.first
+            .get(..self.count.min(MOST_ADMITTED))
+            .unwrap_or(&[])
+    }
+
+    /// Returns whether there are more values than the mark has.
+    pub fn has_more(&self) -> bool {
+        self.count > MOST_ADMITTED
+    }
+
+    /// Returns the words of a mark with these values, if there are any.
+    pub(crate) fn words(self) -> Option<Words<'static>> {
+        match self.written() {
+            [] => None,
+            [value] => Some(Words::Number(*value)),
+            _ => Some(Words::Admitted(self)),
+        }
+    }
 }
 
 /// The note beside a mark.
 #[derive(Clone, Copy)]
 pub enum Note {
     None,
-    /// The subscriber of the lane has this many values yet to receive.
+    /// The subscriber of the lane has this many emitted values yet to receive.
     Behind(u64),
     /// What else the step did.
     Word(&'static str),

@@ -7,7 +7,8 @@ ghost use Rattle.flow_script.specs.ScriptMeaning.{script_meaning};
 ghost use Rattle.script_drawing.specs.Drawing.{Draws, Pictures};
 ghost use Rattle.script_drawing.specs.Program.{RunsDrawing, form_of, draw_usage_line};
 
-use crate::drawing::{Form, drawing_of};
+use crate::drawing::drawing_of;
+use crate::form::Form;
 use flow_script::{
     REFUSED, ScriptFault, Watched, read_all, tell, tell_arguments, tell_fault, write_all,
 };
@@ -19,7 +20,7 @@ use std::io::{ErrorKind, Read, Write};
 const DRAWN: u8 = 0;
 
 /// How the program is called.
-const USAGE: &str = "usage: flow_draw [--text | --explain]\n";
+const USAGE: &str = "usage: flow_draw [--text | --explain | --json]\n";
 
 /// Returns the form that the arguments ask for. They do not include the program's name.
 fn form_of(args: &[String]) -> Option<Form>
@@ -30,6 +31,7 @@ fn form_of(args: &[String]) -> Option<Form>
         [flag] => match flag.as_str() {
             "--text" => Some(Form::Text),
             "--explain" => Some(Form::Explained),
+            "--json" => Some(Form::Json),
             _ => None,
         },
         _ => None,

@@ -13,7 +13,7 @@ pub fn items_of<'a>(value: &'a Value, key: &str) -> &'a [Value] {
 }
 
 /// Adds a number, a word or a list, and `{..}` for anything else.
-fn add_value(page: &mut Page, value: &Value) {
+pub fn add_value(page: &mut Page, value: &Value) {
     match value {
         Value::String(word) => page.push_str(word.as_str()),
         Value::Array(items) => add_items(page, items.as_slice()),
@@ -52,13 +52,11 @@ fn add_items(page: &mut Page, items: &[Value]) {
     });
 }
 
-/// Adds the members of an object except one, each with its key.
-fn add_members(page: &mut Page, object: &Value, but: &str) {
-    if let Value::Object(members) = object {
+/// Adds the words or the other values among the members of an operator, each after a space.
+fn add_members(page: &mut Page, op: &Value, are_words: bool) {
+    if let Value::Object(members) = op {
         for (key, value) in members {
-            if key.as_str() != but {
-                page.push(' ');
-                page.push_str(key.as_str());
+            if key.as_str() != "op" && value.is_string() == are_words {
                 page.push(' ');
                 add_value(page, value);
             }
@@ -66,36 +64,73 @@ fn add_members(page: &mut Page, object: &Value, but: &str) {
     }
 }
 
-/// Adds a chain: its source, and its operators.
-fn add_chain(page: &mut Page, chain: &Value) {
+/// Adds the source of a chain: its items, or the first and the last number of a range.
+fn add_source(page: &mut Page, source: &Value) {
+    match items_of(source, "range") {
+        [first, last] => {
+            add_value(page, first);
+            page.push_str(" to ");
+            add_value(page, last);
+        }
+        _ => match source.get("of") {
+            Some(items) => add_value(page, items),
+            None => add_items(page, items_of(source, "script")),
+        },
+    }
+}
+
+/// Adds an operator: its name, and what it was given.
+fn add_op(page: &mut Page, op: &Value) {
+    page.push_str(text_at(op, "op"));
+    match op.get("with") {
+        Some(with) => {
+            page.push(' ');
+            page.push_str(text_at(op, "by"));
+            page.push_str(" with ");
+            add_short_chain(page, with);
+        }
+        None => {
+            add_members(page, op, true);
+            add_members(page, op, false);
+        }
+    }
+}
+
+/// Adds the source of a chain, and the names of its operators.
+fn add_short_chain(page: &mut Page, chain: &Value) {
     if let Some(source) = chain.get("from") {
-        add_members(page, source, "");
+        add_source(page, source);
     }
     for op in items_of(chain, "ops") {
-        page.push_str(", ");
+        page.push(' ');
         page.push_str(text_at(op, "op"));
-        add_members(page, op, "op");
+    }
+}
+
+/// Adds a chain: its source, and its operators.
+pub fn add_chain(page: &mut Page, chain: &Value) {
+    if let Some(source) = chain.get("from") {
+        add_source(page, source);
+    }
+    for (index, op) in items_of(chain, "ops").iter().enumerate() {
+        page.push_str(if index > 0 { ", " } else { ", then " });
+        add_op(page, op);
     }
 }
 
 /// Adds the collection of a chain in words, without a line feed. Steps are numbered from 1.
 pub fn add_collection(page: &mut Page, step: usize, chain: &Value) {
-    page.push_str("step ");
-    page.push_number(step);
-    page.push_str(": collect");
+    write!(page, "step {step} collects ");
     add_chain(page, chain);
 }
 
-/// Adds the value of a key, after a space: of a chain its source and its operators, of another object its members, and
-/// of anything else the value itself.
+/// Adds the value of a key, after a space: of a chain its source and its operators, and of anything else the value itself.
 fn add_member(page: &mut Page, key: &str, value: &Value) {
-    match value {
-        Value::Object(_) if key == "chain" => add_chain(page, value),
-        Value::Object(_) => add_members(page, value, ""),
-        _ => {
-            page.push(' ');
-            add_value(page, value);
-        }
+    page.push(' ');
+    if key == "chain" {
+        add_chain(page, value);
+    } else {
+        add_value(page, value);
     }
 }
 
@@ -112,24 +147,4 @@ pub fn add_step(page: &mut Page, step: &Value) {
             add_member(page, key, value);
         }
     }
-}
-
-/// The keys of a flow, in the order of its words.
-const FLOW_KEYS: &[&str] = &[
-    "replay", "extra", "overflow", "initial", "limit", "chain", "started",
-];
-
-/// Adds a flow in words, in a line of its own.
-pub fn add_flow(page: &mut Page, name: &str, flow: &Value) {
-    page.push_str(name);
-    page.push_str(": ");
-    page.push_str(text_at(flow, "kind"));
-    for key in FLOW_KEYS {
-        if let Some(value) = flow.get(*key) {
-            page.push_str(", ");
-            page.push_str(key);
-            add_member(page, key, value);
-        }
-    }
-    page.push('\n');
 }

@@ -1,47 +1,24 @@
 //! The picture of a script's steps, and its flows in words.
 
+use crate::flow_words::add_flow;
 use crate::growing::GrowingPicture;
 use crate::page::Page;
 use crate::picture::Picture;
 use crate::played::Played;
-use crate::script_words::add_flow;
-use flow_script::text_at;
-use script_chain_format::{Version, version_of};
-use serde_json::Value;
+use flow_script::SubscriberNames;
 use std::alloc::{AllocError, Global};
 
-/// Returns the flow of a script that does not name it, unless the script only collects chains.
-fn single_flow(script: &Value) -> Option<&Value> {
-    let flow = script.get("flow")?;
-    if text_at(flow, "kind") == "none" {
-        None
-    } else {
-        Some(flow)
-    }
-}
-
-/// Adds the lanes of the flows.
-fn add_lanes<'a>(picture: &mut GrowingPicture<'a>, script: &'a Value) {
-    if let Some(flow) = single_flow(script) {
-        picture.add_flow("flow", flow);
-    } else if let Some(Value::Object(flows)) = script.get("flows") {
-        for (name, flow) in flows {
-            picture.add_flow(name.as_str(), flow);
-        }
-    }
-}
-
 fn add_steps<'a>(picture: &mut GrowingPicture<'a>, played: Played<'a>) {
-    for (place, step) in played.steps.iter().enumerate() {
-        if let Some(told) = played.told(place) {
-            picture.add_step(step, told, played.line(place));
+    for place in 0..played.steps().len() {
+        if let Some(one) = played.step(place) {
+            picture.add_step(one.step, one.seen, one.answer, one.line);
         }
     }
 }
 
 /// Marks each subscriber that has values yet to receive after the last step with their number.
 fn add_last_lags<'a>(picture: &mut GrowingPicture<'a>, played: Played<'a>) {
-    for (place, step) in played.steps.iter().enumerate() {
+    for (place, step) in played.steps().iter().enumerate() {
         picture.add_last_lag(step, played.last_lag(place));
     }
 }
@@ -51,33 +28,34 @@ fn add_last_lags<'a>(picture: &mut GrowingPicture<'a>, played: Played<'a>) {
 ///
 /// # Errors
 /// `AllocError`: out of memory.
-pub fn steps_picture<'a>(
-    alloc: Global,
-    script: &'a Value,
-    played: Played<'a>,
-) -> Result<Picture<'a>, AllocError> {
-    let version = version_of(script).unwrap_or(Version::One);
-    let mut picture = GrowingPicture::new(alloc, version);
-    add_lanes(&mut picture, script);
+pub fn steps_picture<'a>(alloc: Global, played: Played<'a>) -> Result<Picture<'a>, AllocError> {
+    let trace = &played.traced.trace;
+    let seen = trace.steps.as_slice();
+    let names = SubscriberNames::new(alloc, trace.flows.len(), played.steps(), seen)?;
+    let mut picture = GrowingPicture::new(alloc, trace.flows.as_slice(), names)?;
+    for flow in &played.flows(alloc)? {
+        picture.add_flow(flow.name);
+    }
     add_steps(&mut picture, played);
     add_last_lags(&mut picture, played);
     picture.finish()
 }
 
 /// Adds a line for each flow of a script, ended by a line feed. A script that only collects chains has no such line.
-pub fn add_heads(page: &mut Page, script: &Value) {
-    if let Some(flow) = single_flow(script) {
-        add_flow(page, "flow", flow);
-    } else if let Some(Value::Object(flows)) = script.get("flows") {
-        for (name, flow) in flows {
-            add_flow(page, name.as_str(), flow);
+pub fn add_heads(alloc: Global, page: &mut Page, played: Played<'_>) {
+    match played.flows(alloc) {
+        Ok(flows) => {
+            for flow in &flows {
+                add_flow(page, *flow);
+            }
         }
+        Err(_) => page.fail(),
     }
 }
 
 /// Adds a line for each flow of a script, and then the lines of the flows that were refused.
-pub fn add_all_heads(page: &mut Page, script: &Value, played: Played<'_>) {
-    add_heads(page, script);
+pub fn add_all_heads(alloc: Global, page: &mut Page, played: Played<'_>) {
+    add_heads(alloc, page, played);
     for line in played.lines.iter().take(played.refused()) {
         page.push_str(line);
         page.push('\n');

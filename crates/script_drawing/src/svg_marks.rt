@@ -1,5 +1,6 @@
 //! The marks of a lane and its line as SVG.
 
+use crate::colours::Colours;
 use crate::layout::Cell;
 use crate::page::Page;
 use crate::picture::{Mark, Note, Sign, Words};
@@ -49,10 +50,10 @@ pub fn begin_text(page: &mut Page, class: &str, x: usize, y: usize) {
     add_text_place(page, x, y);
 }
 
-/// Adds the beginning of the number above the column of a step. A program finds the column by its attribute
-/// `data-step`.
+/// Adds the beginning of the number above the column of a step, whose middle is at `x`. A program finds the column by its
+/// attribute `data-step`.
 pub fn begin_step_number(page: &mut Page, step: usize, x: usize, y: usize) {
-    begin_element(page, "<text", "h");
+    begin_element(page, "<text", "h n");
     add_attribute(page, "data-step", step);
     add_text_place(page, x, y);
 }
@@ -60,18 +61,12 @@ pub fn begin_step_number(page: &mut Page, step: usize, x: usize, y: usize) {
 /// How a mark looks: the class of its box, the class of its words, and the radius of the box's corners.
 type Look = (&'static str, &'static str, usize);
 
-/// The classes of values, so that one value has one colour.
-static COLOURS: [&str; 6] = ["m c0", "m c1", "m c2", "m c3", "m c4", "m c5"];
-
 fn look_of(mark: Mark<'_>) -> Look {
     match mark.sign {
-        Sign::Value => {
-            let colour = match mark.words {
-                Words::Number(number) => number.unsigned_abs() % 6,
-                _ => 0,
-            };
-            (COLOURS[colour as usize], "n k", 13)
-        }
+        Sign::Value => match mark.words {
+            Words::Admitted(_) => ("m p", "n", 13),
+            _ => ("m", "n k", 13),
+        },
         Sign::Waits => ("m w", "n", 13),
         Sign::Lost => ("m l", "n s", 13),
         Sign::Nothing => ("m e", "n", 5),
@@ -82,7 +77,7 @@ fn look_of(mark: Mark<'_>) -> Look {
 }
 
 /// Returns the width and the height of a mark's box.
-fn size_of(mark: Mark<'_>) -> (usize, usize) {
+pub fn size_of(mark: Mark<'_>) -> (usize, usize) {
     match mark.sign {
         Sign::Begins | Sign::Ends => (4, 24),
         Sign::Over => (0, 0),
@@ -94,15 +89,22 @@ fn size_of(mark: Mark<'_>) -> (usize, usize) {
     }
 }
 
+/// Adds the colour of a value that was taken.
+fn add_colour(page: &mut Page, colours: &mut Colours, mark: Mark<'_>) {
+    if let (Sign::Value, Words::Number(value)) = (mark.sign, mark.words) {
+        match colours.hue(value) {
+            Ok(hue) => write!(page, " fill=\"hsl({hue},85%,83%)\""),
+            Err(_) => page.fail(),
+        }
+    }
+}
+
 /// Adds the box of a mark, whose left side is at `x` and whose middle is at `y`.
-fn add_box(
-    page: &mut Page,
-    (shape, corner): (&str, usize),
-    (width, height): (usize, usize),
-    x: usize,
-    y: usize,
-) {
+fn add_box(page: &mut Page, colours: &mut Colours, mark: Mark<'_>, x: usize, y: usize) {
+    let (shape, _, corner) = look_of(mark);
+    let (width, height) = size_of(mark);
     begin_element(page, "<rect", shape);
+    add_colour(page, colours, mark);
     add_attribute(page, "x", x);
     add_attribute(page, "y", y.saturating_sub(height / 2));
     add_attribute(page, "width", width);
@@ -111,11 +113,24 @@ fn add_box(
     page.push_str(END_ELEMENT);
 }
 
+/// Crosses out the box of a mark, from corner to corner.
+fn add_cross(page: &mut Page, width: usize, x: usize, y: usize) {
+    begin_element(page, "<line", "z");
+    add_attribute(page, "x1", x.saturating_add(2));
+    add_attribute(page, "y1", y.saturating_add(11));
+    add_attribute(page, "x2", x.saturating_add(width).saturating_sub(2));
+    add_attribute(page, "y2", y.saturating_sub(11));
+    page.push_str(END_ELEMENT);
+}
+
 /// Adds a mark whose box begins at `x`, on the line at `y`.
-fn add_mark(page: &mut Page, mark: Mark<'_>, x: usize, y: usize) {
-    let (shape, class, corner) = look_of(mark);
-    let (width, height) = size_of(mark);
-    add_box(page, (shape, corner), (width, height), x, y);
+pub fn add_mark(page: &mut Page, colours: &mut Colours, mark: Mark<'_>, x: usize, y: usize) {
+    let (_, class, _) = look_of(mark);
+    let (width, _) = size_of(mark);
+    add_box(page, colours, mark, x, y);
+    if matches!(mark.sign, Sign::Lost) {
+        add_cross(page, width, x, y);
+    }
     begin_text(
         page,
         class,
@@ -152,7 +167,7 @@ fn add_line(page: &mut Page, cell: Cell<'_>, x: usize, middle: usize, y: usize) 
 }
 
 /// Adds a column of a lane from `x` on: its line, and its mark.
-pub fn add_cell(page: &mut Page, cell: Cell<'_>, x: usize, y: usize) {
+pub fn add_cell(page: &mut Page, colours: &mut Colours, cell: Cell<'_>, x: usize, y: usize) {
     let begin = x.saturating_add(CHARACTER);
     if cell.has_line {
         let middle = match cell.mark {
@@ -162,6 +177,6 @@ pub fn add_cell(page: &mut Page, cell: Cell<'_>, x: usize, y: usize) {
         add_line(page, cell, x, middle, y);
     }
     if let Some(mark) = cell.mark {
-        add_mark(page, mark, begin, y);
+        add_mark(page, colours, mark, begin, y);
     }
 }

@@ -2,6 +2,7 @@
 
 use crate::frame::Frame;
 use crate::layout::{Cell, MOST_WIDTH, Numbered, Part};
+use crate::legend::{Entry, legend_of};
 use crate::page::Page;
 use crate::parts::parts_of;
 use crate::picture::{Label, Mark};
@@ -11,16 +12,10 @@ use crate::steps::add_all_heads;
 use crate::widths::{
     add_head, add_label, add_note, add_words, brackets, head_width, label_width, mark_width,
 };
-use serde_json::Value;
 use std::alloc::{AllocError, Global};
 
-/// What the marks mean.
-const LEGEND: &str = "\
-(3) taken by the flow, or received    ?3 its emitter waits    x3 not taken, cancelled or dropped
- .  nothing there                      | begins, or ends       ! refused
-+2  2 more values to receive          (+1) a waiting value got in
-
-";
+/// The text between two entries of the legend.
+const BETWEEN: &str = "    ";
 
 /// Ends a line, without the spaces before its end.
 fn end_line(page: &mut Page) {
@@ -80,24 +75,49 @@ fn add_part(page: &mut Page, part: Part<'_>) {
     }
 }
 
-/// Adds the parts, if there was memory for them.
-fn add_parts(page: &mut Page, parts: Result<Vec<Part<'_>>, AllocError>) {
-    match parts {
-        Ok(parts) => {
-            for part in parts.as_slice() {
-                add_part(page, *part);
-            }
+/// Adds what the marks mean, in lines of at most `MOST_WIDTH`.
+fn add_legend(page: &mut Page, entries: &[Entry]) {
+    let mut taken = 0usize;
+    for entry in entries {
+        let width = mark_width(entry.mark)
+            .saturating_add(1)
+            .saturating_add(entry.words.len());
+        let before = if taken > 0 { BETWEEN } else { "" };
+        taken = taken.saturating_add(before.len()).saturating_add(width);
+        if taken > MOST_WIDTH {
+            page.push('\n');
+            taken = width;
+        } else {
+            page.push_str(before);
         }
+        add_mark(page, entry.mark);
+        page.push(' ');
+        page.push_str(entry.words);
+    }
+    if taken > 0 {
+        page.push_str("\n\n");
+    }
+}
+
+/// Adds the parts, and what their marks mean.
+fn add_parts(alloc: Global, page: &mut Page, parts: &[Part<'_>]) {
+    for part in parts {
+        add_part(page, *part);
+    }
+    match legend_of(alloc, parts) {
+        Ok(entries) => add_legend(page, entries.as_slice()),
         Err(_) => page.fail(),
     }
 }
 
 /// Returns the frame of a script with its pictures as text, before the lines.
-pub fn text_frame(alloc: Global, script: &Value, played: Played<'_>) -> Result<Frame, AllocError> {
+pub fn text_frame(alloc: Global, played: Played<'_>) -> Result<Frame, AllocError> {
     let mut page = Page::new(alloc);
-    add_all_heads(&mut page, script, played);
+    add_all_heads(alloc, &mut page, played);
     page.push('\n');
-    add_parts(&mut page, parts_of(alloc, script, played));
-    page.push_str(LEGEND);
+    match parts_of(alloc, played) {
+        Ok(parts) => add_parts(alloc, &mut page, parts.as_slice()),
+        Err(_) => page.fail(),
+    }
     Frame::before_lines(alloc, page)
 }

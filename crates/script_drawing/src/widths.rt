@@ -1,7 +1,7 @@
 //! How wide the words and the marks of a picture are, in characters.
 
 use crate::page::Page;
-use crate::picture::{Label, Lane, Mark, Note, Sign, Words};
+use crate::picture::{Admitted, Label, Lane, Mark, Note, Sign, Words};
 use flow_law::ChainFault;
 use flow_script::chain_fault_words;
 
@@ -14,8 +14,8 @@ const MOST_NAME: usize = 12;
 /// The number of characters between the name of a subscriber or an emission and that of its flow.
 const OF_FLOW_WIDTH: usize = 3;
 
-/// The most characters of the words in a mark.
-pub const WORDS_WIDTH: usize = 24;
+/// The most characters of a list in a mark.
+const LIST_WIDTH: usize = 24;
 
 /// Returns how many digits a number has.
 fn number_width(number: u64) -> usize {
@@ -27,7 +27,8 @@ fn more_width(count: u64) -> usize {
     number_width(count).saturating_add(1)
 }
 
-fn note_width(note: Note) -> usize {
+/// Returns how many characters a note has.
+pub fn note_width(note: Note) -> usize {
     match note {
         Note::None => 0,
         Note::Behind(count) => more_width(count),
@@ -96,22 +97,52 @@ pub fn add_head(page: &mut Page, number: usize, moment: Option<u64>) {
 pub fn words_width(words: Words<'_>) -> usize {
     match words {
         Words::None => 0,
-        Words::Number(number) => {
-            number_width(number.unsigned_abs()).saturating_add((number < 0) as usize)
-        }
-        Words::More(count) => more_width(count),
-        Words::Text(text) => text.len().min(WORDS_WIDTH),
+        Words::Number(number) => value_width(number),
+        Words::Admitted(admitted) => admitted_width(admitted),
+        Words::Text(text) => text.len(),
+        Words::List(text) => text.len().min(LIST_WIDTH),
         Words::Failed(fault) => fault_width(fault),
     }
 }
 
-/// Adds the words in a mark. Cuts a longer text.
+/// Returns how many characters a value has.
+fn value_width(value: i64) -> usize {
+    number_width(value.unsigned_abs()).saturating_add((value < 0) as usize)
+}
+
+/// The text between values, and the text after them if there are more.
+const BETWEEN: &str = ", ";
+
+const MORE: &str = ", ..";
+
+fn admitted_width(admitted: Admitted) -> usize {
+    let mut width = if admitted.has_more() { MORE.len() } else { 0 };
+    for (index, value) in admitted.written().iter().enumerate() {
+        let between = if index > 0 { BETWEEN.len() } else { 0 };
+        width = width
+            .saturating_add(between)
+            .saturating_add(value_width(*value));
+    }
+    width
+}
+
+/// Adds values that waited, and that one step let in.
+fn add_admitted(page: &mut Page, admitted: Admitted) {
+    for (index, value) in admitted.written().iter().enumerate() {
+        page.push_str(if index > 0 { BETWEEN } else { "" });
+        page.push_number(*value);
+    }
+    page.push_str(if admitted.has_more() { MORE } else { "" });
+}
+
+/// Adds the words in a mark. Cuts a longer list.
 pub fn add_words(page: &mut Page, words: Words<'_>) {
     match words {
         Words::None => {}
         Words::Number(number) => page.push_number(number),
-        Words::More(count) => add_more(page, count),
-        Words::Text(words) => add_cut(page, words, WORDS_WIDTH),
+        Words::Admitted(admitted) => add_admitted(page, admitted),
+        Words::Text(words) => page.push_str(words),
+        Words::List(words) => add_cut(page, words, LIST_WIDTH),
         Words::Failed(fault) => add_fault(page, fault),
     }
 }

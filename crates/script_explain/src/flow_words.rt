@@ -2,12 +2,6 @@
 
 use crate::words::{Form, Key, Need, Row, Shape, key, row};
 
-/// The most steps of a script.
-pub const MOST_STEPS: usize = 10_000;
-
-/// The most flows of a script.
-pub const MOST_FLOWS: usize = 64;
-
 /// The version. A missing version is a fault of its own.
 pub const VERSION: Key = key!("version", Form::Version, Need::Always);
 

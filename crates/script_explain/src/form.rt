@@ -1,20 +1,11 @@
 //! The forms of values: which values have them, their limits, and their words in messages.
 
 use crate::chain_words::{MOST_ITEMS, MOST_SPREAD};
-use crate::flow_words::{MOST_FLOWS, MOST_STEPS, STARTED_WORDS};
+use crate::flow_words::STARTED_WORDS;
 use crate::head::items_of;
 use crate::words::Form;
+use script_format::{MOST_FLOWS, MOST_STEPS, is_name};
 use serde_json::Value;
-
-/// Returns whether a text has the form of a name.
-pub fn is_name(text: &str) -> bool {
-    for byte in text.as_bytes() {
-        if !matches!(*byte, b'a'..=b'z' | b'0'..=b'9' | b'_') {
-            return false;
-        }
-    }
-    !text.is_empty() && text.len() <= 32
-}
 
 /// Returns how many members an object has.
 pub fn members_len(value: &Value) -> usize {

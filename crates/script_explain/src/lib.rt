@@ -8,9 +8,8 @@
 //! wrong, which it writes to the `Report`.
 //!
 //! # Rules
-//! `rules_of` takes the steps of a script, each with its answer, and returns for each step the rule that gives this
-//! answer. `rules` has the rules; they are those of docs/DEFINITIONS.md. `losses` finds the values that subscribers
-//! lose by `drop_oldest`.
+//! `rules_of` takes the trace of a script, and returns for each step the rule that gives its answer: the words of the
+//! case that the step took. `rules` has the rules; they are those of docs/DEFINITIONS.md.
 #![tactic(auto)]
 
 mod chain_words;
@@ -19,7 +18,6 @@ mod flow_words;
 mod form;
 mod head;
 mod introduced;
-mod losses;
 mod names;
 mod not_allowed;
 mod refusal;

@@ -1,57 +1,49 @@
 //! The rules by which the steps of a script have their answers.
+//!
+//! Nothing is decided here: a rule says in words which case of its documented flow a step took, and the case is in the
+//! trace.
 
 mod every_flow;
-mod flows;
+mod losses;
+mod shared;
 mod states;
 mod turns;
 
-use crate::head::flow_of;
-use crate::losses::{KnownFlow, add_loss};
-use flow_script::{Answer, Told, text_at};
-use flows::shared_rule;
-use serde_json::Value;
+use every_flow::subscribe_rule;
+use flow_script::{
+    Act, Answer, Case, FlowHead, FlowStep, Seen, SubscriberNames, Trace, TracedScript,
+};
+use losses::write_loss;
+use shared::shared_rule;
 use states::state_rule;
 use std::alloc::{AllocError, Global};
 use turns::{collect_rule, turn_rule};
 
 /// Returns the rule by which a step on a flow has its answer. It is empty if the step cannot have this answer.
-fn flow_rule(flow: &Value, step: &Value, answer: &Answer) -> &'static str {
-    let word = text_at(step, "do");
-    match text_at(flow, "kind") {
-        _ if word == "turn" => turn_rule(flow, answer),
-        "shared" | "share" => shared_rule(flow, step, answer),
-        "state" | "state_in" => state_rule(word, answer),
-        _ => "",
+fn flow_rule(head: FlowHead, step: FlowStep, case: Case, answer: &Answer) -> &'static str {
+    match (head, step) {
+        (FlowHead::Share(started, _) | FlowHead::StateIn(started), FlowStep::Turn(_)) => {
+            turn_rule(started, answer)
+        }
+        (FlowHead::Shared(_) | FlowHead::Share(_, _), _) => shared_rule(head, step, case, answer),
+        (FlowHead::State | FlowHead::StateIn(_), _) => state_rule(step, case, answer),
     }
 }
 
 /// Returns the rule by which a step has its answer, in one sentence. It is empty if the step cannot have this answer.
-fn rule_of(flow: Option<&Value>, step: &Value, answer: &Answer) -> &'static str {
-    match flow {
-        _ if text_at(step, "do") == "collect" => collect_rule(answer),
-        _ if matches!(answer, Answer::NoFlow) =>
-            "the flow was refused when it was made, so it answers nothing",
-        Some(flow) => flow_rule(flow, step, answer),
-        None => "",
+fn rule_of(trace: &Trace, seen: &Seen, answer: &Answer) -> &'static str {
+    match (seen.act, answer) {
+        (Act::Collects, _) => collect_rule(answer),
+        (_, Answer::NoFlow) => "the flow was refused when it was made, so it answers nothing",
+        (Act::SubscribesWith(_, _), _) => subscribe_rule(
+            answer,
+            "a new subscriber gets its own first values, then the replay cache, and then what is emitted afterwards",
+        ),
+        (Act::OnFlow(flow, step), _) => match trace.flows.get(flow) {
+            Some(flow) => flow_rule(flow.head, step, seen.case, answer),
+            None => "",
+        },
     }
-}
-
-/// Returns the rule of the next step, on a flow of the script.
-fn next_rule<'a>(
-    alloc: Global,
-    known: &mut Vec<KnownFlow<'a>>,
-    flow: Option<&Value>,
-    step: &'a Value,
-    told: &Told,
-) -> Result<String, AllocError> {
-    let mut words = String::new(alloc);
-    if let Some(flow) = flow {
-        add_loss(alloc, known, &mut words, flow, step, told)?;
-    }
-    if words.is_empty() {
-        words.push_str(rule_of(flow, step, &told.answer))?;
-    }
-    Ok(words)
 }
 
 /// Returns the rules by which the steps of a script have their answers, each in one sentence. A rule is empty if its
@@ -63,20 +55,21 @@ fn next_rule<'a>(
 ///
 /// # Errors
 /// `AllocError`: out of memory.
-pub fn rules_of(
-    alloc: Global,
-    script: &Value,
-    steps: &[Value],
-    answers: &[Told],
-) -> Result<Vec<String>, AllocError> {
-    let mut known = Vec::new(alloc);
+pub fn rules_of(alloc: Global, traced: &TracedScript) -> Result<Vec<String>, AllocError> {
+    let trace = &traced.trace;
+    let steps = trace.steps.as_slice();
+    let names = SubscriberNames::new(alloc, trace.flows.len(), traced.steps(), steps)?;
     let mut rules = Vec::new(alloc);
-    for (place, step) in steps.iter().enumerate() {
-        let Some(told) = answers.get(place) else {
+    for (place, answer) in trace.answers.steps.iter().enumerate() {
+        let Some(seen) = steps.get(place) else {
             break;
         };
-        let flow = flow_of(script, step);
-        rules.push(next_rule(alloc, &mut known, flow, step, told)?)?;
+        let mut words = String::new(alloc);
+        match &seen.changes.loss {
+            Some(loss) => write_loss(&mut words, &names, seen.act.flow().unwrap_or(0), loss)?,
+            None => words.push_str(rule_of(trace, seen, answer))?,
+        }
+        rules.push(words)?;
     }
     Ok(rules)
 }

@@ -2,13 +2,13 @@
 
 use crate::chain_words::{FAULT, shape_of};
 use crate::choices::Choices;
-use crate::form::is_name;
 use crate::head::{Script, items_of};
 use crate::report::{EXPECTED, Ended, Looked, Owner, Report};
 use crate::tags::Tagged;
 use crate::tasks::{Inside, Task, inside_of};
 use crate::words::{Form, Row, Shape, Version, key_named, row_named};
 use json_places::{Member, Spot, Text};
+use script_format::is_name;
 
 /// What a search looks for.
 #[derive(Clone, Copy)]

@@ -1,6 +1,7 @@
 //! The steps of scripts and their keys.
 
 use crate::words::{Form, Key, Need, Row, key};
+use script_format::MOST_FIRST;
 
 /// The tag of a step.
 const DO: Key = key!("do", Form::Tag, Need::Always);
@@ -17,7 +18,7 @@ const UPDATE: Key = key!("update", Form::Signed, Need::Always);
 
 const AT: Key = key!("at", Form::Unsigned, Need::Always);
 
-const FIRST: Key = key!("first", Form::Numbers(10_000), Need::MaybeInTwo);
+const FIRST: Key = key!("first", Form::Numbers(MOST_FIRST), Need::MaybeInTwo);
 
 const CHAIN: Key = key!("chain", Form::Chain, Need::Always);
 

@@ -6,3 +6,4 @@ pub mod Actions
 pub mod Checks
 pub mod Names
 pub mod HeadViews
+pub mod ReadScripts

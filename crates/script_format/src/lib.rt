@@ -17,6 +17,9 @@ mod script;
 mod verb;
 mod written;
 
-pub use read::{MOST_BYTES, read_script};
-pub use script::{FlowStep, NamedFlow, Script, ScriptFlow, Step};
+pub use name_form::is_name;
+pub use read::{MOST_BYTES, MOST_STEPS, read_script, read_with_text};
+pub use read_flows::MOST_FLOWS;
+pub use read_step::MOST_FIRST;
+pub use script::{FlowStep, NamedFlow, ReadScript, Script, ScriptFlow, Step};
 pub use script_chain_format::{Build, ScriptFault};

@@ -4,11 +4,12 @@ ghost use Rattle.serde_json.specs.View.{view, items_view};
 ghost use Rattle.script_chain_format.specs.Results.{Gives};
 ghost use Rattle.script_format.specs.Checks as checks;
 ghost use Rattle.script_format.specs.Actions.{heads_of};
+ghost use Rattle.script_format.specs.ReadScripts.{script_alone};
 
 use crate::names::Names;
 use crate::read_head::head_in;
 use crate::read_step::step_of;
-use crate::script::{NamedFlow, Script, Step};
+use crate::script::{NamedFlow, ReadScript, Script, Step};
 use script_chain_format::{ScriptFault, Version, version_of};
 use serde_json::Value;
 use std::alloc::Global;
@@ -16,7 +17,8 @@ use std::alloc::Global;
 /// The most bytes that a script may have.
 pub const MOST_BYTES: usize = 1_048_576;
 
-const MOST_STEPS: usize = 10_000;
+/// The most steps that a script may have.
+pub const MOST_STEPS: usize = 10_000;
 
 fn steps_of(
     alloc: Global,
@@ -78,13 +80,24 @@ fn json_of(alloc: Global, bytes: &[u8]) -> Result<Value, ScriptFault>
     }
 }
 
-/// Reads a whole script, and checks each of its steps.
-pub fn read_script(alloc: Global, bytes: &[u8]) -> Result<Script, ScriptFault>
-    ensures { Gives (checks.read_script bytes.now) (checks.script_result result) }
+/// Reads a whole script, checks each of its steps, and keeps the data of the text.
+pub fn read_with_text(alloc: Global, bytes: &[u8]) -> Result<ReadScript, ScriptFault>
+    ensures { Gives (checks.read_script bytes.now) (checks.script_result (script_alone result)) }
 {
     if bytes.len() > MOST_BYTES {
         return Err(ScriptFault::TooLarge(0));
     }
     let value = json_of(alloc, bytes)?;
-    script_of(alloc, &value)
+    let script = script_of(alloc, &value)?;
+    Ok(ReadScript { script, value })
+}
+
+/// Reads a whole script, and checks each of its steps.
+pub fn read_script(alloc: Global, bytes: &[u8]) -> Result<Script, ScriptFault>
+    ensures { Gives (checks.read_script bytes.now) (checks.script_result result) }
+{
+    match read_with_text(alloc, bytes) {
+        Ok(read) => Ok(read.script),
+        Err(fault) => Err(fault),
+    }
 }

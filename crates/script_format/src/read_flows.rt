@@ -15,7 +15,8 @@ use script_chain_format::{ScriptFault, Version, first_fault, is_final};
 use serde_json::{Map, Value};
 use std::alloc::Global;
 
-const MOST_FLOWS: usize = 64;
+/// The most flows that a script may have.
+pub const MOST_FLOWS: usize = 64;
 
 /// Returns a flow and its name.
 fn named_flow(alloc: Global, name: &str, flow: &Value) -> Result<NamedFlow, ScriptFault>

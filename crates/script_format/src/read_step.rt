@@ -18,7 +18,8 @@ use script_chain_format::{Build, ScriptFault, Version, chain_in, has_only, numbe
 use serde_json::Value;
 use std::alloc::Global;
 
-const MOST_FIRST: usize = 10_000;
+/// The most first values of its own that a subscriber may have.
+pub const MOST_FIRST: usize = 10_000;
 
 /// Returns whether a step has first values for its subscriber. Version 1 has none.
 fn has_first(version: Version, step: &Value) -> bool

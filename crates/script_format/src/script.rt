@@ -2,6 +2,7 @@
 
 use flow_law::{Config, Started};
 use script_chain_format::Build;
+use serde_json::Value;
 
 /// A step on a flow. An emission or a subscriber is given by its place: how many of its kind were introduced before it
 /// for that flow.
@@ -78,4 +79,12 @@ pub struct Script {
     /// In the order in which they are made.
     pub flows: Vec<NamedFlow>,
     pub steps: Vec<Step>,
+}
+
+/// A checked script with the data of the text that it was read from. The text has what a played script no longer needs:
+/// the names of its steps, and the words of its flows and chains.
+#[derive(Drop)]
+pub struct ReadScript {
+    pub script: Script,
+    pub value: Value,
 }

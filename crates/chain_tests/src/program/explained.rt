@@ -2,8 +2,11 @@
 //! does lead to.
 use crate::compare::compare;
 use crate::program::Host;
-use flow_law::ChainFault;
-use flow_script::{Answer, ScriptFault, Seen, Told, chain_fault_words};
+use flow_law::{ChainFault, Config, Overflow};
+use flow_script::{
+    Act, Answer, Answers, Case, FlowHead, FlowStep, FlowTrace, ScriptFault, Seen, Trace,
+    TracedScript, chain_fault_words,
+};
 use script_explain::{explain_refusal, rules_of};
 use serde_json::Value;
 
@@ -50,50 +53,62 @@ fn a_refusal_is_told_with_its_place(rt: HostRuntime) {
     }
 }
 
-/// A script, a step, whether its answer was `true`, and the rule, which is empty if the step has no such answer.
-static RULES: &[(&str, &str, bool, &str)] = &[
+/// The case of a step on a shared flow with a buffer, whether its answer was `true`, and the rule, which is empty if the
+/// step has no such answer.
+static RULES: &[(FlowStep, Case, bool, &str)] = &[
     (
-        r#"{"flow":{"kind":"shared","replay":0,"extra":2,"overflow":"drop_oldest"}}"#,
-        r#"{"do":"try_emit"}"#,
+        FlowStep::TryEmit(1),
+        Case::Appends,
         true,
         "taken: there is no subscriber, or room for every subscriber",
     ),
-    (
-        r#"{"flow":{"kind":"shared","replay":0,"extra":2,"overflow":"drop_oldest"}}"#,
-        r#"{"do":"try_emit"}"#,
-        false,
-        "",
-    ),
-    (
-        r#"{"flow":{"kind":"shared","replay":2,"extra":0,"overflow":"suspend"}}"#,
-        r#"{"do":"bogus"}"#,
-        true,
-        "",
-    ),
+    (FlowStep::TryEmit(1), Case::Appends, false, ""),
+    (FlowStep::Set(1), Case::Plain, true, ""),
 ];
 
-fn json<H: Host>(rt: &H, text: &str) -> Value {
-    Value::from_str(rt.alloc(), text).expect(rt, "a value")
+/// Returns what is seen of a step on the first flow.
+fn seen<H: Host>(rt: &H, step: FlowStep, case: Case) -> Seen {
+    Seen {
+        act: Act::OnFlow(0, step),
+        case,
+        name: None,
+        emitted: Some(1),
+        lag: None,
+        item: None,
+        loss: None,
+        moved: Vec::new(rt.alloc()),
+        ended: Vec::new(rt.alloc()),
+        after: None,
+    }
 }
 
-/// Returns the record of a step with this answer.
-fn tested(test: bool) -> Told {
-    Told {
-        answer: Answer::Tested(test),
-        seen: Seen {
-            emitted: Some(1),
-            lag: None,
-            at: None,
+/// Returns a trace of one step on one flow.
+fn one_step<H: Host>(rt: &H, step: FlowStep, case: Case, test: bool) -> TracedScript {
+    let alloc = rt.alloc();
+    let head = FlowHead::Shared(Config {
+        replay: 0,
+        extra: 2,
+        overflow: Overflow::DropOldest,
+        limit: u64::MAX,
+    });
+    let values = Vec::new(alloc);
+    TracedScript {
+        value: Value::from_str(alloc, r#"{"steps":[{}]}"#).expect(rt, "a value"),
+        trace: Trace {
+            flows: vec![in alloc; FlowTrace { head, values }].expect(rt, "memory"),
+            answers: Answers {
+                not_made: Vec::new(alloc),
+                steps: vec![in alloc; Answer::Tested(test)].expect(rt, "memory"),
+            },
+            steps: vec![in alloc; seen(rt, step, case)].expect(rt, "memory"),
+            last_lags: vec![in alloc; None].expect(rt, "memory"),
         },
-        subscriber: None,
     }
 }
 
 /// Compares the rule of an answer with the one that is wanted.
-fn expect_rule<H: Host>(rt: &H, script: &str, step: &str, test: bool, rule: &str) {
-    let script = json(rt, script);
-    let step = json(rt, step);
-    let rules = rules_of(rt.alloc(), &script, &[step], &[tested(test)]).expect(rt, "memory");
+fn expect_rule<H: Host>(rt: &H, step: FlowStep, case: Case, test: bool, rule: &str) {
+    let rules = rules_of(rt.alloc(), &one_step(rt, step, case, test)).expect(rt, "memory");
     let [found] = rules.as_slice() else {
         panic!(rt; "a rule");
     };
@@ -102,8 +117,8 @@ fn expect_rule<H: Host>(rt: &H, script: &str, step: &str, test: bool, rule: &str
 
 #[test]
 fn an_answer_has_its_rule(rt: HostRuntime) {
-    for (script, step, test, rule) in RULES {
-        expect_rule(&rt, script, step, *test, rule);
+    for (step, case, test, rule) in RULES {
+        expect_rule(&rt, *step, *case, *test, rule);
     }
 }
 

@@ -1,7 +1,7 @@
 //! The numbers of subscribers and values of a shared core.
-ghost use Rattle.std.specs.Prelude.{◌≡◌, ◌+◌, ◌≤◌, max, length};
+ghost use Rattle.std.specs.Prelude.{◌≡◌, ◌+◌, ◌≤◌, max, length, option_map, slice_get};
 ghost use Rattle.flow_law.specs.SharedFlow.{lag_of};
-ghost use Rattle.flow_law.specs.Standing.{StandsFor, Conforms, held};
+ghost use Rattle.flow_law.specs.Standing.{StandsFor, Conforms, held, needed};
 ghost use Rattle.flow_law.specs.declared.states.SharedFlowState.{SharedFlowState};
 ghost use Rattle.flow_law.specs.declared.call.SharedCall.TheVariants as call;
 ghost use Rattle.flow_law.specs.declared.call.SharedReply.TheVariants as reply;
@@ -30,6 +30,15 @@ impl<T: FlowValue, A: Allocator + Copy> SharedCore<T, A> {
         ensures most { result ≤ max (self.now.config.replay + self.now.config.extra) 1 }
     {
         self.values.len()
+    }
+
+    /// Returns a value that the flow keeps: the one at place 0 is the oldest that a present or a new subscriber may still
+    /// receive.
+    pub fn held_value(&self, place: usize) -> Option<&T>
+        ensures held { (s : SharedFlowState T) → StandsFor self.now s →
+            option_map (λ value. value.now) result ≡ slice_get (needed s) place }
+    {
+        self.values.get(place)
     }
 
     /// Returns how many values were emitted since the flow was made. Queued values, values that were dropped instead of

@@ -15,17 +15,30 @@ use super::SharedCore;
 use flow_law::{Emit, FlowFault, FlowValue, Overflow, Refused};
 use std::alloc::Allocator;
 
-/// What an emission does.
-#[derive(Clone, Copy)]
-enum EmitCase {
+/// What an emission does (`BufferOverflow`).
+#[derive(Clone, Copy, Debug, PartialEq, Eq)]
+pub enum EmitCase {
+    /// The flow takes the value at once.
     Appends,
+    /// The flow has no buffer, and offers the value to its subscribers. An emitter that may wait waits.
     Offers,
+    /// The flow is blocked. An emitter that may wait waits.
     Queues,
+    /// The flow is blocked, and drops the value.
     DropsLatest,
+    /// The flow is blocked, and takes the value. Subscribers that are a whole buffer behind lose their oldest one.
     DropsOldest,
 }
 
 impl<T: FlowValue, A: Allocator + Copy> SharedCore<T, A> {
+    /// Returns what an emission would do now, if a number is left. It changes nothing.
+    pub fn emission_case(&self) -> EmitCase
+        ensures documented { (s : SharedFlowState T) →
+            StandsFor self.now s → case_of result ≡ rule.emit_case s }
+    {
+        self.emit_case()
+    }
+
     fn emit_case(&self) -> EmitCase
         ensures found { MayAppend result self.now }
         ensures shown { CoreShows self.now rule.emit_case (case_of result) }

@@ -1,47 +1,49 @@
 //! The rules of the turns of a shared chain, and of collections.
 
-use flow_law::{ChainFault, Command, End, Event, Report, ShareFault};
-use flow_script::{Answer, text_at};
-use serde_json::Value;
+use flow_law::{ChainFault, Command, End, Event, Report, ShareFault, Started};
+use flow_script::Answer;
 
 /// Returns the rule by which a turn starts the chain.
-fn start_rule(flow: &Value) -> &'static str {
-    match text_at(flow, "started") {
-        "eagerly" => "started eagerly, the chain runs from the first turn on",
-        "lazily" => "started lazily, the chain runs from the first turn with a subscriber on",
-        _ => "the chain runs while there are subscribers, and at each start from its beginning",
+fn start_rule(started: Started) -> &'static str {
+    match started {
+        Started::Eagerly => "started eagerly, the chain runs from the first turn on",
+        Started::Lazily => {
+            "started lazily, the chain runs from the first turn with a subscriber on"
+        }
+        Started::WhileSubscribed { .. } =>
+            "the chain runs while there are subscribers, and at each start from its beginning",
     }
 }
 
 /// Returns the rule by which the chain does not run. One that is started eagerly always runs.
-fn idle_rule(flow: &Value) -> &'static str {
-    match text_at(flow, "started") {
-        "eagerly" => "",
-        "lazily" => {
+fn idle_rule(started: Started) -> &'static str {
+    match started {
+        Started::Eagerly => "",
+        Started::Lazily => {
             "started lazily, the chain does not run before the first turn with a subscriber"
         }
-        _ => "the chain does not run without subscribers",
+        Started::WhileSubscribed { .. } => "the chain does not run without subscribers",
     }
 }
 
 /// Returns the rule for the event of a turn whose command is `Keep`.
-fn event_rule(flow: &Value, event: Event) -> &'static str {
+fn event_rule(started: Started, event: Event) -> &'static str {
     match event {
         Event::Put => "a turn puts one item at most: the next one went into the flow",
         Event::Queued => "the item waits in the queue for slow subscribers",
         Event::Waiting => { "the item of an earlier turn still waits, so the chain is not asked" }
         Event::Pending => "the chain has no item yet",
         Event::Completed => "the chain has ended, which affects no subscriber",
-        Event::Idle => idle_rule(flow),
+        Event::Idle => idle_rule(started),
         Event::Busy => "",
     }
 }
 
 /// Returns the rule of a turn: that of its command, unless that is `Keep`: then that of its event.
-fn report_rule(flow: &Value, report: &Report) -> &'static str {
+fn report_rule(started: Started, report: &Report) -> &'static str {
     match (report.command, report.event) {
-        (Command::Start, _) => start_rule(flow),
-        (Command::Keep, event) => event_rule(flow, event),
+        (Command::Start, _) => start_rule(started),
+        (Command::Keep, event) => event_rule(started, event),
         (Command::Stop, Event::Idle) => {
             "the stop time has passed without a subscriber: what waits is cancelled, and a kept item is dropped"
         }
@@ -64,9 +66,9 @@ fn refused_turn_rule(fault: &ShareFault) -> &'static str {
 }
 
 /// Returns the rule by which a turn has its answer. It is empty if no turn has this answer.
-pub fn turn_rule(flow: &Value, answer: &Answer) -> &'static str {
+pub fn turn_rule(started: Started, answer: &Answer) -> &'static str {
     match answer {
-        Answer::Turned(report) => report_rule(flow, report),
+        Answer::Turned(report) => report_rule(started, report),
         Answer::TurnRefused(fault) => refused_turn_rule(fault),
         _ => "",
     }
