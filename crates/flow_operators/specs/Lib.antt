@@ -1,5 +1,6 @@
 pub mod Asking
 pub mod Behind
+pub mod Bound
 pub mod Closures
 pub mod Collecting
 pub mod InnerChains
@@ -8,6 +9,7 @@ pub mod Numbers
 pub mod Pairs
 pub mod Passing
 pub mod Results
+pub mod SameChain
 pub mod Sources
 pub mod Stopping
 pub mod Streams

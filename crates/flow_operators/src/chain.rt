@@ -1,6 +1,7 @@
 //! The operators as methods of every chain, so that a chain reads in the order in which an item passes its operators.
 //!
-//! Each method is the constructor of its operator, and has the constructor's contract.
+//! No operator is made in another way. A method says what the operator's two runs are (`whole`, `rest`), and what that
+//! means for lists (`meaning`).
 ghost use Rattle.std.specs.Prelude.{◌≡◌, ◌↔◌, None, Ok, Bool, List, Result, IfOk, IfErr};
 ghost use Rattle.std.specs.Fn.{FnReturnsAt};
 ghost use Rattle.flow_law.specs.declared.chain.ChainFault.{ChainFault};
@@ -12,15 +13,19 @@ ghost use Rattle.flow_operators.specs.Closures.{Computes, ComputesBy, ComputesPa
 ghost use Rattle.flow_operators.specs.Taking.{items_left};
 
 use crate::cold::Cold;
+use crate::operators::pairs::Pairs;
+use crate::operators::results::Results;
 use crate::operators::{
     Distinct, DropFirst, DropWhile, Filter, FlatMapConcat, Map, MapValue, RunningReduce, Scan,
     Take, TakeWhile, Transform, Zip,
 };
+use crate::upstream::Upstream;
 use flow_law::{ChainFault, FlowValue};
 
 /// Operators on any chain.
 pub trait Chain: Cold {
-    /// Emits what the closure makes of each item. The closure's first fault ends the chain. See `Map::new`.
+    /// Emits what the closure makes of each item. A fault of the closure ends the chain, and that call emits no item.
+    #[tactic(auto, using(flow_law::proofs::ChainLemmas::map_means))]
     final fn map<U, F>(self, closure: F) -> Map<Self, F>
     where
         Self: Sized,
@@ -41,10 +46,11 @@ pub trait Chain: Cold {
         ensures rest { (m : Self.Reading) (f : Self.Item → Result U ChainFault)
             → ⟦<Map<Self, F> as Cold>⟧.rest result (m, f) ≡ runs.map_run f (Self.rest self m) }
     {
-        Map::new(self, closure)
+        let upstream = Upstream::new(self);
+        Map { upstream, closure }
     }
 
-    /// Emits what the closure, which cannot fail, makes of each item. See `MapValue::new`.
+    /// Emits what the closure, which cannot fail, makes of each item.
     final fn map_value<U, F>(self, closure: F) -> MapValue<Self, F>
     where
         Self: Sized,
@@ -67,10 +73,12 @@ pub trait Chain: Cold {
             → ⟦<MapValue<Self, F> as Cold>⟧.rest result (m, f)
             ≡ runs.map_run (λ x. Ok (f x)) (Self.rest self m) }
     {
-        MapValue::new(self, closure)
+        let upstream = Upstream::new(self);
+        MapValue { upstream, closure }
     }
 
-    /// Emits the items that pass the test. See `Filter::new`.
+    /// Emits the items that pass the test.
+    #[tactic(auto, using(flow_law::proofs::ChainLemmas::filter_means))]
     final fn filter<F>(self, test: F) -> Filter<Self, F>
     where
         Self: Sized,
@@ -93,10 +101,12 @@ pub trait Chain: Cold {
             → ⟦<Filter<Self, F> as Cold>⟧.rest result (m, p)
             ≡ runs.filter_run p (Self.rest self m) }
     {
-        Filter::new(self, test)
+        let upstream = Upstream::new(self);
+        Filter { upstream, test }
     }
 
-    /// Emits the first `count` items. Fails with `NotPositive` if `count` is 0. See `Take::new`.
+    /// Emits the first `count` items. If `count` is 0, fails with `NotPositive` and drops the chain.
+    #[tactic(auto, using(flow_law::proofs::ChainLemmas::take_means))]
     final fn take(self, count: u64) -> Result<Take<Self>, ChainFault>
     where
         Self: Sized,
@@ -117,10 +127,18 @@ pub trait Chain: Cold {
         ensures refused { (result ≡ Err ChainFault.NotPositive) ↔ (count ≡ 0) }
         ensures otherwise { IfErr result (λ fault. fault ≡ ChainFault.NotPositive) }
     {
-        Take::new(self, count)
+        if count == 0 {
+            return Err(ChainFault::NotPositive);
+        }
+        Ok(Take {
+            upstream: Upstream::new(self),
+            count,
+            left: count,
+        })
     }
 
-    /// Emits the items after the first `count`. See `DropFirst::new`.
+    /// Emits the items after the first `count`. With a count of 0 it emits all.
+    #[tactic(auto, using(flow_law::proofs::ChainLemmas::drop_means))]
     final fn drop_first(self, count: u64) -> DropFirst<Self>
     where
         Self: Sized,
@@ -138,10 +156,15 @@ pub trait Chain: Cold {
         ensures rest { (m : Self.Reading) → ⟦<DropFirst<Self> as Cold>⟧.rest result m
             ≡ runs.drop_run (Self.rest self m) count }
     {
-        DropFirst::new(self, count)
+        DropFirst {
+            upstream: Upstream::new(self),
+            count,
+            to_drop: count,
+        }
     }
 
-    /// Emits the items before the first one that fails the test. See `TakeWhile::new`.
+    /// Emits the items before the first one that fails the test.
+    #[tactic(auto, using(flow_law::proofs::ChainLemmas::take_while_means))]
     final fn take_while<F>(self, test: F) -> TakeWhile<Self, F>
     where
         Self: Sized,
@@ -164,10 +187,12 @@ pub trait Chain: Cold {
             → ⟦<TakeWhile<Self, F> as Cold>⟧.rest result (m, p)
             ≡ runs.take_while_run p (Self.rest self m) }
     {
-        TakeWhile::new(self, test)
+        let upstream = Upstream::new(self);
+        TakeWhile { upstream, test }
     }
 
-    /// Drops the first items while they pass the test, and emits all others. See `DropWhile::new`.
+    /// Drops the first items while they pass the test, and emits all others.
+    #[tactic(auto, using(flow_law::proofs::ChainLemmas::drop_while_means))]
     final fn drop_while<F>(self, test: F) -> DropWhile<Self, F>
     where
         Self: Sized,
@@ -190,10 +215,16 @@ pub trait Chain: Cold {
             → ⟦<DropWhile<Self, F> as Cold>⟧.rest result (m, p)
             ≡ runs.drop_while_run p (Self.rest self m) }
     {
-        DropWhile::new(self, test)
+        DropWhile {
+            upstream: Upstream::new(self),
+            test,
+            dropping: true,
+        }
     }
 
-    /// Emits `initial`, then what the closure makes of the last result and each item. See `Scan::new`.
+    /// Emits `initial` without asking this chain, then what the closure makes of the last result and each item. A
+    /// fault of the closure ends the chain.
+    #[tactic(auto, using(flow_law::proofs::ChainLemmas::scan_means))]
     final fn scan<U, F>(self, initial: U, closure: F) -> Scan<Self, U, F>
     where
         Self: Sized,
@@ -217,11 +248,13 @@ pub trait Chain: Cold {
             → ⟦<Scan<Self, U, F> as Cold>⟧.rest result (m, f) ≡
             gives initial (runs.scan_run f initial (Self.rest self m)) }
     {
-        Scan::new(self, initial, closure)
+        let results = Results::new(self, initial);
+        Scan { results, closure }
     }
 
-    /// Emits the first item, then what the closure makes of the last result and each further item. See
-    /// `RunningReduce::new`.
+    /// Emits the first item, then what the closure makes of the last result and each further item. A fault of the
+    /// closure ends the chain.
+    #[tactic(auto, using(flow_law::proofs::ChainLemmas::running_reduce_means))]
     final fn running_reduce<F>(self, closure: F) -> RunningReduce<Self, F>
     where
         Self: Sized,
@@ -246,10 +279,15 @@ pub trait Chain: Cold {
             → ⟦<RunningReduce<Self, F> as Cold>⟧.rest result (m, f)
             ≡ runs.running_reduce_run f None (Self.rest self m) }
     {
-        RunningReduce::new(self, closure)
+        RunningReduce {
+            upstream: Upstream::new(self),
+            closure,
+            last: None,
+        }
     }
 
-    /// Emits the items that differ from the one before. See `Distinct::new`.
+    /// Emits the items that differ from the one before. Items are compared by `FlowValue::same`.
+    #[tactic(auto, using(flow_law::proofs::ChainLemmas::distinct_means))]
     final fn distinct(self) -> Distinct<Self>
     where
         Self: Sized,
@@ -267,10 +305,14 @@ pub trait Chain: Cold {
         ensures rest { (m : Self.Reading) → ⟦<Distinct<Self> as Cold>⟧.rest result m
             ≡ runs.distinct_run Self.Item.is_same None (Self.rest self m) }
     {
-        Distinct::new(self)
+        let upstream = Upstream::new(self);
+        let last = None;
+        Distinct { upstream, last }
     }
 
-    /// Emits the items of the list that the closure makes of each item. See `Transform::new`.
+    /// Emits the items of the list that the closure makes of each item. A fault of the closure ends the chain, and that
+    /// call emits no item.
+    #[tactic(auto, using(flow_law::proofs::ChainLemmas::transform_means))]
     final fn transform<U, F>(self, closure: F) -> Transform<Self, U, F>
     where
         Self: Sized,
@@ -295,11 +337,18 @@ pub trait Chain: Cold {
             → ⟦<Transform<Self, U, F> as Cold>⟧.rest result (m, f)
             ≡ runs.transform_run f (Self.rest self m) }
     {
-        Transform::new(self, closure)
+        let upstream = Upstream::new(self);
+        Transform {
+            upstream,
+            images: None,
+            closure,
+        }
     }
 
-    /// Emits the items of the chain that the closure makes of each item, one chain after the other. See
-    /// `FlatMapConcat::new`.
+    /// Emits the items of the chain that the closure makes of each item, one chain after the other. A fault of the
+    /// closure or of an inner chain ends the chain. The inner chains have a reading for each item, since the closures in
+    /// them may capture it.
+    #[tactic(auto, using(flow_law::proofs::ChainLemmas::flat_map_means))]
     final fn flat_map_concat<D, F>(self, closure: F) -> FlatMapConcat<Self, D, F>
     where
         Self: Sized,
@@ -308,7 +357,7 @@ pub trait Chain: Cold {
         requires upstream { Self.CanAsk self }
         requires callable { F.IsAlwaysCallable closure }
         requires opens { OpensOnly D.CanAsk (F.post closure) }
-        requires limited { D.IsLimited }
+        requires limited { D.bound.IsLimited }
         ensures callable { ⟦<FlatMapConcat<Self, D, F> as Cold>⟧.CanAsk result }
         ensures reads { (m : Self.Reading) (n : Self.Item → D.Reading)
             (f : Self.Item → Result (ChainRun D.Item) ChainFault)
@@ -330,10 +379,16 @@ pub trait Chain: Cold {
             → ⟦<FlatMapConcat<Self, D, F> as Cold>⟧.rest result ((m, n), f)
             ≡ runs.flat_map_run f (Self.rest self m) }
     {
-        FlatMapConcat::new(self, closure)
+        let upstream = Upstream::new(self);
+        FlatMapConcat {
+            upstream,
+            inner: None,
+            closure,
+        }
     }
 
-    /// Emits what the closure makes of each pair; this chain is the left side. See `Zip::new`.
+    /// Emits what the closure makes of each pair; this chain is the left side. A fault of the closure ends the chain.
+    #[tactic(auto, using(flow_law::proofs::ChainLemmas::zip_means))]
     final fn zip<R, U, F>(self, right: R, closure: F) -> Zip<Self, R, F>
     where
         Self: Sized,
@@ -363,7 +418,13 @@ pub trait Chain: Cold {
             → ⟦<Zip<Self, R, F> as Cold>⟧.rest result ((m, n), f)
             ≡ runs.zip_run f (Self.rest self m) (R.rest right n) }
     {
-        Zip::new(self, right, closure)
+        let left = Upstream::new(self);
+        let pairs = Pairs {
+            left,
+            right,
+            kept: None,
+        };
+        Zip { pairs, closure }
     }
 }
 

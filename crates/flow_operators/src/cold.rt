@@ -1,7 +1,8 @@
 //! The trait of cold chains.
-ghost use Rattle.std.specs.Prelude.{◌≡◌, ◌≢◌, ◌⊎◌, ◌<◌, ◌≤◌, ℕ};
+ghost use Rattle.std.specs.Prelude.{◌≡◌, ◌≢◌, ◌⊎◌, ◌<◌, ◌≤◌};
 ghost use Rattle.flow_law.specs.ChainRun.{ChainRun};
 ghost use Rattle.flow_operators.specs.Asking.{AskGives, IsFinal, OnEnd};
+ghost use Rattle.flow_operators.specs.Bound.{Bound};
 
 use flow_law::{ChainFault, FlowValue};
 
@@ -45,13 +46,7 @@ pub trait Cold: Drop {
     ghost rest: { Self → Reading → ChainRun Self.Item };
 
     /// A bound on the asks before the end, whatever the closures answer.
-    ghost most_asks: { Self → ℕ };
-
-    /// Whether every chain of this type is asked at most `limit` times before its end. A closure may then return chains
-    /// of this type to `Chain::flat_map_concat`.
-    ghost IsLimited: { Type 0 };
-
-    ghost limit: { ℕ };
+    ghost bound: { Bound Self };
 
     /// Whether the chain is over: each ask then answers `End`, and changes nothing. A chain that has ended or failed
     /// since it was started is over.
@@ -78,7 +73,7 @@ pub trait Cold: Drop {
         ensures whole { (m : Reading) → whole self.new m ≡ whole self.old m }
         ensures gives { (m : Reading) → Reads self.old m →
             AskGives (rest self.old m) result (rest self.new m) }
-        ensures fewer { IsFinal result ⊎ most_asks self.new < most_asks self.old }
+        ensures fewer { IsFinal result ⊎ bound.most_asks self.new < bound.most_asks self.old }
         ensures over { IsFinal result → IsOver self.new }
         ensures answered { OnEnd result (HasAnswered self.new) }
         ensures behind { (¬ IsOver self.old) → (m : Reading) → Reads self.old m
@@ -97,5 +92,5 @@ pub trait Cold: Drop {
         ensures rest { (m : Reading) → rest self.new m ≡ whole self.old m }
         ensures lasting { IsGiven self.old → IsGiven self.new };
 
-    ghost limited: { IsLimited → (s : Self) → most_asks s ≤ limit };
+    ghost limited: { bound.IsLimited → (s : Self) → bound.most_asks s ≤ bound.limit };
 }

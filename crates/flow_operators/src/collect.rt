@@ -2,6 +2,7 @@
 ghost use Rattle.std.specs.Prelude.{◌≡◌, ◌≢◌, IfOk, IfErr};
 ghost use Rattle.flow_law.specs.ChainRun.{Collects};
 ghost use Rattle.flow_operators.specs.Collecting.{StandsAfterItem};
+ghost use Rattle.flow_operators.specs.SameChain.{StaysChain};
 
 use crate::cold::{Asked, Cold};
 use flow_law::{ChainFault, End};
@@ -24,10 +25,7 @@ pub fn collect_all<C: Cold, A: Allocator>(
     chain: &mut C,
 ) -> Result<Collected<C::Item, A>, ChainFault>
     requires { C.CanAsk chain.old }
-    ensures callable { C.CanAsk chain.new }
-    ensures reads { (m : C.Reading) → C.Reads chain.old m → C.Reads chain.new m }
-    ensures whole { (m : C.Reading) → C.whole chain.new m ≡ C.whole chain.old m }
-    ensures lasting { C.IsGiven chain.old → C.IsGiven chain.new }
+    ensures stays { StaysChain C.Cold chain.old chain.new }
     ensures given { C.IsGiven chain.old → IfOk result (λ collected.
         collected.end ≢ End.Failed ChainFault.OutOfMemory) }
     ensures collects { IfOk result (λ collected. (m : C.Reading) → C.Reads chain.old m

@@ -15,11 +15,12 @@
 //!
 //! # What a chain promises
 //! A chain has two runs: the whole, which no call changes, and the rest. `ask` takes the first entry of the rest
-//! (clause `gives`), takes from the upstream just what its answer needs (`behind`), and can be made at most `most_asks`
-//! times before the end (`fewer`). A constructor, and a method of `Chain`, says what the operator's run is (`whole`)
-//! and what that means for lists (`meaning`). A method of `Terminal` starts the chain from the beginning; its result is
-//! stated by the chain's items and end. A fault is the last answer of the chain, or the answer of a call of the
-//! closure; after the latter the chain is just after the item of that call.
+//! (clause `gives`), takes from the upstream just what its answer needs (`behind`), and can be made at most
+//! `bound.most_asks` times before the end (`fewer`). A constructor of a source says what the source's run is. An
+//! operator is made by a method of `Chain` alone, which says what the operator's run is (`whole`) and what that means for
+//! lists (`meaning`). A method of `Terminal` starts the chain from the beginning; its result is stated by the chain's
+//! items and end, and what it keeps of the chain by one word (`stays`). A fault is the last answer of the chain, or the
+//! answer of a call of the closure; after the latter the chain is just after the item of that call.
 //!
 //! # Closures
 //! Operators take plain closures. All that they require is that the closure may be called. Claims about items are

@@ -1,10 +1,11 @@
 //! Steps of the terminal operators. None of them starts a chain from the beginning.
-ghost use Rattle.std.specs.Prelude.{◌≡◌, ◌≢◌, ◌⊎◌, ◌<◌, Bool, Result, filter, IfOk, IfErr, IfSome};
+ghost use Rattle.std.specs.Prelude.{◌≢◌, ◌⊎◌, ◌<◌, Bool, Result, filter, IfOk, IfErr, IfSome};
 ghost use Rattle.std.specs.Fn.{FnReturnsAt};
 ghost use Rattle.flow_law.specs.declared.chain.ChainFault.{ChainFault};
 ghost use Rattle.flow_law.specs.declared.chain.End.{End};
 ghost use Rattle.flow_law.specs.ChainRun.{items, ending};
 ghost use Rattle.flow_operators.specs.Closures.{ComputesPairs, Decides, Follows, NeverRefusesPairs};
+ghost use Rattle.flow_operators.specs.SameChain.{StaysChain};
 ghost use Rattle.flow_operators.specs.Stopping.{StandsAfterFailed, StandsAfterFirst, StandsAfterFound};
 ghost use Rattle.flow_operators.specs.Terminal.{CallFails, GivesItem, OnNoItem, first_of, folded, sought};
 
@@ -15,10 +16,7 @@ use flow_law::ChainFault;
 /// Returns the next item, or `None` at the end. Asks again after `Pending`. Fails with the chain's fault.
 pub(crate) fn next_item<C: Cold>(chain: &mut C) -> Result<Option<C::Item>, ChainFault>
     requires { C.CanAsk chain.old }
-    ensures callable { C.CanAsk chain.new }
-    ensures reads { (m : C.Reading) → C.Reads chain.old m → C.Reads chain.new m }
-    ensures whole { (m : C.Reading) → C.whole chain.new m ≡ C.whole chain.old m }
-    ensures lasting { C.IsGiven chain.old → C.IsGiven chain.new }
+    ensures stays { StaysChain C.Cold chain.old chain.new }
     ensures given { C.IsGiven chain.old
         → IfErr result (λ fault. fault ≢ ChainFault.OutOfMemory) }
     ensures gives { (m : C.Reading) → C.Reads chain.old m →
@@ -27,7 +25,7 @@ pub(crate) fn next_item<C: Cold>(chain: &mut C) -> Result<Option<C::Item>, Chain
         IfSome found (λ item. (m : C.Reading) → C.Reads chain.old m
         → StandsAfterFirst item (C.rest chain.old m) (C.rest chain.new m))) }
     ensures fewer { IfOk result (λ found.
-        IfSome found (λ _. C.most_asks chain.new < C.most_asks chain.old)) }
+        IfSome found (λ _. C.bound.most_asks chain.new < C.bound.most_asks chain.old)) }
     ensures over { OnNoItem result (C.IsOver chain.new) }
     ensures answered { IfErr result (λ fault. C.HasAnswered chain.new (End.Failed fault)) }
 {
@@ -61,10 +59,7 @@ where
     F: Fn(U, C::Item) -> Result<U, ChainFault>,
     requires chain { C.CanAsk chain.old }
     requires callable { F.IsAlwaysCallable closure.now }
-    ensures callable { C.CanAsk chain.new }
-    ensures reads { (m : C.Reading) → C.Reads chain.old m → C.Reads chain.new m }
-    ensures whole { (m : C.Reading) → C.whole chain.new m ≡ C.whole chain.old m }
-    ensures lasting { C.IsGiven chain.old → C.IsGiven chain.new }
+    ensures stays { StaysChain C.Cold chain.old chain.new }
     ensures given { C.IsGiven chain.old → NeverRefusesPairs (F.post closure.now)
         → IfErr result (λ fault. fault ≢ ChainFault.OutOfMemory) }
     ensures folds { (m : C.Reading) (f : U × C.Item → Result U ChainFault) → C.Reads chain.old m
@@ -100,10 +95,7 @@ where
     F: Fn(&C::Item) -> bool,
     requires chain { C.CanAsk chain.old }
     requires callable { F.IsAlwaysCallable test.now }
-    ensures callable { C.CanAsk chain.new }
-    ensures reads { (m : C.Reading) → C.Reads chain.old m → C.Reads chain.new m }
-    ensures whole { (m : C.Reading) → C.whole chain.new m ≡ C.whole chain.old m }
-    ensures lasting { C.IsGiven chain.old → C.IsGiven chain.new }
+    ensures stays { StaysChain C.Cold chain.old chain.new }
     ensures given { C.IsGiven chain.old
         → IfErr result (λ fault. fault ≢ ChainFault.OutOfMemory) }
     ensures finds { (m : C.Reading) (p : C.Item → Bool) → C.Reads chain.old m

@@ -5,6 +5,7 @@ ghost use Rattle.futures.specs.Runs.{After, Within};
 ghost use Rattle.futures.specs.Task.{Covers, Keeps};
 ghost use Rattle.flow_law.specs.declared.chain.End.{End};
 ghost use Rattle.flow_operators.specs.Asking.{AskGives, IsFinal};
+ghost use Rattle.flow_operators.specs.SameChain.{StaysChain};
 ghost use Rattle.flow_operators.specs.Streams.{Streams, Over, OnFault};
 ghost use Rattle.flow_operators.specs.Streams.{answer_in, is_stream_over, streamed_chain, streamed_rest};
 
@@ -25,8 +26,7 @@ impl<C: Cold> Streamed<C> {
     pub fn new(mut chain: C) -> Self
         requires { C.CanAsk chain }
         ensures callable { ⟦<Streamed<C> as Stream>⟧.can_poll result }
-        ensures reads { (m : C.Reading) → C.Reads chain m → C.Reads (streamed_chain result) m }
-        ensures given { C.IsGiven chain → C.IsGiven (streamed_chain result) }
+        ensures stays { StaysChain C.Cold chain (streamed_chain result) }
         ensures rest { (m : C.Reading) → streamed_rest (λ c. C.rest c m) result ≡ C.whole chain m }
         ensures running { is_stream_over result ≡ false }
         ensures yields { (xs : List (Result C.Item ChainFault))
@@ -67,17 +67,14 @@ impl<C: Cold> Stream for Streamed<C> {
         ensures registered { OnPending result
             (Covers cx.new (⟦<Streamed<C> as Stream>⟧.needs self.new)) }
         ensures kept { Keeps cx.old cx.new }
-        ensures reads { (m : C.Reading) →
-            C.Reads (streamed_chain self.old) m → C.Reads (streamed_chain self.new) m }
+        ensures stays { StaysChain C.Cold (streamed_chain self.old) (streamed_chain self.new) }
         ensures gives { (m : C.Reading) → C.Reads (streamed_chain self.old) m
             → AskGives (streamed_rest (λ c. C.rest c m) self.old) (answer_in result)
             (streamed_rest (λ c. C.rest c m) self.new) }
-        ensures lasting { C.IsGiven (streamed_chain self.old)
-            → C.IsGiven (streamed_chain self.new) }
         ensures given { C.IsGiven (streamed_chain self.old)
             → OnFault result (λ fault. fault ≢ ChainFault.OutOfMemory) }
-        ensures fewer { IsFinal (answer_in result) ⊎ C.most_asks (streamed_chain self.new)
-            < C.most_asks (streamed_chain self.old) }
+        ensures fewer { IsFinal (answer_in result) ⊎ C.bound.most_asks (streamed_chain self.new)
+            < C.bound.most_asks (streamed_chain self.old) }
         ensures over { IsFinal (answer_in result) → is_stream_over self.new ≡ true }
         // After its last item the stream does not change, and neither does its chain.
         ensures end { is_stream_over self.old ≡ true

@@ -1,6 +1,11 @@
 //! The terminal operators. Each starts the chain from the beginning and asks it.
 //!
-//! After `Pending` they ask again. If the chain fails before the answer is known, they return its fault.
+//! After `Pending` they ask again. If the chain fails before the answer is known, they return its fault. A fault that
+//! they return, also `OutOfMemory`, is the chain's own last answer or the answer of a call of the closure (`answered`).
+//! After its own fault the chain is over, after one of the closure it is just after the item of that call (`stands`).
+//!
+//! Some return the fault of a call by a `match` and not by `?`. Then the result is the call's own one, and the prover
+//! need not follow a conversion.
 ghost use Rattle.std.specs.Bool.{OnFalse, OnTrue};
 ghost use Rattle.std.specs.Prelude.{◌≡◌, ◌≢◌, ◌⊎◌, true, false, Bool, Result, filter, IfOk, IfErr, IfSome};
 ghost use Rattle.std.specs.Fn.{FnReturnsAt};
@@ -8,6 +13,7 @@ ghost use Rattle.flow_law.specs.declared.chain.ChainFault.{ChainFault};
 ghost use Rattle.flow_law.specs.ChainRun.{Collects, items, ending};
 ghost use Rattle.flow_operators.specs.Closures.{ComputesPairs, Decides, NeverRefusesPairs, NeverRefusesVisits};
 ghost use Rattle.flow_operators.specs.Collecting.{StandsAfterItem};
+ghost use Rattle.flow_operators.specs.SameChain.{StaysChain};
 ghost use Rattle.flow_operators.specs.Stopping.{HasNoSecond, StandsAfterFailed, StandsAfterFirst, StandsAfterFound, StandsAfterOverflow, StandsAfterReduced, StandsAfterSecond, StandsAfterVisited};
 ghost use Rattle.flow_operators.specs.Terminal.{CallFails, FollowsRun, OnNoItem, VisitFails, Visits};
 ghost use Rattle.flow_operators.specs.Terminal.{all_of, any_of, counted, first_of, folded, last_of, reduced_to, single_of};
@@ -28,10 +34,7 @@ pub trait Terminal: Cold {
         F: Fn(U, Self::Item) -> Result<U, ChainFault>,
         requires chain { Self.CanAsk self.old }
         requires callable { F.IsAlwaysCallable closure }
-        ensures callable { Self.CanAsk self.new }
-        ensures reads { (m : Self.Reading) → Self.Reads self.old m → Self.Reads self.new m }
-        ensures whole { (m : Self.Reading) → Self.whole self.new m ≡ Self.whole self.old m }
-        ensures lasting { Self.IsGiven self.old → Self.IsGiven self.new }
+        ensures stays { StaysChain Self.Cold self.old self.new }
         ensures given { Self.IsGiven self.old → NeverRefusesPairs (F.post closure)
             → IfErr result (λ fault. fault ≢ ChainFault.OutOfMemory) }
         ensures folds { (m : Self.Reading) (f : U × Self.Item → Result U ChainFault) →
@@ -39,13 +42,11 @@ pub trait Terminal: Cold {
             → ComputesPairs (F.post closure) f →
             FollowsRun (folded f initial) (Self.whole self.old m) result }
         ensures over { IfOk result (λ _. Self.IsOver self.new) }
-        // After its own fault the chain is over, after one of the closure just after the item of that call.
         ensures stands { IfErr result (λ fault.
             (Self.IsOver self.new × Self.HasAnswered self.new (End.Failed fault))
             ⊎ ((m : Self.Reading) → Self.Reads self.old m
             → StandsAfterFailed (F.post closure) fault initial
             (Self.whole self.old m) (Self.rest self.new m))) }
-        // A fault is the chain's own last answer, or the answer of a call of the closure. So is `OutOfMemory`.
         ensures answered { IfErr result (λ fault.
             Self.HasAnswered self.new (End.Failed fault) ⊎ CallFails (F.post closure) fault) }
     {
@@ -60,10 +61,7 @@ pub trait Terminal: Cold {
         F: Fn(Self::Item, Self::Item) -> Result<Self::Item, ChainFault>,
         requires chain { Self.CanAsk self.old }
         requires callable { F.IsAlwaysCallable closure }
-        ensures callable { Self.CanAsk self.new }
-        ensures reads { (m : Self.Reading) → Self.Reads self.old m → Self.Reads self.new m }
-        ensures whole { (m : Self.Reading) → Self.whole self.new m ≡ Self.whole self.old m }
-        ensures lasting { Self.IsGiven self.old → Self.IsGiven self.new }
+        ensures stays { StaysChain Self.Cold self.old self.new }
         ensures given { Self.IsGiven self.old → NeverRefusesPairs (F.post closure)
             → IfErr result (λ fault. fault ≢ ChainFault.OutOfMemory) }
         ensures reduces { (m : Self.Reading)
@@ -71,13 +69,11 @@ pub trait Terminal: Cold {
             → ComputesPairs (F.post closure) f →
             FollowsRun (reduced_to f) (Self.whole self.old m) result }
         ensures over { IfOk result (λ _. Self.IsOver self.new) }
-        // After its own fault the chain is over, after one of the closure just after the item of that call.
         ensures stands { IfErr result (λ fault.
             (Self.IsOver self.new × Self.HasAnswered self.new (End.Failed fault))
             ⊎ ((m : Self.Reading) → Self.Reads self.old m
             → StandsAfterReduced (F.post closure) fault
             (Self.whole self.old m) (Self.rest self.new m))) }
-        // A fault is the chain's own last answer, or the answer of a call of the closure. So is `OutOfMemory`.
         ensures answered { IfErr result (λ fault.
             Self.HasAnswered self.new (End.Failed fault) ⊎ CallFails (F.post closure) fault) }
     {
@@ -94,10 +90,7 @@ pub trait Terminal: Cold {
     /// Returns the first item, or `None` if the chain completes without one. Stops asking after that item.
     final fn first(&mut self) -> Result<Option<Self::Item>, ChainFault>
         requires { Self.CanAsk self.old }
-        ensures callable { Self.CanAsk self.new }
-        ensures reads { (m : Self.Reading) → Self.Reads self.old m → Self.Reads self.new m }
-        ensures whole { (m : Self.Reading) → Self.whole self.new m ≡ Self.whole self.old m }
-        ensures lasting { Self.IsGiven self.old → Self.IsGiven self.new }
+        ensures stays { StaysChain Self.Cold self.old self.new }
         ensures given { Self.IsGiven self.old
             → IfErr result (λ fault. fault ≢ ChainFault.OutOfMemory) }
         ensures first { (m : Self.Reading) → Self.Reads self.old m
@@ -106,7 +99,6 @@ pub trait Terminal: Cold {
         ensures stands { IfOk result (λ found.
             IfSome found (λ item. (m : Self.Reading) → Self.Reads self.old m
             → StandsAfterFirst item (Self.whole self.old m) (Self.rest self.new m))) }
-        // A fault is the chain's own last answer. So is `OutOfMemory`.
         ensures answered { IfErr result (λ fault. Self.HasAnswered self.new (End.Failed fault)) }
     {
         self.rewind();
@@ -120,10 +112,7 @@ pub trait Terminal: Cold {
         F: Fn(&Self::Item) -> bool,
         requires chain { Self.CanAsk self.old }
         requires callable { F.IsAlwaysCallable test }
-        ensures callable { Self.CanAsk self.new }
-        ensures reads { (m : Self.Reading) → Self.Reads self.old m → Self.Reads self.new m }
-        ensures whole { (m : Self.Reading) → Self.whole self.new m ≡ Self.whole self.old m }
-        ensures lasting { Self.IsGiven self.old → Self.IsGiven self.new }
+        ensures stays { StaysChain Self.Cold self.old self.new }
         ensures given { Self.IsGiven self.old
             → IfErr result (λ fault. fault ≢ ChainFault.OutOfMemory) }
         ensures finds { (m : Self.Reading) (p : Self.Item → Bool) → Self.Reads self.old m
@@ -134,7 +123,6 @@ pub trait Terminal: Cold {
             IfSome found (λ item. (m : Self.Reading) → Self.Reads self.old m
             → StandsAfterFound (λ x b. FnReturnsAt F.Fn test x b) true item
             (Self.whole self.old m) (Self.rest self.new m))) }
-        // A fault is the chain's own last answer. So is `OutOfMemory`.
         ensures answered { IfErr result (λ fault. Self.HasAnswered self.new (End.Failed fault)) }
     {
         self.rewind();
@@ -145,10 +133,7 @@ pub trait Terminal: Cold {
     final fn any<F: Fn(&Self::Item) -> bool>(&mut self, test: F) -> Result<bool, ChainFault>
         requires chain { Self.CanAsk self.old }
         requires callable { F.IsAlwaysCallable test }
-        ensures callable { Self.CanAsk self.new }
-        ensures reads { (m : Self.Reading) → Self.Reads self.old m → Self.Reads self.new m }
-        ensures whole { (m : Self.Reading) → Self.whole self.new m ≡ Self.whole self.old m }
-        ensures lasting { Self.IsGiven self.old → Self.IsGiven self.new }
+        ensures stays { StaysChain Self.Cold self.old self.new }
         ensures given { Self.IsGiven self.old
             → IfErr result (λ fault. fault ≢ ChainFault.OutOfMemory) }
         ensures tells { (m : Self.Reading) (p : Self.Item → Bool) → Self.Reads self.old m
@@ -159,7 +144,6 @@ pub trait Terminal: Cold {
             × StandsAfterFound (λ x b. FnReturnsAt F.Fn test x b) true item
             (Self.whole self.old m) (Self.rest self.new m))) }
         ensures none { IfOk result (λ found. OnFalse found (Self.IsOver self.new)) }
-        // A fault is the chain's own last answer. So is `OutOfMemory`.
         ensures over { IfErr result (λ _. Self.IsOver self.new) }
         ensures answered { IfErr result (λ fault. Self.HasAnswered self.new (End.Failed fault)) }
     {
@@ -175,10 +159,7 @@ pub trait Terminal: Cold {
     final fn all<F: Fn(&Self::Item) -> bool>(&mut self, test: F) -> Result<bool, ChainFault>
         requires chain { Self.CanAsk self.old }
         requires callable { F.IsAlwaysCallable test }
-        ensures callable { Self.CanAsk self.new }
-        ensures reads { (m : Self.Reading) → Self.Reads self.old m → Self.Reads self.new m }
-        ensures whole { (m : Self.Reading) → Self.whole self.new m ≡ Self.whole self.old m }
-        ensures lasting { Self.IsGiven self.old → Self.IsGiven self.new }
+        ensures stays { StaysChain Self.Cold self.old self.new }
         ensures given { Self.IsGiven self.old
             → IfErr result (λ fault. fault ≢ ChainFault.OutOfMemory) }
         ensures tells { (m : Self.Reading) (p : Self.Item → Bool) → Self.Reads self.old m
@@ -189,7 +170,6 @@ pub trait Terminal: Cold {
             × StandsAfterFound (λ x b. FnReturnsAt F.Fn test x b) false item
             (Self.whole self.old m) (Self.rest self.new m))) }
         ensures none { IfOk result (λ passed. OnTrue passed (Self.IsOver self.new)) }
-        // A fault is the chain's own last answer. So is `OutOfMemory`.
         ensures over { IfErr result (λ _. Self.IsOver self.new) }
         ensures answered { IfErr result (λ fault. Self.HasAnswered self.new (End.Failed fault)) }
     {
@@ -204,16 +184,12 @@ pub trait Terminal: Cold {
     /// Returns the last item, or `None` if the chain completes without one.
     final fn last(&mut self) -> Result<Option<Self::Item>, ChainFault>
         requires { Self.CanAsk self.old }
-        ensures callable { Self.CanAsk self.new }
-        ensures reads { (m : Self.Reading) → Self.Reads self.old m → Self.Reads self.new m }
-        ensures whole { (m : Self.Reading) → Self.whole self.new m ≡ Self.whole self.old m }
-        ensures lasting { Self.IsGiven self.old → Self.IsGiven self.new }
+        ensures stays { StaysChain Self.Cold self.old self.new }
         ensures given { Self.IsGiven self.old
             → IfErr result (λ fault. fault ≢ ChainFault.OutOfMemory) }
         ensures last { (m : Self.Reading) → Self.Reads self.old m
             → FollowsRun last_of (Self.whole self.old m) result }
         ensures over { Self.IsOver self.new }
-        // A fault is the chain's own last answer. So is `OutOfMemory`.
         ensures answered { IfErr result (λ fault. Self.HasAnswered self.new (End.Failed fault)) }
     {
         self.rewind();
@@ -229,10 +205,7 @@ pub trait Terminal: Cold {
     /// Returns the item of a chain that has exactly one, else `None`. Stops asking after a second item.
     final fn single(&mut self) -> Result<Option<Self::Item>, ChainFault>
         requires { Self.CanAsk self.old }
-        ensures callable { Self.CanAsk self.new }
-        ensures reads { (m : Self.Reading) → Self.Reads self.old m → Self.Reads self.new m }
-        ensures whole { (m : Self.Reading) → Self.whole self.new m ≡ Self.whole self.old m }
-        ensures lasting { Self.IsGiven self.old → Self.IsGiven self.new }
+        ensures stays { StaysChain Self.Cold self.old self.new }
         ensures given { Self.IsGiven self.old
             → IfErr result (λ fault. fault ≢ ChainFault.OutOfMemory) }
         ensures single { (m : Self.Reading) → Self.Reads self.old m
@@ -243,7 +216,6 @@ pub trait Terminal: Cold {
             × ((m : Self.Reading) → Self.Reads self.old m → HasNoSecond (Self.whole self.old m)))
             ⊎ ((m : Self.Reading) → Self.Reads self.old m
             → StandsAfterSecond (Self.whole self.old m) (Self.rest self.new m))) }
-        // A fault is the chain's own last answer. So is `OutOfMemory`.
         ensures over { IfErr result (λ _. Self.IsOver self.new) }
         ensures answered { IfErr result (λ fault. Self.HasAnswered self.new (End.Failed fault)) }
     {
@@ -260,10 +232,7 @@ pub trait Terminal: Cold {
     /// Returns the number of items. Fails with `Overflow` if it needs more than 64 bits.
     final fn count(&mut self) -> Result<u64, ChainFault>
         requires { Self.CanAsk self.old }
-        ensures callable { Self.CanAsk self.new }
-        ensures reads { (m : Self.Reading) → Self.Reads self.old m → Self.Reads self.new m }
-        ensures whole { (m : Self.Reading) → Self.whole self.new m ≡ Self.whole self.old m }
-        ensures lasting { Self.IsGiven self.old → Self.IsGiven self.new }
+        ensures stays { StaysChain Self.Cold self.old self.new }
         ensures given { Self.IsGiven self.old
             → IfErr result (λ fault. fault ≢ ChainFault.OutOfMemory) }
         ensures counts { (m : Self.Reading) → Self.Reads self.old m
@@ -297,23 +266,18 @@ pub trait Terminal: Cold {
         F: FnMut(Self::Item) -> Result<(), ChainFault>,
         requires chain { Self.CanAsk self.old }
         requires callable { F.IsAlwaysCallable visit }
-        ensures callable { Self.CanAsk self.new }
-        ensures reads { (m : Self.Reading) → Self.Reads self.old m → Self.Reads self.new m }
-        ensures whole { (m : Self.Reading) → Self.whole self.new m ≡ Self.whole self.old m }
-        ensures lasting { Self.IsGiven self.old → Self.IsGiven self.new }
+        ensures stays { StaysChain Self.Cold self.old self.new }
         ensures given { Self.IsGiven self.old → NeverRefusesVisits (λ f x r g. F.step f x r g)
             → IfErr result (λ fault. fault ≢ ChainFault.OutOfMemory) }
         ensures visits { (m : Self.Reading) →
             Self.Reads self.old m → Visits (λ f x r g. F.step f x r g) visit
             (items (Self.whole self.old m)) (ending (Self.whole self.old m)) result }
         ensures over { IfOk result (λ _. Self.IsOver self.new) }
-        // After its own fault the chain is over, after one of the closure just after the item of that call.
         ensures stands { IfErr result (λ fault.
             (Self.IsOver self.new × Self.HasAnswered self.new (End.Failed fault))
             ⊎ ((m : Self.Reading) → Self.Reads self.old m
             → StandsAfterVisited (λ f x r g. F.step f x r g) fault visit
             (Self.whole self.old m) (Self.rest self.new m))) }
-        // A fault is the chain's own last answer, or the answer of a call of the closure. So is `OutOfMemory`.
         ensures answered { IfErr result (λ fault. Self.HasAnswered self.new (End.Failed fault)
             ⊎ VisitFails (λ f x r g. F.step f x r g) fault) }
     {
@@ -335,10 +299,7 @@ pub trait Terminal: Cold {
     where
         Self: Sized,
         requires { Self.CanAsk self.old }
-        ensures callable { Self.CanAsk self.new }
-        ensures reads { (m : Self.Reading) → Self.Reads self.old m → Self.Reads self.new m }
-        ensures whole { (m : Self.Reading) → Self.whole self.new m ≡ Self.whole self.old m }
-        ensures lasting { Self.IsGiven self.old → Self.IsGiven self.new }
+        ensures stays { StaysChain Self.Cold self.old self.new }
         ensures given { Self.IsGiven self.old → IfOk result (λ collected.
             collected.end ≢ End.Failed ChainFault.OutOfMemory) }
         ensures collects { IfOk result (λ collected. (m : Self.Reading) → Self.Reads self.old m

@@ -1,6 +1,7 @@
 //! The upstream of an operator, and whether the operator has ended.
 ghost use Rattle.std.specs.Prelude.{◌≡◌, ◌≢◌, ◌⊎◌, ◌<◌, true, false, IfOk, IfErr};
 ghost use Rattle.flow_operators.specs.Asking.{IsFinal, IsItem};
+ghost use Rattle.flow_operators.specs.SameChain.{StaysChain};
 ghost use Rattle.flow_operators.specs.Upstreams.{NextGives, answer_of, chain_of, is_ended, is_fault, left_of};
 
 use crate::cold::{Asked, Cold};
@@ -24,14 +25,11 @@ impl<C: Cold> Upstream<C> {
         }
     }
 
-    /// Returns the upstream's next item, or the answer in place of one. An end or a fault ends the operator.
+    /// Returns the upstream's next item, or the answer in place of one. An end or a fault ends the operator. An `Err` is
+    /// what the operator then answers itself, and need not be a fault: it may be `Pending` or the end.
     pub(crate) fn next<U>(&mut self) -> Result<C::Item, Asked<U>>
         requires { C.CanAsk (chain_of self.old) }
-        ensures callable { C.CanAsk (chain_of self.new) }
-        ensures reads { (m : C.Reading) →
-            C.Reads (chain_of self.old) m → C.Reads (chain_of self.new) m }
-        ensures whole { (m : C.Reading) →
-            C.whole (chain_of self.new) m ≡ C.whole (chain_of self.old) m }
+        ensures stays { StaysChain C.Cold (chain_of self.old) (chain_of self.new) }
         ensures gives { (m : C.Reading) → C.Reads (chain_of self.old) m
             → NextGives (left_of (λ c. C.rest c m) self.old) result
             (left_of (λ c. C.rest c m) self.new) }
@@ -39,12 +37,11 @@ impl<C: Cold> Upstream<C> {
             (m : C.Reading) → C.Reads (chain_of self.old) m
             → NextGives (C.rest (chain_of self.old) m) result (C.rest (chain_of self.new) m) }
         ensures fewer { IfOk result (λ _.
-            C.most_asks (chain_of self.new) < C.most_asks (chain_of self.old)) }
+            C.bound.most_asks (chain_of self.new) < C.bound.most_asks (chain_of self.old)) }
         ensures pends { IfErr result (λ asked. IsFinal asked
-            ⊎ C.most_asks (chain_of self.new) < C.most_asks (chain_of self.old)) }
+            ⊎ C.bound.most_asks (chain_of self.new) < C.bound.most_asks (chain_of self.old)) }
         ensures given { C.IsGiven (chain_of self.old)
             → IfErr result (λ asked. asked ≢ Asked.Fault ChainFault.OutOfMemory) }
-        ensures lasting { C.IsGiven (chain_of self.old) → C.IsGiven (chain_of self.new) }
         ensures no_item { IfErr result (λ asked. ¬ IsItem asked) }
         ensures runs { IfOk result (λ _.
             (is_ended self.old ≡ false) × (is_ended self.new ≡ false)) }
@@ -98,14 +95,9 @@ impl<C: Cold> Upstream<C> {
 
     pub(crate) fn rewind(&mut self)
         requires { C.CanAsk (chain_of self.old) }
-        ensures callable { C.CanAsk (chain_of self.new) }
-        ensures reads { (m : C.Reading) →
-            C.Reads (chain_of self.old) m → C.Reads (chain_of self.new) m }
-        ensures whole { (m : C.Reading) →
-            C.whole (chain_of self.new) m ≡ C.whole (chain_of self.old) m }
+        ensures stays { StaysChain C.Cold (chain_of self.old) (chain_of self.new) }
         ensures rest { (m : C.Reading) →
             C.rest (chain_of self.new) m ≡ C.whole (chain_of self.old) m }
-        ensures lasting { C.IsGiven (chain_of self.old) → C.IsGiven (chain_of self.new) }
         ensures ended { is_ended self.new ≡ false }
     {
         self.ended = false;

@@ -17,8 +17,8 @@ module _ {T A : Type 0} where
   core_of hub = hub.core
 
   -- the number of the hub's emission, if it waited at the last put or poll
-  abbrev pub emission_of : CoreHub T A → Option ℕ
-  emission_of hub = hub.emission
+  abbrev pub hub_emission : CoreHub T A → Option ℕ
+  hub_emission hub = hub.emission
 
   -- the hub has an emission that waited at the last put or poll
   abbrev pub is_hub_waiting : CoreHub T A → Bool

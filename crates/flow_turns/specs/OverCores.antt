@@ -10,13 +10,13 @@ use Rattle.flow_law.specs.declared.states.EmittingFlow.{EmittingFlow}
 use Rattle.flow_law.specs.SharingFlows.{shared_reply, SharedDoes, state_reply, StateDoes, IsNotBusy, IsAtOnce, DocumentedTurn}
 use Rattle.flow_turns.specs.declared.core_hub.CoreHub.{CoreHub}
 use Rattle.flow_turns.specs.declared.state_hub.StateHub.{StateHub}
-use Rattle.flow_turns.specs.CoreHub.{CoreHubDoes, is_hub_waiting, emission_of, core_of}
+use Rattle.flow_turns.specs.CoreHub.{CoreHubDoes, is_hub_waiting, hub_emission, core_of}
 use Rattle.flow_turns.specs.StateHub.{StateHubDoes, never_waits, state_flow_of}
 
 module _ {T A : Type 0} where
   -- the hub's core stands for the flow, and its emission is the one that waits there
   abbrev pub StandsForEmitting : CoreHub T A → EmittingFlow T → Type 0
-  StandsForEmitting hub f = StandsFor (core_of hub) f.flow × (emission_of hub ≡ f.waiting)
+  StandsForEmitting hub f = StandsFor (core_of hub) f.flow × (hub_emission hub ≡ f.waiting)
 
 -- A turn over a core is a turn over the documented flow, in each state that the core stands for, and the core stands for the state after
 -- it. The turn is never busy.

@@ -130,12 +130,12 @@ abbrev pub no_flows : Data → Result (List NamedHead) ScriptFault
 no_flows d = or_fault (BadShape 0) (where_true (has_only (codes "kind" ∷ []) d) (Some []))
 
 -- a list of one flow without a name
-abbrev pub only : Head → List NamedHead
-only flow = record { name = None; flow = flow } ∷ []
+abbrev pub only_flow : Head → List NamedHead
+only_flow flow = record { name = None; flow = flow } ∷ []
 
 -- the only flow of a script of version 1, or none, by its kind
 abbrev pub only_named : List ℕ → Data → Result (List NamedHead) ScriptFault
-only_named kind d = if bytes_eq kind (codes "none") then no_flows d else result_map only (flow_named One kind d)
+only_named kind d = if bytes_eq kind (codes "none") then no_flows d else result_map only_flow (flow_named One kind d)
 
 -- the only flow of a script of version 1, or none
 abbrev pub only_in : Data → Result (List NamedHead) ScriptFault

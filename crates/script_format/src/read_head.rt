@@ -84,7 +84,7 @@ fn no_flows(alloc: Global, flow: &Value) -> Result<Vec<NamedFlow>, ScriptFault>
 
 /// Returns a list of one flow without a name.
 fn only(alloc: Global, flow: ScriptFlow) -> Result<Vec<NamedFlow>, ScriptFault>
-    ensures { Gives (Ok (heads.only (head_of_flow flow))) (flows_result result) }
+    ensures { Gives (Ok (heads.only_flow (head_of_flow flow))) (flows_result result) }
 {
     let mut flows = Vec::new(alloc);
     flows.push(NamedFlow { name: None, flow })?;

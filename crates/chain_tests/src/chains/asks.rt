@@ -1,5 +1,6 @@
 //! How often a chain is asked.
 ghost use Rattle.std.specs.Prelude.{⊤};
+ghost use Rattle.flow_operators.specs.Bound.{upstream_bound};
 
 use crate::chains::gives::{COLLECTIONS, begins_with};
 use crate::chains::inner::sum;
@@ -28,11 +29,7 @@ impl<'a, C: Cold> Cold for CountedAsks<'a, C> {
 
     ghost rest = { λ s m. C.rest s.chain m };
 
-    ghost most_asks = { λ s. C.most_asks s.chain };
-
-    ghost IsLimited = { C.IsLimited };
-
-    ghost limit = { C.limit };
+    ghost bound = { upstream_bound (λ s. s.chain) C.bound };
 
     ghost IsOver = { λ s. C.IsOver s.chain };
 

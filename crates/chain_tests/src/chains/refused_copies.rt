@@ -1,7 +1,7 @@
 //! Out of memory inside a chain: the chain ends with a fault, and the collection itself does not fail.
 
 use crate::compare::compare;
-use flow_cold::{ChainFault, Cold, Distinct, End, OfList, collect_all};
+use flow_cold::{Chain, ChainFault, Cold, End, OfList, collect_all};
 use flow_refusals::CopyLimited;
 use std::alloc::Global;
 use std::cell::Cell;
@@ -60,11 +60,12 @@ fn a_refused_copy_ends_a_list(rt: HostRuntime) {
     gives(&rt, rt.alloc(), &mut list, &[1, 2, 3], End::Completed);
 }
 
-/// `Distinct` copies each item that it keeps. The fourth copy is its second one.
+/// `distinct` copies each item that it keeps. The fourth copy is its second one.
 #[test]
 fn a_refused_copy_ends_a_chain(rt: HostRuntime) {
     let copies = Cell::new(4);
-    let mut distinct = Distinct::new(OfList::new(list_of(&rt, rt.alloc(), &copies, &[1, 2, 3])));
+    let list = OfList::new(list_of(&rt, rt.alloc(), &copies, &[1, 2, 3]));
+    let mut distinct = list.distinct();
     gives(&rt, rt.alloc(), &mut distinct, &[1], WANTED);
     gives(&rt, rt.alloc(), &mut distinct, &[1, 2, 3], End::Completed);
 }

@@ -6,6 +6,7 @@ ghost use Rattle.flow_cold.specs.Build.{AddsDepth, RefusesOp, RefusesDepth, Take
 ghost use Rattle.flow_cold.specs.Part.{part_depth, part_rest, part_whole};
 ghost use Rattle.flow_cold.specs.ScriptChain.{IsNodeOver, NodeAsksBehind, node_depth, node_rest, node_whole};
 ghost use Rattle.flow_cold.specs.Sources.{source_rest, source_whole};
+ghost use Rattle.flow_operators.specs.Bound.{unlimited};
 
 use crate::script_chain::ScriptChain;
 use crate::script_chain::drop_while::DroppingWhile;
@@ -173,11 +174,7 @@ impl Cold for ScriptChain {
 
     ghost rest = { λ s _. node_rest s.node };
 
-    ghost most_asks = { λ s. asks (node_rest s.node) };
-
-    ghost IsLimited = { ⊥ };
-
-    ghost limit = { 0 };
+    ghost bound = { unlimited (λ s. asks (node_rest s.node)) };
 
     ghost IsOver = { λ s. IsNodeOver s.node };
 

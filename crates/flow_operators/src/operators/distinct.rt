@@ -1,8 +1,8 @@
 //! `distinctUntilChanged`: the items that differ from the one before.
 ghost use Rattle.std.specs.Prelude.{◌≡◌, true, None};
-ghost use Rattle.flow_law.specs.Chain.{distinct_meaning, meaning_of};
 ghost use Rattle.flow_law.specs.OperatorRuns.{distinct_run, is_repeated};
 ghost use Rattle.flow_operators.specs.Behind.{Leaves, after_distinct};
+ghost use Rattle.flow_operators.specs.Bound.{upstream_bound};
 ghost use Rattle.flow_operators.specs.Upstreams.{chain_of, is_ended, left_of};
 
 use crate::cold::{Asked, Cold};
@@ -13,8 +13,8 @@ use flow_law::FlowValue;
 /// A chain without the items that are the same as the item before.
 #[derive(Drop)]
 pub struct Distinct<C: Cold> {
-    upstream: Upstream<C>,
-    last: Option<C::Item>,
+    pub(crate) upstream: Upstream<C>,
+    pub(crate) last: Option<C::Item>,
 }
 
 impl<C: Cold> Cold for Distinct<C> {
@@ -31,11 +31,7 @@ impl<C: Cold> Cold for Distinct<C> {
     ghost rest = { λ s m.
         distinct_run C.Item.is_same s.last (left_of (λ c. C.rest c m) s.upstream) };
 
-    ghost most_asks = { λ s. C.most_asks (chain_of s.upstream) };
-
-    ghost IsLimited = { C.IsLimited };
-
-    ghost limit = { C.limit };
+    ghost bound = { upstream_bound (λ s. chain_of s.upstream) C.bound };
 
     ghost IsOver = { λ s. is_ended s.upstream ≡ true };
 
@@ -74,28 +70,5 @@ fn is_last<T: FlowValue>(last: &Option<T>, item: &T) -> bool
     match last {
         Some(last) => last.same(item),
         None => false,
-    }
-}
-
-impl<C: Cold> Distinct<C> {
-    /// Drops repeated items of this chain. Items are compared by `FlowValue::same`.
-    pub fn new(upstream: C) -> Self
-        requires { C.CanAsk upstream }
-        ensures callable { ⟦<Distinct<C> as Cold>⟧.CanAsk result }
-        ensures reads { (m : C.Reading) →
-            C.Reads upstream m → ⟦<Distinct<C> as Cold>⟧.Reads result m }
-        ensures given { C.IsGiven upstream → C.Item.IsAlwaysCopied
-            → ⟦<Distinct<C> as Cold>⟧.IsGiven result }
-        ensures whole { (m : C.Reading) → ⟦<Distinct<C> as Cold>⟧.whole result m
-            ≡ distinct_run C.Item.is_same None (C.whole upstream m) }
-        ensures meaning { (m : C.Reading) → meaning_of (⟦<Distinct<C> as Cold>⟧.whole result m)
-            ≡ distinct_meaning C.Item.is_same (meaning_of (C.whole upstream m)) }
-        ensures rest { (m : C.Reading) → ⟦<Distinct<C> as Cold>⟧.rest result m
-            ≡ distinct_run C.Item.is_same None (C.rest upstream m) }
-    {
-        Distinct {
-            upstream: Upstream::new(upstream),
-            last: None,
-        }
     }
 }

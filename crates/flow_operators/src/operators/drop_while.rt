@@ -1,9 +1,9 @@
 //! `dropWhile`: the items from the first one that fails a test.
 ghost use Rattle.std.specs.Prelude.{◌≡◌, true, Bool};
 ghost use Rattle.std.specs.Fn.{FnReturnsAt};
-ghost use Rattle.flow_law.specs.Chain.{drop_while_meaning, meaning_of};
 ghost use Rattle.flow_law.specs.OperatorRuns.{drop_while_run};
 ghost use Rattle.flow_operators.specs.Behind.{Leaves, after_drop_while};
+ghost use Rattle.flow_operators.specs.Bound.{upstream_bound};
 ghost use Rattle.flow_operators.specs.Closures.{Decides};
 ghost use Rattle.flow_operators.specs.Kept.{drop_while_rest};
 ghost use Rattle.flow_operators.specs.Upstreams.{chain_of, is_ended, left_of};
@@ -15,9 +15,9 @@ use crate::upstream::Upstream;
 /// A chain without its first items that pass a test. Items after the first one that fails are not tested.
 #[derive(Drop)]
 pub struct DropWhile<C, F> {
-    upstream: Upstream<C>,
-    test: F,
-    dropping: bool,
+    pub(crate) upstream: Upstream<C>,
+    pub(crate) test: F,
+    pub(crate) dropping: bool,
 }
 
 impl<C: Cold, F: Fn(&C::Item) -> bool> Cold for DropWhile<C, F> {
@@ -34,11 +34,7 @@ impl<C: Cold, F: Fn(&C::Item) -> bool> Cold for DropWhile<C, F> {
 
     ghost rest = { λ s m. drop_while_rest m.1 s.dropping (left_of (λ c. C.rest c m.0) s.upstream) };
 
-    ghost most_asks = { λ s. C.most_asks (chain_of s.upstream) };
-
-    ghost IsLimited = { C.IsLimited };
-
-    ghost limit = { C.limit };
+    ghost bound = { upstream_bound (λ s. chain_of s.upstream) C.bound };
 
     ghost IsOver = { λ s. is_ended s.upstream ≡ true };
 
@@ -70,33 +66,4 @@ impl<C: Cold, F: Fn(&C::Item) -> bool> Cold for DropWhile<C, F> {
     }
 
     ghost limited = { λ l s. C.limited l (chain_of s.upstream) };
-}
-
-impl<C: Cold, F: Fn(&C::Item) -> bool> DropWhile<C, F> {
-    /// Drops the first items of this chain while they pass the test.
-    pub fn new(upstream: C, test: F) -> Self
-        requires upstream { C.CanAsk upstream }
-        requires callable { F.IsAlwaysCallable test }
-        ensures callable { ⟦<DropWhile<C, F> as Cold>⟧.CanAsk result }
-        ensures reads { (m : C.Reading) (p : C.Item → Bool) → C.Reads upstream m
-            → Decides (λ x b. FnReturnsAt F.Fn test x b) p →
-            ⟦<DropWhile<C, F> as Cold>⟧.Reads result (m, p) }
-        ensures given { C.IsGiven upstream
-            → ⟦<DropWhile<C, F> as Cold>⟧.IsGiven result }
-        ensures whole { (m : C.Reading) (p : C.Item → Bool)
-            → ⟦<DropWhile<C, F> as Cold>⟧.whole result (m, p) ≡
-            drop_while_run p (C.whole upstream m) }
-        ensures meaning { (m : C.Reading) (p : C.Item → Bool)
-            → meaning_of (⟦<DropWhile<C, F> as Cold>⟧.whole result (m, p))
-            ≡ drop_while_meaning p (meaning_of (C.whole upstream m)) }
-        ensures rest { (m : C.Reading) (p : C.Item → Bool)
-            → ⟦<DropWhile<C, F> as Cold>⟧.rest result (m, p) ≡
-            drop_while_run p (C.rest upstream m) }
-    {
-        DropWhile {
-            upstream: Upstream::new(upstream),
-            test,
-            dropping: true,
-        }
-    }
 }

@@ -1,6 +1,5 @@
 //! `flatMapConcat`: inner chains, one after the other.
 ghost use Rattle.std.specs.Prelude.{◌≡◌, ◌≢◌, ◌⊎◌, ◌<◌, ◌+◌, ◌*◌, true, None, Result, IfOk, IfSome};
-ghost use Rattle.flow_law.specs.Chain.{flat_map_meaning, meaning_of};
 ghost use Rattle.flow_law.specs.ChainRun.{ChainRun};
 ghost use Rattle.flow_law.specs.OperatorRuns.{flat_map_run, followed};
 ghost use Rattle.flow_operators.specs.Behind.{Leaves, after_flat_map, unless_completed};
@@ -20,7 +19,7 @@ use std::snapshot::Snapshot;
 /// An inner chain, and the item that the closure made it of. The item is moved into the closure, so only contracts see
 /// it here.
 #[derive(Drop)]
-struct InnerChain<A, D> {
+pub(crate) struct InnerChain<A, D> {
     item: Snapshot<A>,
     chain: D,
 }
@@ -30,9 +29,9 @@ struct InnerChain<A, D> {
 /// An inner chain is started from its beginning before it is asked. Its fault ends the whole chain.
 #[derive(Drop)]
 pub struct FlatMapConcat<C: Cold, D, F> {
-    upstream: Upstream<C>,
-    inner: Option<InnerChain<C::Item, D>>,
-    closure: F,
+    pub(crate) upstream: Upstream<C>,
+    pub(crate) inner: Option<InnerChain<C::Item, D>>,
+    pub(crate) closure: F,
 }
 
 impl<C, D, F> Cold for FlatMapConcat<C, D, F>
@@ -50,7 +49,7 @@ where
 
     ghost CanAsk = { λ s. C.CanAsk (chain_of s.upstream)
         × IfSome s.inner (λ inner. D.CanAsk (inner_chain inner))
-        × F.IsAlwaysCallable s.closure × OpensOnly D.CanAsk (F.post s.closure) × D.IsLimited };
+        × F.IsAlwaysCallable s.closure × OpensOnly D.CanAsk (F.post s.closure) × D.bound.IsLimited };
 
     ghost Reads = { λ s m.
         (C.Reads (chain_of s.upstream) m.0.0 × IfSome s.inner (ReadsByItem D.Reads m.0.1))
@@ -62,12 +61,12 @@ where
         (followed (inner_left (rest_by_item D.rest m.0.1) s.inner)
         (flat_map_run m.1 (C.rest (chain_of s.upstream) m.0.0))) };
 
-    ghost most_asks = { λ s. C.most_asks (chain_of s.upstream) * (D.limit + 1)
-        + most_inner (λ inner. D.most_asks (inner_chain inner)) s.inner };
-
-    ghost IsLimited = { C.IsLimited × D.IsLimited };
-
-    ghost limit = { C.limit * (D.limit + 1) + D.limit };
+    ghost bound = { record {
+      most_asks = λ s. C.bound.most_asks (chain_of s.upstream) * (D.bound.limit + 1)
+          + most_inner (λ inner. D.bound.most_asks (inner_chain inner)) s.inner;
+      IsLimited = C.bound.IsLimited × D.bound.IsLimited;
+      limit = C.bound.limit * (D.bound.limit + 1) + D.bound.limit;
+    } };
 
     ghost IsOver = { λ s. is_ended s.upstream ≡ true };
 
@@ -122,8 +121,8 @@ fn ask_inner<A, D: Cold>(inner: &mut Option<InnerChain<A, D>>) -> Asked<D::Item>
         → AskGives (inner_left (rest_by_item D.rest n) inner.old) result
         (inner_left (rest_by_item D.rest n) inner.new) }
     ensures fewer { IsFinal result ⊎
-        most_inner (λ opened. D.most_asks (inner_chain opened)) inner.new
-        < most_inner (λ opened. D.most_asks (inner_chain opened)) inner.old }
+        most_inner (λ opened. D.bound.most_asks (inner_chain opened)) inner.new
+        < most_inner (λ opened. D.bound.most_asks (inner_chain opened)) inner.old }
     ensures closed { IsFinal result → inner.new ≡ None }
     ensures given { IfSome inner.old (λ opened. D.IsGiven (inner_chain opened))
         → result ≢ Asked.Fault ChainFault.OutOfMemory }
@@ -172,50 +171,5 @@ where
             })
         }
         Err(fault) => Err(fault),
-    }
-}
-
-impl<C, D, F> FlatMapConcat<C, D, F>
-where
-    C: Cold,
-    D: Cold,
-    F: Fn(C::Item) -> Result<D, ChainFault>,
-{
-    ghost use Rattle.flow_law.specs.declared.chain.ChainFault.{ChainFault};
-
-    /// Flattens the chains that the closure makes of this chain's items. A fault of the closure ends the chain, too.
-    ///
-    /// The inner chains have a reading for each item, since the closures in them may capture it.
-    pub fn new(upstream: C, closure: F) -> Self
-        requires upstream { C.CanAsk upstream }
-        requires callable { F.IsAlwaysCallable closure }
-        requires opens { OpensOnly D.CanAsk (F.post closure) }
-        requires limited { D.IsLimited }
-        ensures callable { ⟦<FlatMapConcat<C, D, F> as Cold>⟧.CanAsk result }
-        ensures reads { (m : C.Reading) (n : C.Item → D.Reading)
-            (f : C.Item → Result (ChainRun D.Item) ChainFault)
-            → C.Reads upstream m → Opens D.Reads D.whole (F.post closure) n f
-            → ⟦<FlatMapConcat<C, D, F> as Cold>⟧.Reads result ((m, n), f) }
-        ensures given { C.IsGiven upstream
-            → NeverRefuses (F.post closure) → OpensOnly D.IsGiven (F.post closure)
-            → ⟦<FlatMapConcat<C, D, F> as Cold>⟧.IsGiven result }
-        ensures whole { (m : C.Reading) (n : C.Item → D.Reading)
-            (f : C.Item → Result (ChainRun D.Item) ChainFault)
-            → ⟦<FlatMapConcat<C, D, F> as Cold>⟧.whole result ((m, n), f) ≡
-            flat_map_run f (C.whole upstream m) }
-        ensures meaning { (m : C.Reading) (n : C.Item → D.Reading)
-            (f : C.Item → Result (ChainRun D.Item) ChainFault)
-            → meaning_of (⟦<FlatMapConcat<C, D, F> as Cold>⟧.whole result ((m, n), f))
-            ≡ flat_map_meaning f (meaning_of (C.whole upstream m)) }
-        ensures rest { (m : C.Reading) (n : C.Item → D.Reading)
-            (f : C.Item → Result (ChainRun D.Item) ChainFault)
-            → ⟦<FlatMapConcat<C, D, F> as Cold>⟧.rest result ((m, n), f) ≡
-            flat_map_run f (C.rest upstream m) }
-    {
-        FlatMapConcat {
-            upstream: Upstream::new(upstream),
-            inner: None,
-            closure,
-        }
     }
 }

@@ -1,8 +1,8 @@
 //! `map`: what a closure makes of each item.
 ghost use Rattle.std.specs.Prelude.{◌≡◌, true, Result};
 ghost use Rattle.flow_law.specs.declared.chain.ChainFault.{ChainFault};
-ghost use Rattle.flow_law.specs.Chain.{map_meaning, meaning_of};
 ghost use Rattle.flow_law.specs.OperatorRuns.{map_run};
+ghost use Rattle.flow_operators.specs.Bound.{upstream_bound};
 ghost use Rattle.flow_operators.specs.Closures.{Computes, NeverRefuses};
 ghost use Rattle.flow_operators.specs.Upstreams.{AsksUpstream, chain_of, is_ended, left_of};
 
@@ -13,8 +13,8 @@ use flow_law::{ChainFault, FlowValue};
 /// A chain of what a closure makes of each item.
 #[derive(Drop)]
 pub struct Map<C, F> {
-    upstream: Upstream<C>,
-    closure: F,
+    pub(crate) upstream: Upstream<C>,
+    pub(crate) closure: F,
 }
 
 impl<C, U, F> Cold for Map<C, F>
@@ -35,11 +35,7 @@ where
 
     ghost rest = { λ s m. map_run m.1 (left_of (λ c. C.rest c m.0) s.upstream) };
 
-    ghost most_asks = { λ s. C.most_asks (chain_of s.upstream) };
-
-    ghost IsLimited = { C.IsLimited };
-
-    ghost limit = { C.limit };
+    ghost bound = { upstream_bound (λ s. chain_of s.upstream) C.bound };
 
     ghost IsOver = { λ s. is_ended s.upstream ≡ true };
 
@@ -63,34 +59,4 @@ where
     }
 
     ghost limited = { λ l s. C.limited l (chain_of s.upstream) };
-}
-
-impl<C, U, F> Map<C, F>
-where
-    C: Cold,
-    U: FlowValue,
-    F: Fn(C::Item) -> Result<U, ChainFault>,
-{
-    /// Maps the items of this chain. A fault of the closure ends the chain, and that call emits no item.
-    pub fn new(upstream: C, closure: F) -> Self
-        requires upstream { C.CanAsk upstream }
-        requires callable { F.IsAlwaysCallable closure }
-        ensures callable { ⟦<Map<C, F> as Cold>⟧.CanAsk result }
-        ensures reads { (m : C.Reading) (f : C.Item → Result U ChainFault) → C.Reads upstream m
-            → Computes (F.post closure) f → ⟦<Map<C, F> as Cold>⟧.Reads result (m, f) }
-        ensures given { C.IsGiven upstream → NeverRefuses (F.post closure)
-            → ⟦<Map<C, F> as Cold>⟧.IsGiven result }
-        ensures whole { (m : C.Reading) (f : C.Item → Result U ChainFault)
-            → ⟦<Map<C, F> as Cold>⟧.whole result (m, f) ≡ map_run f (C.whole upstream m) }
-        ensures meaning { (m : C.Reading) (f : C.Item → Result U ChainFault)
-            → meaning_of (⟦<Map<C, F> as Cold>⟧.whole result (m, f)) ≡
-            map_meaning f (meaning_of (C.whole upstream m)) }
-        ensures rest { (m : C.Reading) (f : C.Item → Result U ChainFault)
-            → ⟦<Map<C, F> as Cold>⟧.rest result (m, f) ≡ map_run f (C.rest upstream m) }
-    {
-        Map {
-            upstream: Upstream::new(upstream),
-            closure,
-        }
-    }
 }

@@ -4,6 +4,7 @@ ghost use Rattle.flow_law.specs.declared.chain.ChainFault.TheVariants.{OutOfMemo
 ghost use Rattle.flow_operators.specs.Asking.{IsFinal};
 ghost use Rattle.flow_operators.specs.Pairs.{AsksSides, PairGives};
 ghost use Rattle.flow_operators.specs.Pairs.{is_zip_over, left_chain, most_pairs, right_chain};
+ghost use Rattle.flow_operators.specs.SameChain.{StaysChain};
 ghost use Rattle.flow_operators.specs.Upstreams.{WithAnswer};
 
 use crate::cold::{Asked, Cold};
@@ -22,31 +23,20 @@ impl<L: Cold, R: Cold> Pairs<L, R, L::Item> {
     pub(crate) fn next<U>(&mut self) -> Result<(L::Item, R::Item), Asked<U>>
         requires left { L.CanAsk (left_chain self.old) }
         requires right { R.CanAsk (right_chain self.old) }
-        ensures left { L.CanAsk (left_chain self.new) }
-        ensures right { R.CanAsk (right_chain self.new) }
-        ensures left_reads { (m : L.Reading) →
-            L.Reads (left_chain self.old) m → L.Reads (left_chain self.new) m }
-        ensures right_reads { (n : R.Reading) →
-            R.Reads (right_chain self.old) n → R.Reads (right_chain self.new) n }
-        ensures left_whole { (m : L.Reading) →
-            L.whole (left_chain self.new) m ≡ L.whole (left_chain self.old) m }
-        ensures right_whole { (n : R.Reading) →
-            R.whole (right_chain self.new) n ≡ R.whole (right_chain self.old) n }
+        ensures left_stays { StaysChain L.Cold (left_chain self.old) (left_chain self.new) }
+        ensures right_stays { StaysChain R.Cold (right_chain self.old) (right_chain self.new) }
         ensures gives { (m : L.Reading) (n : R.Reading) →
             L.Reads (left_chain self.old) m → R.Reads (right_chain self.old) n
             → PairGives (λ c. L.rest c m) (λ c. R.rest c n) self.old result self.new }
         ensures runs { IfOk result (λ _. is_zip_over self.new ≡ false) }
-        ensures fewer { IfOk result (λ _. most_pairs L.most_asks R.most_asks self.new
-            < most_pairs L.most_asks R.most_asks self.old) }
+        ensures fewer { IfOk result (λ _. most_pairs L.bound.most_asks R.bound.most_asks self.new
+            < most_pairs L.bound.most_asks R.bound.most_asks self.old) }
         ensures pends { IfErr result (λ asked.
-            IsFinal asked ⊎ most_pairs L.most_asks R.most_asks self.new
-            < most_pairs L.most_asks R.most_asks self.old) }
+            IsFinal asked ⊎ most_pairs L.bound.most_asks R.bound.most_asks self.new
+            < most_pairs L.bound.most_asks R.bound.most_asks self.old) }
         ensures over { IfErr result (λ asked. IsFinal asked → is_zip_over self.new ≡ true) }
         ensures given { L.IsGiven (left_chain self.old) → R.IsGiven (right_chain self.old)
             → IfErr result (λ asked. asked ≢ Asked.Fault OutOfMemory) }
-        ensures left_lasting { L.IsGiven (left_chain self.old) → L.IsGiven (left_chain self.new) }
-        ensures right_lasting { R.IsGiven (right_chain self.old)
-            → R.IsGiven (right_chain self.new) }
         ensures behind { (¬ (is_zip_over self.old ≡ true)) → (m : L.Reading) (n : R.Reading)
             → L.Reads (left_chain self.old) m → R.Reads (right_chain self.old) n
             → WithAnswer result (λ asked.

@@ -5,6 +5,7 @@ ghost use Rattle.flow_law.specs.declared.chain.ChainFault.TheVariants.{OutOfMemo
 ghost use Rattle.flow_operators.specs.Asking.{IsFinal};
 ghost use Rattle.flow_operators.specs.Closures.{Decides};
 ghost use Rattle.flow_operators.specs.Passing.{from_passing};
+ghost use Rattle.flow_operators.specs.SameChain.{StaysChain};
 ghost use Rattle.flow_operators.specs.Terminal.{sought};
 ghost use Rattle.flow_operators.specs.Upstreams.{NextGives, chain_of, is_ended, left_of};
 
@@ -29,11 +30,7 @@ pub(crate) fn next_where<C: Cold, U, F: Fn(&C::Item) -> bool>(
 ) -> Result<C::Item, Asked<U>>
     requires upstream { C.CanAsk (chain_of upstream.old) }
     requires callable { F.IsAlwaysCallable test.now }
-    ensures callable { C.CanAsk (chain_of upstream.new) }
-    ensures reads { (m : C.Reading) →
-        C.Reads (chain_of upstream.old) m → C.Reads (chain_of upstream.new) m }
-    ensures whole { (m : C.Reading) →
-        C.whole (chain_of upstream.new) m ≡ C.whole (chain_of upstream.old) m }
+    ensures stays { StaysChain C.Cold (chain_of upstream.old) (chain_of upstream.new) }
     ensures gives { (m : C.Reading) (p : C.Item → Bool) → C.Reads (chain_of upstream.old) m
         → Decides (λ x b. FnReturnsAt F.Fn test.now x b) p
         → NextGives (from_passing (sought wanted p) (left_of (λ c. C.rest c m) upstream.old)) result
@@ -43,13 +40,12 @@ pub(crate) fn next_where<C: Cold, U, F: Fn(&C::Item) -> bool>(
         → NextGives (from_passing (sought wanted p) (C.rest (chain_of upstream.old) m)) result
         (C.rest (chain_of upstream.new) m) }
     ensures fewer { IfOk result (λ _.
-        C.most_asks (chain_of upstream.new) < C.most_asks (chain_of upstream.old)) }
+        C.bound.most_asks (chain_of upstream.new) < C.bound.most_asks (chain_of upstream.old)) }
     ensures pends { IfErr result (λ asked. IsFinal asked
-        ⊎ C.most_asks (chain_of upstream.new) < C.most_asks (chain_of upstream.old)) }
+        ⊎ C.bound.most_asks (chain_of upstream.new) < C.bound.most_asks (chain_of upstream.old)) }
     ensures over { IfErr result (λ asked. IsFinal asked → is_ended upstream.new ≡ true) }
     ensures given { C.IsGiven (chain_of upstream.old)
         → IfErr result (λ asked. asked ≢ Asked.Fault OutOfMemory) }
-    ensures lasting { C.IsGiven (chain_of upstream.old) → C.IsGiven (chain_of upstream.new) }
     ensures end { is_ended upstream.old ≡ true →
         (result ≡ Err Asked.End) × upstream.new ≡ upstream.old }
 {

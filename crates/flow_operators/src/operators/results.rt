@@ -3,6 +3,7 @@ ghost use Rattle.std.specs.Prelude.{◌≡◌, ◌≢◌, ◌⊎◌, ◌<◌, tr
 ghost use Rattle.flow_operators.specs.Asking.{IsFinal};
 ghost use Rattle.flow_operators.specs.Results.{AsksScanned, KeepsResult, ResultGives};
 ghost use Rattle.flow_operators.specs.Results.{initial_of, is_scan_over, last_result, most_results, scanned};
+ghost use Rattle.flow_operators.specs.SameChain.{StaysChain};
 ghost use Rattle.flow_operators.specs.Upstreams.{WithAnswer};
 
 use crate::cold::{Asked, Cold};
@@ -35,23 +36,18 @@ impl<C: Cold, U: FlowValue> Results<C, U> {
     /// value.
     pub(crate) fn next(&mut self) -> Result<(U, C::Item), Asked<U>>
         requires { C.CanAsk (scanned self.old) }
-        ensures callable { C.CanAsk (scanned self.new) }
-        ensures reads { (m : C.Reading) →
-            C.Reads (scanned self.old) m → C.Reads (scanned self.new) m }
-        ensures whole { (m : C.Reading) →
-            C.whole (scanned self.new) m ≡ C.whole (scanned self.old) m }
+        ensures stays { StaysChain C.Cold (scanned self.old) (scanned self.new) }
         ensures initial { initial_of self.new ≡ initial_of self.old }
         ensures gives { (m : C.Reading) → C.Reads (scanned self.old) m
             → ResultGives (λ c. C.rest c m) self.old result self.new }
         ensures runs { IfOk result (λ _. is_scan_over self.new ≡ false) }
         ensures fewer { IfOk result (λ _.
-            C.most_asks (scanned self.new) < most_results C.most_asks self.old) }
+            C.bound.most_asks (scanned self.new) < most_results C.bound.most_asks self.old) }
         ensures pends { IfErr result (λ asked. IsFinal asked
-            ⊎ most_results C.most_asks self.new < most_results C.most_asks self.old) }
+            ⊎ most_results C.bound.most_asks self.new < most_results C.bound.most_asks self.old) }
         ensures over { IfErr result (λ asked. IsFinal asked → is_scan_over self.new ≡ true) }
         ensures given { C.IsGiven (scanned self.old) → U.IsAlwaysCopied
             → IfErr result (λ asked. asked ≢ Asked.Fault ChainFault.OutOfMemory) }
-        ensures lasting { C.IsGiven (scanned self.old) → C.IsGiven (scanned self.new) }
         ensures behind { (¬ (is_scan_over self.old ≡ true)) →
             (m : C.Reading) → C.Reads (scanned self.old) m
             → WithAnswer result (λ asked. AsksScanned (λ c. C.rest c m) self.old asked self.new) }
@@ -99,12 +95,7 @@ impl<C: Cold, U: FlowValue> Results<C, U> {
 
     pub(crate) fn rewind(&mut self)
         requires { C.CanAsk (scanned self.old) }
-        ensures callable { C.CanAsk (scanned self.new) }
-        ensures lasting { C.IsGiven (scanned self.old) → C.IsGiven (scanned self.new) }
-        ensures reads { (m : C.Reading)
-            → C.Reads (scanned self.old) m → C.Reads (scanned self.new) m }
-        ensures whole { (m : C.Reading)
-            → C.whole (scanned self.new) m ≡ C.whole (scanned self.old) m }
+        ensures stays { StaysChain C.Cold (scanned self.old) (scanned self.new) }
         ensures rest { (m : C.Reading)
             → C.rest (scanned self.new) m ≡ C.whole (scanned self.old) m }
         ensures initial { initial_of self.new ≡ initial_of self.old }

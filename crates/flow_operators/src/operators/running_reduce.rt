@@ -1,8 +1,8 @@
 //! `runningReduce`: the first item, then the results so far.
 ghost use Rattle.std.specs.Prelude.{◌≡◌, true, None, Result};
 ghost use Rattle.flow_law.specs.declared.chain.ChainFault.{ChainFault};
-ghost use Rattle.flow_law.specs.Chain.{running_reduce_meaning, meaning_of};
 ghost use Rattle.flow_law.specs.OperatorRuns.{running_reduce_run};
+ghost use Rattle.flow_operators.specs.Bound.{upstream_bound};
 ghost use Rattle.flow_operators.specs.Closures.{ComputesPairs, NeverRefusesPairs};
 ghost use Rattle.flow_operators.specs.Upstreams.{AsksUpstream, chain_of, is_ended, left_of};
 
@@ -15,9 +15,9 @@ use flow_law::ChainFault;
 /// if there is no item.
 #[derive(Drop)]
 pub struct RunningReduce<C: Cold, F> {
-    upstream: Upstream<C>,
-    closure: F,
-    last: Option<C::Item>,
+    pub(crate) upstream: Upstream<C>,
+    pub(crate) closure: F,
+    pub(crate) last: Option<C::Item>,
 }
 
 impl<C, F> Cold for RunningReduce<C, F>
@@ -38,11 +38,7 @@ where
 
     ghost rest = { λ s m. running_reduce_run m.1 s.last (left_of (λ c. C.rest c m.0) s.upstream) };
 
-    ghost most_asks = { λ s. C.most_asks (chain_of s.upstream) };
-
-    ghost IsLimited = { C.IsLimited };
-
-    ghost limit = { C.limit };
+    ghost bound = { upstream_bound (λ s. chain_of s.upstream) C.bound };
 
     ghost IsOver = { λ s. is_ended s.upstream ≡ true };
 
@@ -72,38 +68,4 @@ where
     }
 
     ghost limited = { λ l s. C.limited l (chain_of s.upstream) };
-}
-
-impl<C, F> RunningReduce<C, F>
-where
-    C: Cold,
-    F: Fn(C::Item, C::Item) -> Result<C::Item, ChainFault>,
-{
-    /// Reduces the items of this chain. A fault of the closure ends the chain.
-    pub fn new(upstream: C, closure: F) -> Self
-        requires upstream { C.CanAsk upstream }
-        requires callable { F.IsAlwaysCallable closure }
-        ensures callable { ⟦<RunningReduce<C, F> as Cold>⟧.CanAsk result }
-        ensures reads { (m : C.Reading) (f : C.Item × C.Item → Result C.Item ChainFault) →
-            C.Reads upstream m
-            → ComputesPairs (F.post closure) f →
-            ⟦<RunningReduce<C, F> as Cold>⟧.Reads result (m, f) }
-        ensures given { C.IsGiven upstream → NeverRefusesPairs (F.post closure) → C.Item.IsAlwaysCopied
-            → ⟦<RunningReduce<C, F> as Cold>⟧.IsGiven result }
-        ensures whole { (m : C.Reading) (f : C.Item × C.Item → Result C.Item ChainFault)
-            → ⟦<RunningReduce<C, F> as Cold>⟧.whole result (m, f) ≡
-            running_reduce_run f None (C.whole upstream m) }
-        ensures meaning { (m : C.Reading) (f : C.Item × C.Item → Result C.Item ChainFault)
-            → meaning_of (⟦<RunningReduce<C, F> as Cold>⟧.whole result (m, f))
-            ≡ running_reduce_meaning f (meaning_of (C.whole upstream m)) }
-        ensures rest { (m : C.Reading) (f : C.Item × C.Item → Result C.Item ChainFault)
-            → ⟦<RunningReduce<C, F> as Cold>⟧.rest result (m, f) ≡
-            running_reduce_run f None (C.rest upstream m) }
-    {
-        RunningReduce {
-            upstream: Upstream::new(upstream),
-            closure,
-            last: None,
-        }
-    }
 }

@@ -2,7 +2,6 @@
 ghost use Rattle.std.specs.Prelude.{◌≡◌, ◌+◌, true, Result};
 ghost use Rattle.flow_law.specs.declared.chain.ChainFault.{ChainFault};
 ghost use Rattle.flow_law.specs.ChainRun.{gives};
-ghost use Rattle.flow_law.specs.Chain.{scan_meaning, meaning_of};
 ghost use Rattle.flow_law.specs.OperatorRuns.{scan_run};
 ghost use Rattle.flow_operators.specs.Closures.{ComputesPairs, NeverRefusesPairs};
 ghost use Rattle.flow_operators.specs.Results.{AsksScanned, initial_of, is_scan_over, most_results, results_rest, scanned};
@@ -16,8 +15,8 @@ use flow_law::{ChainFault, FlowValue};
 /// A chain of an initial value, then of what a closure makes of the last result and each item.
 #[derive(Drop)]
 pub struct Scan<C, U, F> {
-    results: Results<C, U>,
-    closure: F,
+    pub(crate) results: Results<C, U>,
+    pub(crate) closure: F,
 }
 
 impl<C, U, F> Cold for Scan<C, U, F>
@@ -39,11 +38,11 @@ where
 
     ghost rest = { λ s m. results_rest (λ c. C.rest c m.0) m.1 s.results };
 
-    ghost most_asks = { λ s. most_results C.most_asks s.results };
-
-    ghost IsLimited = { C.IsLimited };
-
-    ghost limit = { C.limit + 1 };
+    ghost bound = { record {
+      most_asks = λ s. most_results C.bound.most_asks s.results;
+      IsLimited = C.bound.IsLimited;
+      limit = C.bound.limit + 1;
+    } };
 
     ghost IsOver = { λ s. is_scan_over s.results ≡ true };
 
@@ -68,36 +67,4 @@ where
     }
 
     ghost limited = { λ l s. Prim.grind (arith, common_steps, C.limited l (scanned s.results)) };
-}
-
-impl<C, U, F> Scan<C, U, F>
-where
-    C: Cold,
-    U: FlowValue,
-    F: Fn(U, C::Item) -> Result<U, ChainFault>,
-{
-    /// Emits `initial` without asking the upstream, then the results. A fault of the closure ends the chain.
-    pub fn new(upstream: C, initial: U, closure: F) -> Self
-        requires upstream { C.CanAsk upstream }
-        requires callable { F.IsAlwaysCallable closure }
-        ensures callable { ⟦<Scan<C, U, F> as Cold>⟧.CanAsk result }
-        ensures reads { (m : C.Reading) (f : U × C.Item → Result U ChainFault) → C.Reads upstream m
-            → ComputesPairs (F.post closure) f → ⟦<Scan<C, U, F> as Cold>⟧.Reads result (m, f) }
-        ensures given { C.IsGiven upstream → NeverRefusesPairs (F.post closure) → U.IsAlwaysCopied
-            → ⟦<Scan<C, U, F> as Cold>⟧.IsGiven result }
-        ensures whole { (m : C.Reading) (f : U × C.Item → Result U ChainFault)
-            → ⟦<Scan<C, U, F> as Cold>⟧.whole result (m, f) ≡
-            gives initial (scan_run f initial (C.whole upstream m)) }
-        ensures meaning { (m : C.Reading) (f : U × C.Item → Result U ChainFault)
-            → meaning_of (⟦<Scan<C, U, F> as Cold>⟧.whole result (m, f))
-            ≡ scan_meaning f initial (meaning_of (C.whole upstream m)) }
-        ensures rest { (m : C.Reading) (f : U × C.Item → Result U ChainFault)
-            → ⟦<Scan<C, U, F> as Cold>⟧.rest result (m, f) ≡
-            gives initial (scan_run f initial (C.rest upstream m)) }
-    {
-        Scan {
-            results: Results::new(upstream, initial),
-            closure,
-        }
-    }
 }

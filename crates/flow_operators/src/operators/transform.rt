@@ -1,6 +1,5 @@
 //! `transform`: any number of items for each item.
 ghost use Rattle.std.specs.Prelude.{◌≡◌, ◌≢◌, ◌∷◌, ◌+◌, ◌*◌, ◌^◌, true, None, [], List, Result, MatchOption, length};
-ghost use Rattle.flow_law.specs.Chain.{transform_meaning, meaning_of};
 ghost use Rattle.flow_law.specs.OperatorRuns.{prepended, transform_run};
 ghost use Rattle.flow_operators.specs.Behind.{Leaves, after_transform, unless_empty};
 ghost use Rattle.flow_operators.specs.Kept.{unless_ended, images_left};
@@ -16,9 +15,9 @@ use flow_law::{ChainFault, FlowValue};
 /// A chain of the items of the lists that a closure makes of each item.
 #[derive(Drop)]
 pub struct Transform<C, U: FlowValue, F> {
-    upstream: Upstream<C>,
-    images: Option<Vec<U>>,
-    closure: F,
+    pub(crate) upstream: Upstream<C>,
+    pub(crate) images: Option<Vec<U>>,
+    pub(crate) closure: F,
 }
 
 impl<C, U, F> Cold for Transform<C, U, F>
@@ -45,12 +44,12 @@ where
         (transform_run m.1 (C.rest (chain_of s.upstream) m.0))) };
 
     // A list has fewer than 2 ^ 64 items.
-    ghost most_asks = { λ s. C.most_asks (chain_of s.upstream) * 2 ^ 64
-        + length (images_left (λ v. v.items) s.images) };
-
-    ghost IsLimited = { C.IsLimited };
-
-    ghost limit = { C.limit * 2 ^ 64 + 2 ^ 64 };
+    ghost bound = { record {
+      most_asks = λ s. C.bound.most_asks (chain_of s.upstream) * 2 ^ 64
+          + length (images_left (λ v. v.items) s.images);
+      IsLimited = C.bound.IsLimited;
+      limit = C.bound.limit * 2 ^ 64 + 2 ^ 64;
+    } };
 
     ghost IsOver = { λ s. is_ended s.upstream ≡ true };
 
@@ -121,41 +120,4 @@ where
         → FollowsBy (λ v. v.items) (f item) result }
 {
     closure(item)
-}
-
-impl<C, U, F> Transform<C, U, F>
-where
-    C: Cold,
-    U: FlowValue,
-    F: Fn(C::Item) -> Result<Vec<U>, ChainFault>,
-{
-    ghost use Rattle.flow_law.specs.declared.chain.ChainFault.{ChainFault};
-
-    /// Transforms the items of this chain. A fault of the closure ends the chain, and that call emits no item.
-    pub fn new(upstream: C, closure: F) -> Self
-        requires upstream { C.CanAsk upstream }
-        requires callable { F.IsAlwaysCallable closure }
-        ensures callable { ⟦<Transform<C, U, F> as Cold>⟧.CanAsk result }
-        ensures reads { (m : C.Reading) (f : C.Item → Result (List U) ChainFault) →
-            C.Reads upstream m
-            → ComputesBy (λ v. v.items) (F.post closure) f →
-            ⟦<Transform<C, U, F> as Cold>⟧.Reads result (m, f) }
-        ensures given { C.IsGiven upstream → NeverRefuses (F.post closure)
-            → ⟦<Transform<C, U, F> as Cold>⟧.IsGiven result }
-        ensures whole { (m : C.Reading) (f : C.Item → Result (List U) ChainFault)
-            → ⟦<Transform<C, U, F> as Cold>⟧.whole result (m, f) ≡
-            transform_run f (C.whole upstream m) }
-        ensures meaning { (m : C.Reading) (f : C.Item → Result (List U) ChainFault)
-            → meaning_of (⟦<Transform<C, U, F> as Cold>⟧.whole result (m, f))
-            ≡ transform_meaning f (meaning_of (C.whole upstream m)) }
-        ensures rest { (m : C.Reading) (f : C.Item → Result (List U) ChainFault)
-            → ⟦<Transform<C, U, F> as Cold>⟧.rest result (m, f) ≡
-            transform_run f (C.rest upstream m) }
-    {
-        Transform {
-            upstream: Upstream::new(upstream),
-            images: None,
-            closure,
-        }
-    }
 }

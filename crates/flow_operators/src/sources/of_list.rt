@@ -1,5 +1,6 @@
 //! A list as a chain.
 ghost use Rattle.std.specs.Prelude.{◌≡◌, ◌≤◌, ◌-◌, ◌^◌, drop, length, ⊤};
+ghost use Rattle.flow_operators.specs.Bound.{limited_to};
 ghost use Rattle.flow_law.specs.ChainRun.{ChainRun, list_run};
 ghost use Rattle.std.proofs.Common.{arith};
 
@@ -46,11 +47,7 @@ impl<T: FlowValue, A: Allocator> Cold for OfList<T, A> {
 
     ghost rest = { λ s _. list_run (drop s.at s.items.items) };
 
-    ghost most_asks = { λ s. length s.items.items - s.at };
-
-    ghost IsLimited = { ⊤ };
-
-    ghost limit = { 2 ^ 64 };
+    ghost bound = { limited_to (2 ^ 64) (λ s. length s.items.items - s.at) };
 
     ghost IsOver = { λ s. length s.items.items ≤ s.at };
 

@@ -1,5 +1,6 @@
 //! A range of whole numbers as a chain.
 ghost use Rattle.std.specs.Prelude.{◌≡◌, ◌^◌, min, ⊤};
+ghost use Rattle.flow_operators.specs.Bound.{limited_to};
 ghost use Rattle.flow_operators.specs.Sources.{range_left, range_rest, range_run};
 ghost use Rattle.std.proofs.Common.{arith};
 
@@ -47,11 +48,7 @@ impl Cold for OfRange {
     ghost rest = { λ s _. range_rest s };
 
     // A range of 64-bit numbers has at most 2 ^ 64 of them. With `min`, `limited` needs no bounds of the fields.
-    ghost most_asks = { λ s. min (range_left s) (2 ^ 64) };
-
-    ghost IsLimited = { ⊤ };
-
-    ghost limit = { 2 ^ 64 };
+    ghost bound = { limited_to (2 ^ 64) (λ s. min (range_left s) (2 ^ 64)) };
 
     ghost IsOver = { λ s. range_left s ≡ 0 };
 

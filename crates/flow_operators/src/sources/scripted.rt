@@ -1,5 +1,6 @@
 //! A source that follows a script.
 ghost use Rattle.std.specs.Prelude.{◌≡◌, ◌≤◌, ◌-◌, ◌^◌, drop, length, ⊤};
+ghost use Rattle.flow_operators.specs.Bound.{limited_to};
 ghost use Rattle.std.proofs.Common.{arith};
 
 use crate::cold::{Asked, Cold};
@@ -53,11 +54,7 @@ impl<T: FlowValue, A: Allocator> Cold for Scripted<T, A> {
 
     ghost rest = { λ s _. scripted_run (drop s.at s.entries.items) };
 
-    ghost most_asks = { λ s. length s.entries.items - s.at };
-
-    ghost IsLimited = { ⊤ };
-
-    ghost limit = { 2 ^ 64 };
+    ghost bound = { limited_to (2 ^ 64) (λ s. length s.entries.items - s.at) };
 
     ghost IsOver = { λ s. length s.entries.items ≤ s.at };
 

@@ -3,24 +3,22 @@ use Rattle.std.proofs.lemmas.Result.{err_from_is_err_and}
 use Rattle.std.proofs.lemmas.Grind.{common_steps}
 use Rattle.flow_law.specs.declared.chain.End.TheVariants.{Failed}
 use Rattle.flow_operators.specs.Stopping.{StandsAfterFailed}
+use Rattle.flow_operators.proofs.SameChainLemmas.{stays-then}
 use Rattle.flow_operators.proofs.StoppingLemmas.{closure-fault, failed-here, failed-later}
 use Rattle.flow_operators.proofs.stepping.fold_rest.Goals as goal
 
 pub loop-item-preserved : goal.loop-item-preserved
 loop-item-preserved g c = record {
-  lasting = λ given. c.next_item.ensures.lasting (c.loop-item.invariant.lasting given);
-  callable = c.next_item.ensures.callable;
-  reads = λ m r. c.next_item.ensures.reads m (c.loop-item.invariant.reads m r);
-  whole = λ m. c.next_item.ensures.whole m ∙ c.loop-item.invariant.whole m;
+  stays = stays-then c.loop-item.invariant.stays c.next_item.ensures.stays;
   folds = λ m f r d.
       let made = c.in_ok-last-in-Some.ensures.computes f d in
       let folds = c.loop-item.invariant.folds m f r d in
-      let gives = rw c.in-Some.is at (c.in_ok-item.ensures.gives m (c.loop-item.invariant.reads m r)) in
+      let gives = rw c.in-Some.is at (c.in_ok-item.ensures.gives m (c.loop-item.invariant.stays.reads m r)) in
       grind (arith, common_steps);
   stands = λ m r fault after failed.
       let first = rw c.in-Some.is at c.in_ok-item.ensures.stands in
       c.loop-item.invariant.stands m r fault after
-      (failed-later (goal.F-post g c.args.closure.now) fault c.loop-item.last _ c.in-Some.item (g.C.Cold.rest c.loop-item.chain m) (g.C.Cold.rest c.next_item.new.chain m) after (first m (c.loop-item.invariant.reads m r)) c.in_ok-last-in-Some.ensures.called failed);
+      (failed-later (goal.F-post g c.args.closure.now) fault c.loop-item.last _ c.in-Some.item (g.C.Cold.rest c.loop-item.chain m) (g.C.Cold.rest c.next_item.new.chain m) after (first m (c.loop-item.invariant.stays.reads m r)) c.in_ok-last-in-Some.ensures.called failed);
 }
 
 pub returns-in_err-item : goal.returns-in_err-item
@@ -28,11 +26,8 @@ returns-in_err-item g c = grind (arith, common_steps)
 
 pub returns-in_err-last-in-Some : goal.returns-in_err-last-in-Some
 returns-in_err-last-in-Some g c = record {
-  lasting = grind (arith, common_steps);
+  stays = stays-then c.loop-item.invariant.stays c.next_item.ensures.stays;
   given = grind (arith, common_steps);
-  callable = grind (arith, common_steps);
-  reads = grind (arith, common_steps);
-  whole = grind (arith, common_steps);
   folds = grind (arith, common_steps);
   over = grind (arith, common_steps);
   stands =
@@ -46,7 +41,7 @@ returns-in_err-last-in-Some g c = record {
       (λ m r.
       let first = rw c.in-Some.is at c.in_ok-item.ensures.stands in
       c.loop-item.invariant.stands m r c.in_err-last-in-Some.field-0.0 (g.C.Cold.rest c.next_item.new.chain m)
-      (failed-here (goal.F-post g c.args.closure.now) c.in_err-last-in-Some.field-0.0 c.loop-item.last c.in-Some.item (g.C.Cold.rest c.loop-item.chain m) (g.C.Cold.rest c.next_item.new.chain m) (first m (c.loop-item.invariant.reads m r)) c.in_err-last-in-Some.ensures.called));
+      (failed-here (goal.F-post g c.args.closure.now) c.in_err-last-in-Some.field-0.0 c.loop-item.last c.in-Some.item (g.C.Cold.rest c.loop-item.chain m) (g.C.Cold.rest c.next_item.new.chain m) (first m (c.loop-item.invariant.stays.reads m r)) c.in_err-last-in-Some.ensures.called));
   answered = grind (arith, common_steps);
 }
 

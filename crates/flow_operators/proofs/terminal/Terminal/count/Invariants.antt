@@ -1,14 +1,12 @@
 use Rattle.std.proofs.Common.{◌≡◌, ◌+◌, ◌<◌, ◌^◌, length}
 use Rattle.flow_law.specs.ChainRun.{items, ending}
 use Rattle.flow_operators.specs.Collecting.{IsRestOf}
+use Rattle.flow_operators.specs.SameChain.{StaysChain}
 use Rattle.flow_operators.proofs.terminal.Terminal.count.Given as goal
 
 abbrev pub invariant-loop-next : goal.invariant-loop-next
 invariant-loop-next g l = record {
-  lasting : g.Self.Cold.IsGiven l.fn.self → g.Self.Cold.IsGiven l.self;
-  callable : g.Self.Cold.CanAsk l.self;
-  reads : (m : _) → g.Self.Cold.Reads l.fn.self m → g.Self.Cold.Reads l.self m;
-  whole : (m : _) → g.Self.Cold.whole l.self m ≡ g.Self.Cold.whole l.fn.self m;
+  stays : StaysChain g.Self.Cold l.fn.self l.self;
   fits : l.count < 2 ^ 64;
   count : (m : _) → g.Self.Cold.Reads l.fn.self m → length (items (g.Self.Cold.whole l.fn.self m)) ≡ l.count + length (items (g.Self.Cold.rest l.self m));
   ending : (m : _) → g.Self.Cold.Reads l.fn.self m → ending (g.Self.Cold.whole l.fn.self m) ≡ ending (g.Self.Cold.rest l.self m);
@@ -16,4 +14,4 @@ invariant-loop-next g l = record {
 }
 
 abbrev pub decreases-loop-next : goal.decreases-loop-next
-decreases-loop-next g l = g.Self.Cold.most_asks l.self
+decreases-loop-next g l = g.Self.Cold.bound.most_asks l.self

@@ -11,6 +11,6 @@ returns-in-Some-clause-stands g c = elim c.in-Err.ensures.stands [
         c.in-Some.first,
         g.Self.Cold.rest c.next_item.new.chain m,
         subst (λ k. StandsAfterFirst c.in-Some.first k (g.Self.Cold.rest c.next_item.new.chain m)) (c.rewind.ensures.rest m) (first m now),
-        stands m (c.next_item.ensures.reads m now),
+        stands m (c.next_item.ensures.stays.reads m now),
       ))
 ]

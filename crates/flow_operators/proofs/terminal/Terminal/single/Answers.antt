@@ -14,11 +14,8 @@ returns-in_err-next_item g c = grind (arith, common_steps)
 
 pub returns-in-Some-2 : goal.returns-in-Some-2
 returns-in-Some-2 g c = record {
-  lasting = grind (arith, common_steps);
+  stays = grind (arith, common_steps);
   given = grind (arith, common_steps);
-  callable = grind (arith, common_steps);
-  reads = grind (arith, common_steps);
-  whole = grind (arith, common_steps);
   single = grind (arith, common_steps);
   only = grind (arith, common_steps);
   stands = inr (λ m r.
@@ -29,7 +26,7 @@ returns-in-Some-2 g c = record {
         c.in-Some-2.field-0,
         g.Self.Cold.rest c.next_item.new.chain m,
         subst (λ k. StandsAfterFirst c.in-Some.first k (g.Self.Cold.rest c.next_item.new.chain m)) (c.rewind.ensures.rest m) (first m now),
-        second m (c.next_item.ensures.reads m now),
+        second m (c.next_item.ensures.stays.reads m now),
       ));
   over = grind (arith, common_steps);
   answered = grind (arith, common_steps);
@@ -37,11 +34,8 @@ returns-in-Some-2 g c = record {
 
 pub returns-in-None : goal.returns-in-None
 returns-in-None g c = record {
-  lasting = grind (arith, common_steps);
+  stays = grind (arith, common_steps);
   given = grind (arith, common_steps);
-  callable = grind (arith, common_steps);
-  reads = grind (arith, common_steps);
-  whole = grind (arith, common_steps);
   single = grind (arith, common_steps);
   only = grind (arith, common_steps);
   stands = inl (
@@ -49,7 +43,7 @@ returns-in-None g c = record {
     λ m r.
         let now = c.rewind.ensures.reads m r in
         let first = rw c.in-Some.is at (c.in_ok-first.ensures.gives m now) in
-        let none = rw c.in-None.is at (c.in_ok-next_item.ensures.gives m (c.next_item.ensures.reads m now)) in
+        let none = rw c.in-None.is at (c.in_ok-next_item.ensures.gives m (c.next_item.ensures.stays.reads m now)) in
         let begins = c.rewind.ensures.rest m in
         grind (arith, common_steps),
   );

@@ -7,27 +7,25 @@ use Rattle.flow_operators.specs.Behind.{after_flat_map, unless_completed}
 use Rattle.flow_operators.specs.Closures.{Opens, OpensOnly}
 use Rattle.flow_operators.specs.InnerChains.{ReadsByItem, inner_chain, rest_by_item}
 use Rattle.flow_operators.specs.Kept.{inner_left, most_inner}
+use Rattle.flow_operators.specs.SameChain.{StaysChain}
 use Rattle.flow_operators.specs.Upstreams.{chain_of, is_ended}
 use Rattle.flow_operators.proofs.operators.flat_map_concat.FlatMapConcatCold.ask.Given as goal
 
 abbrev pub invariant-loop-item : goal.invariant-loop-item
 invariant-loop-item g l = record {
-  lasting : g.C.Cold.IsGiven (chain_of l.fn.self.upstream) → g.C.Cold.IsGiven (chain_of l.self.upstream);
   inner_lasting : IfSome l.fn.self.inner (λ inner. g.D.Cold.IsGiven (inner_chain inner)) → OpensOnly g.D.Cold.IsGiven (goal.F-post g l.fn.self.closure)
       → IfSome l.self.inner (λ inner. g.D.Cold.IsGiven (inner_chain inner));
-  callable : g.C.Cold.CanAsk (chain_of l.self.upstream);
+  stays : StaysChain g.C.Cold (chain_of l.fn.self.upstream) (chain_of l.self.upstream);
   inner : IfSome l.self.inner (λ inner. g.D.Cold.CanAsk (inner_chain inner));
   closure : l.self.closure ≡ l.fn.self.closure;
   opens : OpensOnly g.D.Cold.CanAsk (goal.F-post g l.self.closure);
   computes : (n : _) (f : _ → Result (ChainRun _) ChainFault) → Opens g.D.Cold.Reads g.D.Cold.whole (goal.F-post g l.fn.self.closure) n f
       → Opens g.D.Cold.Reads g.D.Cold.whole (goal.F-post g l.self.closure) n f;
   runs : is_ended l.self.upstream ≡ false;
-  fewer : g.C.Cold.most_asks (chain_of l.self.upstream) * (g.D.Cold.limit + 1) + most_inner (λ inner. g.D.Cold.most_asks (inner_chain inner)) l.self.inner
-      ≤ g.C.Cold.most_asks (chain_of l.fn.self.upstream) * (g.D.Cold.limit + 1) + most_inner (λ inner. g.D.Cold.most_asks (inner_chain inner)) l.fn.self.inner;
-  reads : (m : _) → g.C.Cold.Reads (chain_of l.fn.self.upstream) m → g.C.Cold.Reads (chain_of l.self.upstream) m;
+  fewer : g.C.Cold.bound.most_asks (chain_of l.self.upstream) * (g.D.Cold.bound.limit + 1) + most_inner (λ inner. g.D.Cold.bound.most_asks (inner_chain inner)) l.self.inner
+      ≤ g.C.Cold.bound.most_asks (chain_of l.fn.self.upstream) * (g.D.Cold.bound.limit + 1) + most_inner (λ inner. g.D.Cold.bound.most_asks (inner_chain inner)) l.fn.self.inner;
   inner_reads : (n : _) (f : _ → Result (ChainRun _) ChainFault) → IfSome l.fn.self.inner (ReadsByItem g.D.Cold.Reads n)
       → Opens g.D.Cold.Reads g.D.Cold.whole (goal.F-post g l.fn.self.closure) n f → IfSome l.self.inner (ReadsByItem g.D.Cold.Reads n);
-  whole : (m : _) → g.C.Cold.whole (chain_of l.self.upstream) m ≡ g.C.Cold.whole (chain_of l.fn.self.upstream) m;
   rest : (m : _) (n : _) (f : _ → Result (ChainRun _) ChainFault) → g.C.Cold.Reads (chain_of l.fn.self.upstream) m → IfSome l.fn.self.inner (ReadsByItem g.D.Cold.Reads n)
       → Opens g.D.Cold.Reads g.D.Cold.whole (goal.F-post g l.fn.self.closure) n f
       → followed (inner_left (rest_by_item g.D.Cold.rest n) l.fn.self.inner) (flat_map_run f (g.C.Cold.rest (chain_of l.fn.self.upstream) m))
@@ -39,4 +37,4 @@ invariant-loop-item g l = record {
 }
 
 abbrev pub decreases-loop-item : goal.decreases-loop-item
-decreases-loop-item g l = g.C.Cold.most_asks (chain_of l.self.upstream)
+decreases-loop-item g l = g.C.Cold.bound.most_asks (chain_of l.self.upstream)

@@ -3,7 +3,7 @@ use Rattle.std.proofs.lemmas.Grind.{common_steps}
 use Rattle.flow_operators.proofs.operators.transform.TransformCold.ask.Goals as goal
 
 pub returns-in-Some-clause-reads : goal.returns-in-Some-clause-reads
-returns-in-Some-clause-reads g c = λ m r. (c.loop-item.invariant.reads m.0 r.0, c.loop-item.invariant.computes m.1 r.1)
+returns-in-Some-clause-reads g c = λ m r. (c.loop-item.invariant.stays.reads m.0 r.0, c.loop-item.invariant.computes m.1 r.1)
 
 pub returns-in-Some-clause-gives : goal.returns-in-Some-clause-gives
 returns-in-Some-clause-gives g c = λ m r. grind (arith, common_steps, c.loop-item.invariant.rest m.0 m.1 r.0 r.1, c.in-Some.ensures)

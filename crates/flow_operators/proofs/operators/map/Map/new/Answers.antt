@@ -1,7 +1,0 @@
-use Rattle.std.proofs.Common.{arith}
-use Rattle.std.proofs.lemmas.Grind.{common_steps}
-use Rattle.flow_law.proofs.ChainLemmas.{map_means}
-use Rattle.flow_operators.proofs.operators.map.Map.new.Goals as goal
-
-pub returns-clause-meaning : goal.returns-clause-meaning
-returns-clause-meaning g c = λ m f. grind (arith, common_steps, map_means)

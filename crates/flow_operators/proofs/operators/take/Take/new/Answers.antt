@@ -1,7 +1,0 @@
-use Rattle.std.proofs.Common.{arith}
-use Rattle.std.proofs.lemmas.Grind.{common_steps}
-use Rattle.flow_law.proofs.ChainLemmas.{take_means}
-use Rattle.flow_operators.proofs.operators.take.Take.new.Goals as goal
-
-pub returns-clause-meaning : goal.returns-clause-meaning
-returns-clause-meaning g c = λ m. grind (arith, common_steps, take_means)
