@@ -1,9 +1,14 @@
-//! A state that is derived from another one: a thread receives each change, computes, and sets.
+//! `map` and `stateIn` of a hot flow: a thread keeps a state that is derived from another one.
 use flow_law::FlowFault;
 use flow_shared::{Setter, StateFlow, StateReader};
+use flow_sharing::derive_state;
 use std::alloc::Global;
 use std::sync::Wait;
 use std::thread::{Threads, join};
+
+fn in_fahrenheit(celsius: &i64) -> i64 {
+    celsius.wrapping_mul(9).wrapping_div(5).wrapping_add(32)
+}
 
 /// Keeps `fahrenheit` at the temperature of `celsius`, until that is `last`.
 fn derive<R: Wait>(
@@ -13,9 +18,7 @@ fn derive<R: Wait>(
     last: i64,
 ) -> Result<(), FlowFault> {
     for _ in rt.forever() {
-        let degrees = celsius.changed(rt)?;
-        fahrenheit.set(rt, degrees.wrapping_mul(9).wrapping_div(5).wrapping_add(32));
-        if degrees == last {
+        if derive_state(rt, celsius, fahrenheit, in_fahrenheit)? == last {
             return Ok(());
         }
     }
