@@ -4,6 +4,7 @@
 mod beside;
 mod hubs;
 mod refused_reset;
+mod restarted;
 mod shared;
 mod shared_runs;
 mod state_runs;

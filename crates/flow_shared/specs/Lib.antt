@@ -12,6 +12,7 @@ pub mod NextFutures
 pub mod Receiving
 pub mod WaitingFor
 pub mod Polling
+pub mod Iterating
 pub mod Sending
 pub mod BoundEmissions
 pub mod BoundReplies

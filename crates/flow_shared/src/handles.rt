@@ -14,18 +14,24 @@ ghost use Rattle.flow_shared.specs.SharedReplies.{IsEmitFault};
 mod bound_emission;
 mod caller;
 mod emitter;
+mod iterating;
 mod reader;
 mod setter;
 mod values;
+mod view;
+mod view_reader;
 mod waits;
 
 pub use bound_emission::{BoundEmission, EmitAnswer, PollAnswer};
 pub use caller::FlowCaller;
 pub use emitter::Emitter;
 use flow_law::{EmitNowError, FlowFault, NumberError, TryNextError};
+pub use iterating::{Values, ValuesUntil};
 pub use reader::{FlowReader, Reader, StateReader};
 pub use setter::Setter;
 pub use values::{FlowValues, StateChangedFuture};
+pub use view::{FlowView, SharedView, StateView};
+pub use view_reader::ViewReader;
 
 pub(crate) fn number_error(fault: FlowFault) -> NumberError
     requires { IsEmitFault fault }

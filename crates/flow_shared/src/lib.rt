@@ -49,8 +49,9 @@ pub use drain::DrainEnd;
 pub use emit_future::{EmitFuture, EmitStage, SendFuture, Sent};
 pub use flow::Flow;
 pub use handles::{
-    BoundEmission, EmitAnswer, Emitter, FlowCaller, FlowReader, FlowValues, PollAnswer, Reader,
-    Setter, StateChangedFuture, StateReader,
+    BoundEmission, EmitAnswer, Emitter, FlowCaller, FlowReader, FlowValues, FlowView, PollAnswer,
+    Reader, Setter, SharedView, StateChangedFuture, StateReader, StateView, Values, ValuesUntil,
+    ViewReader,
 };
 pub use next_future::{NextFuture, ReceiveFuture, Received};
 pub use shared::{Seat, SendEnd, SharedFlow, Subscription};

@@ -4,3 +4,4 @@ pub mod SharedFlowHub
 pub mod StateFlowHub
 pub mod WordHub
 pub mod OverThreads
+pub mod Deriving

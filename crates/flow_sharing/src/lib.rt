@@ -29,6 +29,7 @@
 //! that, take a turn that stops the sharing first, or call `cancel` through `hub_mut`.
 #![tactic(auto)]
 
+mod deriving;
 mod flow_stop;
 mod laws;
 mod sender;
@@ -38,10 +39,11 @@ mod word_flow_hub;
 mod word_hub;
 mod word_stop;
 
+pub use deriving::{derive_from, derive_state};
 pub use flow_stop::FlowStop;
 pub use flow_turns::{
-    Asked, Backwards, ChainFault, Cold, Command, CoreHub, End, Event, Hub, NEVER, Policy, Report,
-    ShareFault, Sharing, SharingObservation, Started, StateHub, StopSignal, WatchedHub,
+    Asked, Backwards, ChainFault, Cold, Command, CoreHub, End, Event, Hub, NEVER, NotEnded, Policy,
+    Report, ShareFault, Sharing, SharingObservation, Started, StateHub, StopSignal, WatchedHub,
     law_turn_over_core, law_turn_over_state_core, share_in, sharing_config, state_in,
 };
 pub use laws::{

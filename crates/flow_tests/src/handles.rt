@@ -10,4 +10,5 @@ mod state;
 mod states;
 mod tasks;
 mod tokens;
+mod views;
 mod word;

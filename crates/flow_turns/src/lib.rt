@@ -33,7 +33,8 @@
 //!
 //! # The end
 //! A chain that ends normally is asked again only after a stop and a start. A chain that fails ends the sharing: one
-//! turn answers the fault, and every later one `Ended`. Subscribers notice neither.
+//! turn answers the fault, and every later one `Ended`. Subscribers notice neither. `restart` collects the chain anew
+//! (`retry`), and `into_parts` gives the chain and the hub back.
 //!
 //! # Errors
 //! If the flow refuses an item, or is busy, the turn reports it, and the next turn continues from there. The
@@ -45,6 +46,7 @@ mod collect;
 mod core_hub;
 mod core_subscribers;
 mod due;
+mod ending;
 mod hub;
 mod laws;
 mod lend;
@@ -57,6 +59,7 @@ mod state_subscribers;
 mod turn;
 
 pub use core_hub::CoreHub;
+pub use ending::NotEnded;
 pub use flow_cold::{Asked, Cold};
 pub use flow_law::{
     ChainFault, Command, End, Event, NEVER, Report, ShareFault, SharingObservation, Started,

@@ -2,6 +2,7 @@
 pub mod between_threads;
 mod collected;
 mod products;
+mod retried;
 mod shared;
 
 use anyhow::Result;
@@ -9,5 +10,6 @@ use anyhow::Result;
 pub fn show(rt: &HostRuntime) -> Result<()> {
     collected::show(rt)?;
     products::show(rt)?;
-    shared::show(rt)
+    shared::show(rt)?;
+    retried::show(rt)
 }

@@ -2,6 +2,7 @@
 #![tactic(auto)]
 
 mod chains;
+mod hot;
 mod one_thread;
 mod producers;
 mod readings;
@@ -25,7 +26,10 @@ fn main(rt: HostRuntime) -> Result<()> {
     sensor::show(&rt)?;
     let page = Text::from_str(rt.alloc(), "page 1")?;
     print_page(&rt, screen::show_page(&rt, rt.alloc(), page)?)?;
-    show_best(&rt)
+    show_best(&rt)?;
+    hot::print_streamed(&rt, &hot::stream(&rt, rt.alloc())?)?;
+    hot::print_looped(&rt, &hot::read(&rt, rt.alloc())?)?;
+    Ok(())
 }
 
 /// Prints the sums that threads have computed.

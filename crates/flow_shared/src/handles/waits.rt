@@ -39,7 +39,7 @@ impl<'a, S: ReaderCalls + Drop, A: Allocator + Copy> FlowReader<'a, S, A> {
     }
 
     /// Waits for the next value, and takes it.
-    fn await_next<R: Wait>(&mut self, rt: &R) -> Result<S::Item, OutOfMemory>
+    pub(super) fn await_next<R: Wait>(&mut self, rt: &R) -> Result<S::Item, OutOfMemory>
         ensures flow { self.new.flow ≡ self.old.flow }
         ensures received { FlowReceives S.kind self.old.flow self.old.subscription
             (answer_by memory_fault result) self.new.subscription }
