@@ -4,6 +4,7 @@ ghost use Rattle.std.specs.Result.{OnErr};
 ghost use Rattle.std.specs.Vec.{vec_len, vec_capacity};
 ghost use Rattle.flow_law.specs.Draining.{DrainsBy, TakesBy, IsFull};
 ghost use Rattle.flow_law.specs.Growth.{NamesOnlyMade};
+ghost use Rattle.flow_law.specs.RealTime.{IsTimed};
 ghost use Rattle.flow_law.specs.HandleFaults.{answer_by, memory_fault};
 ghost use Rattle.flow_law.specs.History.{IsSubscription};
 ghost use Rattle.flow_law.specs.Tokens.{numbered_token};
@@ -127,6 +128,7 @@ impl<S: SubscriberCalls + Drop, A: Allocator + Copy> Flow<S, A> {
         requires subscribed { IsSubscription S.kind seat.old.token.knows (number_of id) }
         requires names { NamesOnlyMade seat.old.token.knows.name
             seat.old.token.knows.made seat.old.token.knows.seen }
+        requires timed { IsTimed seat.old.token.knows.seen }
         requires some { most ≢ 0 }
         requires room { vec_len values.old + most ≤ vec_capacity values.old }
         ensures takes { TakesInside S.kind (number_of id) (AttendedAs S.sleeping S.stands_as) most

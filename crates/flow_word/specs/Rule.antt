@@ -1,8 +1,9 @@
 -- The rule of the table. Word 0 is the pack of the current value, word 1 has the counts.
-use Rattle.std.specs.Prelude.{◌≡◌, ℕ, ◌+◌, ◌*◌, ◌<◌, List, [], ◌∷◌, length}
+use Rattle.std.specs.Prelude.{◌≡◌, ℕ, ◌+◌, ◌*◌, ◌<◌, ◌≤◌, List, [], ◌∷◌, length, Option, Some, None}
 use Rattle.atomic_table.specs.Table.{State}
 use Rattle.flow_law.specs.declared.states.StateFlowState.{StateFlowState}
 use Rattle.flow_law.specs.Growth.{Fits}
+use Rattle.flow_law.specs.RealTime.{IsTimed}
 use Rattle.flow_law.specs.Seats.{SeatsFit}
 use Rattle.flow_law.specs.StateFlow.{StateHistory, state_after_all, IsStateHistory}
 use Rattle.flow_word.specs.declared.view.Known.{Known}
@@ -13,15 +14,22 @@ use Rattle.flow_word.specs.View.{begun}
 abbrev pub counts : {T : Type 0} → StateFlowState T → ℕ
 counts s = s.issued * 4294967296 + length s.subscribers
 
+-- a call of several steps began after the token had seen `seen` events, when the history had no more than `now`
+abbrev pub BeganSince : Option ℕ → ℕ → ℕ → Type 0
+BeganSince None seen now = Unit {0}
+BeganSince (Some began) seen now = (seen ≤ began) × (began ≤ now)
+
 -- The history begins with what the token has seen, other callers made the rest, and it keeps the token's rule of names. The token is of
--- the flow with this start.
+-- the flow with this start. Its call, if it is in one, began since it had seen all that it has seen.
 abbrev pub IsFine : {T : Type 0} → Start → StateHistory T → Known T → Type 0
-IsFine start history x = Fits history x.knows × (x.start ≡ start)
+IsFine start history x = Fits history x.knows × (x.start ≡ start) × BeganSince x.began (length x.knows.seen) (length history)
 
 pub record WordHolds {T : Type 0} (packs : ℕ → Type 0) (value_of : ℕ → T) (start : Start) (s : State Unit (List (Known T))) : Type 0 where
   -- the one history of the flow
   pub history : StateHistory T
   pub is_history : IsStateHistory (begun value_of start) history
+  -- each call began in time
+  pub timed : IsTimed history
   -- the pack of the value after it
   pub word : ℕ
   pub packed : packs word

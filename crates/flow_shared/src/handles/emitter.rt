@@ -5,6 +5,7 @@ ghost use Rattle.flow_law.specs.Handles.{called_by, SubscribesBound};
 ghost use Rattle.flow_law.specs.History.{IsHistory, fault_alone};
 ghost use Rattle.flow_law.specs.Lagging.{EachLags};
 ghost use Rattle.flow_law.specs.Laws.{Delivers, NoIdleQueue};
+ghost use Rattle.flow_law.specs.RealTime.{InRealTime};
 ghost use Rattle.flow_law.specs.Replaying.{EachReplays};
 ghost use Rattle.flow_law.specs.SharedHistory.{shared_flow, state_after};
 ghost use Rattle.flow_law.specs.Waiting.{EachWaits};
@@ -173,6 +174,7 @@ impl<'a, T: FlowValue, A: Allocator + Copy> FlowCaller<'a, SharedCore<T, A>, A> 
     pub fn seen(&mut self)
         ensures unchanged { self.new ≡ self.old }
         ensures history { IsHistory shared_flow self.new.flow.first self.new.token.knows.seen }
+        ensures in_real_time { InRealTime self.new.token.knows.seen }
         ensures delivered { (u : ℕ) →
             Delivers u self.new.flow.first.config self.new.token.knows.seen }
         ensures no_idle_queue { NoIdleQueue

@@ -5,6 +5,7 @@ ghost use Rattle.flow_law.specs.Current.{Converges, IsThere};
 ghost use Rattle.flow_law.specs.History.{IsHistory};
 ghost use Rattle.flow_law.specs.Lagging.{EachLags};
 ghost use Rattle.flow_law.specs.Laws.{Delivers, NoIdleQueue};
+ghost use Rattle.flow_law.specs.RealTime.{InRealTime};
 ghost use Rattle.flow_law.specs.Replaying.{EachReplays};
 ghost use Rattle.flow_law.specs.SharedFlow.{position_of};
 ghost use Rattle.flow_law.specs.SharedHistory.{shared_flow, state_after};
@@ -25,6 +26,7 @@ impl<'a, T: FlowValue, A: Allocator + Copy> FlowReader<'a, SharedCore<T, A>, A> 
         ensures unchanged { self.new ≡ self.old }
         ensures history { IsHistory shared_flow
             self.new.flow.first self.new.subscription.token.knows.seen }
+        ensures in_real_time { InRealTime self.new.subscription.token.knows.seen }
         ensures delivered { (u : ℕ) → Delivers u self.new.flow.first.config
             self.new.subscription.token.knows.seen }
         ensures no_idle_queue { NoIdleQueue
@@ -49,6 +51,7 @@ impl<'a, T: FlowValue, A: Allocator + Copy> FlowReader<'a, StateCore<T, A>, A> {
         ensures unchanged { self.new ≡ self.old }
         ensures history { IsStateHistory self.new.flow.first
             self.new.subscription.token.knows.seen }
+        ensures in_real_time { InRealTime self.new.subscription.token.knows.seen }
         ensures conflated { Conflates
             self.new.flow.first.value self.new.subscription.token.knows.seen }
         ensures current { (u : ℕ)

@@ -4,6 +4,7 @@ ghost use Rattle.flow_law.specs.Conflation.{Conflates};
 ghost use Rattle.flow_law.specs.Current.{Converges};
 ghost use Rattle.flow_law.specs.HandleFaults.{answer_by, handed_by, busy_fault, memory_fault, unsupported_fault};
 ghost use Rattle.flow_law.specs.Handles.{called_by};
+ghost use Rattle.flow_law.specs.RealTime.{InRealTime};
 ghost use Rattle.flow_law.specs.StateFlow.{IsStateHistory};
 ghost use Rattle.flow_law.specs.declared.call.StateCall.TheVariants as call;
 ghost use Rattle.flow_law.specs.declared.call.StateReply.TheVariants as reply;
@@ -127,6 +128,7 @@ impl<'a, T: FlowValue, A: Allocator + Copy> FlowCaller<'a, StateCore<T, A>, A> {
     pub fn seen(&mut self)
         ensures unchanged { self.new ≡ self.old }
         ensures history { IsStateHistory self.new.flow.first self.new.token.knows.seen }
+        ensures in_real_time { InRealTime self.new.token.knows.seen }
         ensures conflated { Conflates self.new.flow.first.value self.new.token.knows.seen }
         ensures current { (u : ℕ) → Converges u self.new.flow.first self.new.token.knows.seen }
     {

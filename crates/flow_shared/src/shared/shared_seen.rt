@@ -3,6 +3,7 @@ ghost use Rattle.std.specs.Prelude.{◌≡◌, ℕ, IsSome};
 ghost use Rattle.flow_law.specs.History.{IsHistory};
 ghost use Rattle.flow_law.specs.Lagging.{EachLags};
 ghost use Rattle.flow_law.specs.Laws.{Delivers, NoIdleQueue};
+ghost use Rattle.flow_law.specs.RealTime.{InRealTime};
 ghost use Rattle.flow_law.specs.Replaying.{EachReplays};
 ghost use Rattle.flow_law.specs.SharedFlow.{position_of};
 ghost use Rattle.flow_law.specs.SharedHistory.{shared_flow, state_after};
@@ -25,6 +26,7 @@ impl<T: FlowValue, A: Allocator + Copy> Flow<SharedCore<T, A>, A> {
         ensures unchanged { seat.new ≡ seat.old }
         // It is a history of the flow, from its first state on.
         ensures history { IsHistory shared_flow self.now.first seat.new.knows.seen }
+        ensures in_real_time { InRealTime seat.new.knows.seen }
         ensures delivered { (u : ℕ) → Delivers u self.now.first.config seat.new.knows.seen }
         ensures no_idle_queue { NoIdleQueue
             (state_after self.now.first.config seat.new.knows.seen) }
@@ -40,6 +42,7 @@ impl<T: FlowValue, A: Allocator + Copy> Flow<SharedCore<T, A>, A> {
         requires { subscription.old.token.table_id ≡ self.now.table_id }
         ensures unchanged { subscription.new ≡ subscription.old }
         ensures history { IsHistory shared_flow self.now.first subscription.new.token.knows.seen }
+        ensures in_real_time { InRealTime subscription.new.token.knows.seen }
         ensures delivered { (u : ℕ) →
             Delivers u self.now.first.config subscription.new.token.knows.seen }
         ensures no_idle_queue { NoIdleQueue

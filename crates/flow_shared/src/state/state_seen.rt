@@ -2,6 +2,7 @@
 ghost use Rattle.std.specs.Prelude.{◌≡◌, ℕ};
 ghost use Rattle.flow_law.specs.Conflation.{Conflates};
 ghost use Rattle.flow_law.specs.Current.{Converges, IsThere};
+ghost use Rattle.flow_law.specs.RealTime.{InRealTime};
 ghost use Rattle.flow_law.specs.StateFlow.{IsStateHistory, state_after_all};
 
 use super::{StateSeat, StateSubscription};
@@ -20,6 +21,7 @@ impl<T: FlowValue, A: Allocator + Copy> Flow<StateCore<T, A>, A> {
         ensures unchanged { seat.new ≡ seat.old }
         // It is a history of the flow, from its first state on.
         ensures history { IsStateHistory self.now.first seat.new.knows.seen }
+        ensures in_real_time { InRealTime seat.new.knows.seen }
         ensures conflated { Conflates self.now.first.value seat.new.knows.seen }
         ensures current { (u : ℕ) → Converges u self.now.first seat.new.knows.seen }
     {
@@ -31,6 +33,7 @@ impl<T: FlowValue, A: Allocator + Copy> Flow<StateCore<T, A>, A> {
         requires { subscription.old.token.table_id ≡ self.now.table_id }
         ensures unchanged { subscription.new ≡ subscription.old }
         ensures history { IsStateHistory self.now.first subscription.new.token.knows.seen }
+        ensures in_real_time { InRealTime subscription.new.token.knows.seen }
         ensures conflated { Conflates self.now.first.value subscription.new.token.knows.seen }
         ensures current { (u : ℕ) → Converges u self.now.first subscription.new.token.knows.seen }
         // After this history the flow has its subscriber.

@@ -6,7 +6,7 @@ use Rattle.flow_law.specs.Tokens.{numbered_token}
 use Rattle.flow_shared.specs.Attended.{AttendedAs}
 use Rattle.flow_shared.specs.Calls.{NextsOf}
 use Rattle.flow_shared.proofs.Inside.{found}
-use Rattle.flow_shared.proofs.Drains.{subscribed_inside, subscribed_after, drains_by}
+use Rattle.flow_shared.proofs.Drains.{timed_inside, subscribed_inside, subscribed_after, drains_by}
 use Rattle.flow_shared.proofs.flow.Flow.take.Goals as goal
 
 pub take_inside-requires-clause-stood : goal.take_inside-requires-clause-stood
@@ -16,6 +16,9 @@ pub take_inside-requires-clause-subscribed : goal.take_inside-requires-clause-su
 take_inside-requires-clause-subscribed g c =
     let n = number_of c.args.id in
     subscribed_inside g.S.FlowCore.kind (AttendedAs g.S.FlowCore.sleeping g.S.FlowCore.stands_as) g.S.FlowCore.lawful n (λ w. g.S.FlowCore.first w.core) c.args.self.now c.self.inside.gate c.seat.inside.seat.token c.enter.new.seat c.self.view_is c.enter.ensures.found (subst (λ t. IsSubscription g.S.FlowCore.kind t.knows n) (sym c.seat.view_is) c.requires.subscribed)
+
+pub take_inside-requires-clause-timed : goal.take_inside-requires-clause-timed
+take_inside-requires-clause-timed g c = timed_inside g.S.FlowCore.kind (AttendedAs g.S.FlowCore.sleeping g.S.FlowCore.stands_as) (λ w. g.S.FlowCore.first w.core) c.self.inside.gate c.seat.inside.seat.token c.enter.new.seat c.enter.ensures.found
 
 pub returns-clause-drained : goal.returns-clause-drained
 returns-clause-drained g c =
