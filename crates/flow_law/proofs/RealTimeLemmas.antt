@@ -1,5 +1,5 @@
 -- When the calls of a history began: after one more event, after several events of one token, and the law. Begin with `IsTimed-snoc`.
-use Rattle.std.proofs.Common.{◌≡◌, ◌≢◌, ℕ, zero, suc, ◌+◌, ◌≤◌, ◌<◌, List, [], ◌∷◌, ◌++◌, length, drop, refl, sym, ap, ◌∙◌, subst, arith, append_assoc, append-nil, length-append, le_refl}
+use Rattle.std.proofs.Common.{◌≡◌, ◌≢◌, ℕ, zero, suc, ◌+◌, ◌≤◌, ◌<◌, List, [], ◌∷◌, ◌++◌, length, drop, Option, Some, None, refl, sym, ap, ◌∙◌, subst, arith, append_assoc, append-nil, length-append, le_refl}
 use Rattle.std.proofs.Math.Seq.{drop-length}
 use Rattle.std.specs.List.{AllByRecursion}
 use mathlib.Core.Logic.{dite}
@@ -8,7 +8,7 @@ use Rattle.flow_law.specs.declared.history.HistoryEvent.{HistoryEvent}
 use Rattle.flow_law.specs.declared.history.Said.{Said}
 use Rattle.flow_law.specs.Growth.{IsSilent, GrowsByOthers, event, after_events}
 use Rattle.flow_law.specs.History.{Kind, IsHistory}
-use Rattle.flow_law.specs.RealTime.{BeganInTime, IsTimedAfter, IsTimed, IsAt, WasThere, InRealTime, Linearizable}
+use Rattle.flow_law.specs.RealTime.{began_at, BeganSince, BeganInTime, IsTimedAfter, IsTimed, IsAt, WasThere, InRealTime, Linearizable}
 
 module _ {X : Type 0} where
   every_drop : (P : X → Type 0) (n : ℕ) (xs : List X) → AllByRecursion P xs → AllByRecursion P (drop n xs)
@@ -32,6 +32,16 @@ module _ {X : Type 0} where
   split_before [] e b (y ∷ c) f d p l = let h : e ≡ y = cc in (c, λ i. sym h i ∷ c)
   split_before (x ∷ a) e b [] f d p l = absurd (omega arith)
   split_before (x ∷ a) e b (y ∷ c) f d p l = let h : x ≡ y = cc in let t : a ++ e ∷ b ≡ c ++ f ∷ d = cc in let r = split_before a e b c f d t (omega arith) in (r.0, λ i. sym h i ∷ r.1 i)
+
+-- when a call began lies between what its token had seen and what the history has
+pub since_seen : (began : Option ℕ) (seen now : ℕ) → BeganSince began seen now → seen ≤ now → (seen ≤ began_at began now) × (began_at began now ≤ now)
+since_seen None seen now since less = (less, le_refl now)
+since_seen (Some n) seen now since less = since
+
+-- it still does if the history has more
+pub since_more : (began : Option ℕ) (seen now later : ℕ) → now ≤ later → BeganSince began seen now → BeganSince began seen later
+since_more None seen now later more since = tt
+since_more (Some n) seen now later more since = (since.0, omega (arith, since.1))
 
 module _ {E : Type 0} where
   -- a caller that was silent after what it had seen was so after its call began

@@ -4,7 +4,7 @@
 --   began      0    0    2    1        how many events the history had when the call began
 -- The call of e had added its event when those of g and h began (0 < 2, 0 < 1): e comes before both. The calls of f and h overlapped, or
 -- f's came first: neither had to.
-use Rattle.std.specs.Prelude.{◌≡◌, ℕ, ◌<◌, ◌≤◌, List, [], ◌∷◌, ◌++◌, length, drop}
+use Rattle.std.specs.Prelude.{◌≡◌, ℕ, ◌<◌, ◌≤◌, List, [], ◌∷◌, ◌++◌, length, drop, Option, Some, None}
 use Rattle.flow_law.specs.declared.call.SharedCall.{SharedCall}
 use Rattle.flow_law.specs.declared.call.SharedReply.{SharedReply}
 use Rattle.flow_law.specs.declared.call.StateCall.{StateCall}
@@ -16,6 +16,16 @@ use Rattle.flow_law.specs.History.{Kind, IsLegal, IsHistory}
 use Rattle.flow_law.specs.SharedHistory.{shared_flow}
 use Rattle.flow_law.specs.SharedFlow.{SharedFlowState}
 use Rattle.flow_law.specs.StateFlow.{StateFlowState, state_flow}
+
+-- When a call began of which a step is made while the history has `now` events: at its first step. `None` says that this is its first one.
+abbrev pub began_at : Option ℕ → ℕ → ℕ
+began_at None now = now
+began_at (Some began) now = began
+
+-- a call whose first step was made began when its token had seen `seen` events or more, and the history had no more than `now`
+abbrev pub BeganSince : Option ℕ → ℕ → ℕ → Type 0
+BeganSince None seen now = Unit {0}
+BeganSince (Some began) seen now = (seen ≤ began) × (began ≤ now)
 
 module _ {E : Type 0} where
   -- after these events, this event's call began before its event, and after the last event of its caller

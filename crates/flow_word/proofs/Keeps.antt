@@ -1,5 +1,5 @@
 -- Each step on a word keeps the rule of the table. Begin with `makes_event`: a step that is the one event of a call.
-use Rattle.std.proofs.Common.{◌≡◌, ◌≢◌, ℕ, ◌≤◌, Bool, true, false, eqb, eq-eqb, ne_eqb, ◌%◌, ◌<◌, List, [], ◌∷◌, ◌++◌, map, length, get_or, set, Option, Some, None, refl, sym, ap, ◌∙◌, subst, inl, inr, le_refl, arith, length-append}
+use Rattle.std.proofs.Common.{◌≡◌, ◌≢◌, ℕ, ◌≤◌, Bool, true, false, eqb, eq-eqb, ne_eqb, ◌%◌, ◌<◌, List, [], ◌∷◌, ◌++◌, map, length, get_or, set, Option, refl, sym, ap, ◌∙◌, subst, inl, inr, le_refl, arith, length-append}
 use mathlib.Core.Logic.{dite}
 use mathlib.Core.Option.{none, some}
 use native.Mathlib.Decide.{ℕ_discrete}
@@ -17,31 +17,21 @@ use Rattle.flow_law.specs.declared.call.StateReply.TheVariants as reply
 use Rattle.flow_law.specs.declared.states.StateFlowState.{StateFlowState}
 use Rattle.flow_law.specs.Growth.{Fits, IsApartFrom, event}
 use Rattle.flow_law.specs.History.{MayCall}
-use Rattle.flow_law.specs.RealTime.{BeganInTime}
+use Rattle.flow_law.specs.RealTime.{BeganInTime, began_at}
 use Rattle.flow_law.specs.Promise.{said}
 use Rattle.flow_law.specs.Seats.{SeatAt}
 use Rattle.flow_law.specs.StateFlow.{StateHistory, state_flow_after, StateFlowReplies, state_flow, state_after_all, IsStateHistory}
 use Rattle.flow_law.proofs.HistoryLemmas.{after_all-snoc, IsHistory-snoc}
 use Rattle.flow_law.proofs.Names.{grew_refl, fits_more, fits_own}
-use Rattle.flow_law.proofs.RealTimeLemmas.{grown_longer, began_since, IsTimed-snoc}
+use Rattle.flow_law.proofs.RealTimeLemmas.{since_seen, since_more, grown_longer, began_since, IsTimed-snoc}
 use Rattle.flow_law.proofs.SeatLemmas.{changed, at_only}
 use Rattle.flow_law.proofs.StateCounts.{IsCounted, is_counted}
 use Rattle.flow_word.specs.declared.view.Known.{Known}
 use Rattle.flow_word.specs.declared.view.LastGot.{LastGot}
 use Rattle.flow_word.specs.declared.view.Start.{Start}
-use Rattle.flow_word.specs.View.{begun, known, in_call, began_at, only_in_view}
-use Rattle.flow_word.specs.Rule.{counts, BeganSince, IsFine, WordHolds}
+use Rattle.flow_word.specs.View.{begun, known, in_call, only_in_view}
+use Rattle.flow_word.specs.Rule.{counts, IsFine, WordHolds}
 use Rattle.flow_word.specs.Steps.{StepMakes, reads, sets, exchanges, counts_live}
-
--- when a call began lies between what its token had seen and what the history has
-pub since_seen : (began : Option ℕ) (seen now : ℕ) → BeganSince began seen now → seen ≤ now → (seen ≤ began_at began now) × (began_at began now ≤ now)
-since_seen None seen now since less = (less, le_refl now)
-since_seen (Some n) seen now since less = since
-
--- it still does if the history has more
-pub since_more : (began : Option ℕ) (seen now later : ℕ) → now ≤ later → BeganSince began seen now → BeganSince began seen later
-since_more None seen now later more since = tt
-since_more (Some n) seen now later more since = (since.0, omega (arith, since.1))
 
 module _ (T : Type 0) (packs : ℕ → Type 0) (value_of : ℕ → T) (start : Start) where
   abbrev V : Type 0

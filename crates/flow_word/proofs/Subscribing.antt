@@ -21,6 +21,7 @@ use Rattle.flow_law.specs.declared.states.StateFlowState.{StateFlowState}
 use Rattle.flow_law.specs.declared.states.StateSubscriber.{StateSubscriber}
 use Rattle.flow_law.specs.Growth.{Fits, sees, child}
 use Rattle.flow_law.specs.History.{subscriber, IsGiven}
+use Rattle.flow_law.specs.RealTime.{began_at}
 use Rattle.flow_law.specs.StateFlow.{StateHistory, last_got_by, is_state_exhausted, state_flow_after, Receives, StateFlowReplies, state_flow, state_after_all, IsStateHistory}
 use Rattle.flow_law.specs.Tokens.{subscription_name}
 use Rattle.flow_law.proofs.HistoryLemmas.{after_all-snoc, IsHistory-snoc}
@@ -33,7 +34,7 @@ use Rattle.flow_law.proofs.Subscriptions.{given_grows}
 use Rattle.flow_word.specs.declared.view.Known.{Known}
 use Rattle.flow_word.specs.declared.view.LastGot.{LastGot}
 use Rattle.flow_word.specs.declared.view.Start.{Start}
-use Rattle.flow_word.specs.View.{StateKnowledge, begun, got_last, in_call, began_at, only_in_view}
+use Rattle.flow_word.specs.View.{StateKnowledge, begun, got_last, in_call, only_in_view}
 use Rattle.flow_word.specs.Rule.{counts, WordHolds}
 use Rattle.flow_word.specs.Steps.{word_received, value_in, IsPack, HasGot, StepMakes, reads_by, receives, leaves, finds_room, enters}
 use Rattle.flow_word.proofs.Keeps.{event_by, after_call, started, fits_at, makes_event, names_event, found_is, still, goes_on, counted}

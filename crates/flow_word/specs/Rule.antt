@@ -1,9 +1,9 @@
 -- The rule of the table. Word 0 is the pack of the current value, word 1 has the counts.
-use Rattle.std.specs.Prelude.{◌≡◌, ℕ, ◌+◌, ◌*◌, ◌<◌, ◌≤◌, List, [], ◌∷◌, length, Option, Some, None}
+use Rattle.std.specs.Prelude.{◌≡◌, ℕ, ◌+◌, ◌*◌, ◌<◌, List, [], ◌∷◌, length}
 use Rattle.atomic_table.specs.Table.{State}
 use Rattle.flow_law.specs.declared.states.StateFlowState.{StateFlowState}
 use Rattle.flow_law.specs.Growth.{Fits}
-use Rattle.flow_law.specs.RealTime.{IsTimed}
+use Rattle.flow_law.specs.RealTime.{IsTimed, BeganSince}
 use Rattle.flow_law.specs.Seats.{SeatsFit}
 use Rattle.flow_law.specs.StateFlow.{StateHistory, state_after_all, IsStateHistory}
 use Rattle.flow_word.specs.declared.view.Known.{Known}
@@ -13,11 +13,6 @@ use Rattle.flow_word.specs.View.{begun}
 -- the word of the counts: the number of issued numbers in the upper half, and the number of subscribers in the lower half
 abbrev pub counts : {T : Type 0} → StateFlowState T → ℕ
 counts s = s.issued * 4294967296 + length s.subscribers
-
--- a call of several steps began after the token had seen `seen` events, when the history had no more than `now`
-abbrev pub BeganSince : Option ℕ → ℕ → ℕ → Type 0
-BeganSince None seen now = Unit {0}
-BeganSince (Some began) seen now = (seen ≤ began) × (began ≤ now)
 
 -- The history begins with what the token has seen, other callers made the rest, and it keeps the token's rule of names. The token is of
 -- the flow with this start. Its call, if it is in one, began since it had seen all that it has seen.

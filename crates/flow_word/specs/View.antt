@@ -23,11 +23,6 @@ no_start = record { word = 0; limit = 0 }
 abbrev pub got_last : ℕ → Option ℕ → LastGot
 got_last number last = record { number = number; last = last }
 
--- when a call began of which a step is made while the history has `now` events: at its first step, which may be this one
-abbrev pub began_at : Option ℕ → ℕ → ℕ
-began_at None now = now
-began_at (Some began) now = began
-
 module _ {T : Type 0} where
   -- the state that a flow began with
   abbrev pub begun : (ℕ → T) → Start → StateFlowState T
