@@ -53,6 +53,12 @@ module _ {E : Type 0} where
   pub grown_longer : (name : List ℕ) (h later : List (HistoryEvent E)) → GrowsByOthers name h later → length h ≤ length later
   grown_longer name h later g = let l : length later ≡ length (h ++ g.0) = ap length g.1 in let m = length-append h g.0 in omega arith
 
+  pub before_own : (h : List (HistoryEvent E)) (e : HistoryEvent E) (n : ℕ) → n ≤ length h → n < length (h ++ e ∷ [])
+  before_own h e n l = let m : length (h ++ e ∷ []) ≡ length h + 1 = length-append h (e ∷ []) in omega arith
+
+  pub one_longer : (h : List (HistoryEvent E)) (e : HistoryEvent E) → length h ≤ length (h ++ e ∷ [])
+  one_longer h e = let m : length (h ++ e ∷ []) ≡ length h + 1 = length-append h (e ∷ []) in omega arith
+
   -- a call that began after all that its caller had seen began in time
   pub began_since : (name : List ℕ) (began : ℕ) (what : E) (seen h : List (HistoryEvent E)) → GrowsByOthers name seen h → length seen ≤ began → began ≤ length h → BeganInTime h (event name began what)
   began_since name began what seen h grown since within = (within, subst (λ l. IsSilent name (drop began l)) (sym grown.1) (silent_since name began seen grown.0 grown.2 since))

@@ -1,6 +1,6 @@
 -- From what a core does at each `next` in one entry to a drain of the caller: the first call comes after the history that was found
 -- on entering, and the other calls follow at once.
-use Rattle.std.proofs.Common.{◌≡◌, ◌≢◌, ℕ, ◌+◌, ◌≤◌, List, [], ◌∷◌, ◌++◌, length, drop, Option, Some, None, Result, Ok, Err, refl, sym, ap, ◌∙◌, subst, inl, arith, append_assoc, length-append}
+use Rattle.std.proofs.Common.{◌≡◌, ◌≢◌, ℕ, ◌+◌, ◌≤◌, List, [], ◌∷◌, ◌++◌, length, drop, Option, Some, None, Result, Ok, Err, refl, sym, ap, ◌∙◌, subst, inl, arith, le_refl, append_assoc, length-append}
 use Rattle.std.proofs.Math.Seq.{drop-append_seam}
 use Rattle.std.specs.List.{FoldsTo}
 use Rattle.flow_law.specs.declared.fault.FlowFault.{FlowFault}
@@ -20,7 +20,7 @@ use Rattle.flow_law.specs.Standing.{Documents, StandsForHistory}
 use Rattle.flow_law.specs.Tokens.{knowing, numbered_token, origin}
 use Rattle.flow_law.proofs.DrainingLemmas.{HasTaken}
 use Rattle.flow_law.proofs.Names.{fits_own, grew_refl}
-use Rattle.flow_law.proofs.RealTimeLemmas.{grown_longer, began_now, IsTimed-snoc, after_events-append}
+use Rattle.flow_law.proofs.RealTimeLemmas.{grown_longer, before_own, began_now, IsTimed-snoc, after_events-append}
 use Rattle.flow_law.proofs.TokenLemmas.{stands_next, may_grows, may_speak, never_gone, subscription_after_next, subscription_met}
 use Rattle.flow_gate.specs.Tokens.{GateToken, GateOrigin, SeatState, idle_seat, Finds}
 use Rattle.flow_shared.specs.Calls.{HoldsFor, NextsOf, GateNumbered}
@@ -93,7 +93,7 @@ module _ {K T S C R : Type 0} (kind : Kind T S C R) (StandsAs : K → S → Type
         history = stands.0;
         began = length history;
         grows = (fits.0.0, ap (λ (l : List (HistoryEvent (Said C R))). l ++ event before.knows.name (length history) (said (kind.take_next n) r) ∷ []) fits.0.1, fits.0.2);
-        in_time = let l = length-append history (last ∷ []) in (grown_longer before.knows.name before.knows.seen history fits.0, omega arith);
+        in_time = (grown_longer before.knows.name before.knows.seen history fits.0, before_own history last (length history) (le_refl (length history)));
         timed = IsTimed-snoc history last timed (began_now before.knows.name (said (kind.take_next n) r) history);
         names = fits_own history before.knows (length history) (said (kind.take_next n) r) fits;
       },

@@ -1,5 +1,5 @@
 -- From the contract of entering a gate and that of one call of a core to the contract of a call of a flow.
-use Rattle.std.proofs.Common.{◌≡◌, ℕ, ◌≤◌, List, [], ◌∷◌, ◌++◌, length, length-append, refl, sym, ap, ◌∙◌, subst, arith, Option, Some, None, IfSome}
+use Rattle.std.proofs.Common.{◌≡◌, ℕ, ◌≤◌, List, [], ◌∷◌, ◌++◌, length, le_refl, refl, sym, ap, ◌∙◌, subst, arith, Option, Some, None, IfSome}
 use Rattle.flow_law.specs.declared.history.HistoryEvent.{HistoryEvent}
 use Rattle.flow_law.specs.declared.history.Said.{Said}
 use Rattle.flow_law.specs.Growth.{event, knowledge, adds, GrowsByOthers}
@@ -11,7 +11,7 @@ use Rattle.flow_law.specs.Standing.{Documents, StandsForHistory}
 use Rattle.flow_law.specs.Tokens.{knowing, origin, subscription_name}
 use Rattle.flow_law.proofs.Names.{fits_own}
 use Rattle.flow_law.proofs.Owners.{history_left}
-use Rattle.flow_law.proofs.RealTimeLemmas.{grown_longer, began_now, IsTimed-snoc, IsTimed-seen}
+use Rattle.flow_law.proofs.RealTimeLemmas.{grown_longer, before_own, began_now, IsTimed-snoc, IsTimed-seen}
 use Rattle.flow_law.proofs.TokenLemmas.{stands_next, may_grows}
 use Rattle.flow_gate.specs.Tokens.{GateToken, GateOrigin, SeatState, idle_seat, Finds, HasStood}
 use Rattle.flow_shared.specs.Calls.{HoldsFor, SaysIn}
@@ -96,7 +96,7 @@ module _ {K T S C R : Type 0} (kind : Kind T S C R) (start : K → S) (StandsAs 
         history = subst (λ (t : GateToken (Said C R)). IsHistory kind flow.first (t.knows.seen ++ event t.knows.name (length t.knows.seen) (said call r) ∷ [])) f.token said_here.1;
         began = length f.history;
         grows = (f.fits.0.0, ap (λ (l : List (HistoryEvent (Said C R))). l ++ event before.knows.name (length f.history) (said call r) ∷ []) f.fits.0.1, f.fits.0.2);
-        in_time = let l = length-append f.history (last ∷ []) in (grown_longer before.knows.name before.knows.seen f.history f.fits.0, omega arith);
+        in_time = (grown_longer before.knows.name before.knows.seen f.history f.fits.0, before_own f.history last (length f.history) (le_refl (length f.history)));
         timed = IsTimed-snoc f.history last f.timed (began_now before.knows.name (said call r) f.history);
         names = fits_own f.history before.knows (length f.history) (said call r) f.fits;
       }

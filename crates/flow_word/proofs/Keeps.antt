@@ -1,5 +1,5 @@
 -- Each step on a word keeps the rule of the table. Begin with `makes_event`: a step that is the one event of a call.
-use Rattle.std.proofs.Common.{◌≡◌, ◌≢◌, ℕ, ◌≤◌, Bool, true, false, eqb, eq-eqb, ne_eqb, ◌%◌, ◌<◌, List, [], ◌∷◌, ◌++◌, map, length, get_or, set, Option, refl, sym, ap, ◌∙◌, subst, inl, inr, le_refl, arith, length-append}
+use Rattle.std.proofs.Common.{◌≡◌, ◌≢◌, ℕ, ◌≤◌, Bool, true, false, eqb, eq-eqb, ne_eqb, ◌%◌, ◌<◌, List, [], ◌∷◌, ◌++◌, map, length, get_or, set, Option, refl, sym, ap, ◌∙◌, subst, inl, inr, le_refl, arith}
 use mathlib.Core.Logic.{dite}
 use mathlib.Core.Option.{none, some}
 use native.Mathlib.Decide.{ℕ_discrete}
@@ -23,7 +23,7 @@ use Rattle.flow_law.specs.Seats.{SeatAt}
 use Rattle.flow_law.specs.StateFlow.{StateHistory, state_flow_after, StateFlowReplies, state_flow, state_after_all, IsStateHistory}
 use Rattle.flow_law.proofs.HistoryLemmas.{after_all-snoc, IsHistory-snoc}
 use Rattle.flow_law.proofs.Names.{grew_refl, fits_more, fits_own}
-use Rattle.flow_law.proofs.RealTimeLemmas.{since_seen, since_more, grown_longer, began_since, IsTimed-snoc}
+use Rattle.flow_law.proofs.RealTimeLemmas.{since_seen, since_more, grown_longer, before_own, one_longer, began_since, IsTimed-snoc}
 use Rattle.flow_law.proofs.SeatLemmas.{changed, at_only}
 use Rattle.flow_law.proofs.StateCounts.{IsCounted, is_counted}
 use Rattle.flow_word.specs.declared.view.Known.{Known}
@@ -70,8 +70,8 @@ module _ (T : Type 0) (packs : ℕ → Type 0) (value_of : ℕ → T) (start : S
   began_within s r id v is at = let x = only_in_view v in let f = r.seats.fine id 0 x (found_at s id v is at) in
       since_seen x.began (length x.knows.seen) (length r.history) f.2 (grown_longer x.knows.name x.knows.seen r.history f.0.0)
 
-  in_time : (s : St) (r : Rule s) (id : ℕ) (v : V) (c : StateCall T) (y : StateReply T) → v ≡ only_in_view v ∷ [] → get_elem? s.views id ≡ some v → BeganInTime r.history (event_by (only_in_view v) r.history c y)
-  in_time s r id v c y is at = let x = only_in_view v in let w = began_within s r id v is at in
+  begins_in_time : (s : St) (r : Rule s) (id : ℕ) (v : V) (c : StateCall T) (y : StateReply T) → v ≡ only_in_view v ∷ [] → get_elem? s.views id ≡ some v → BeganInTime r.history (event_by (only_in_view v) r.history c y)
+  begins_in_time s r id v c y is at = let x = only_in_view v in let w = began_within s r id v is at in
       began_since x.knows.name (began_at x.began (length r.history)) (said c y) x.knows.seen r.history (fits_at s r id v is at).0 w.0 w.1
 
   -- a step that is the one event of a call keeps the rule
@@ -82,7 +82,7 @@ module _ (T : Type 0) (packs : ℕ → Type 0) (value_of : ℕ → T) (start : S
   makes_event s r id v c y got words' word' is at replies may ws packed value = record {
     history = h';
     is_history = IsHistory-snoc state_flow (begun value_of start) h e r.is_history replies may;
-    timed = IsTimed-snoc h e r.timed (in_time s r id v c y is at);
+    timed = IsTimed-snoc h e r.timed (begins_in_time s r id v c y is at);
     word = word';
     packed = packed;
     value = value ∙ ap (λ (z : StateFlowState T). z.value) next;
@@ -119,7 +119,7 @@ module _ (T : Type 0) (packs : ℕ → Type 0) (value_of : ℕ → T) (start : S
       others : (i a : ℕ) (z : Known T) → i ≢ id → SeatAt (λ (v : V). v) s.views i a z → IsFine start h' z
       others i a z ne p = let f = r.seats.fine i a z p in
           let xz : IsApartFrom x.knows z.knows = r.seats.apart id 0 i a x z place p (inl (λ q. ne (sym q))) in let zx : IsApartFrom z.knows x.knows = r.seats.apart i a id 0 z x p place (inl ne) in
-          (fits_more h z.knows e xz.0 zx.1 f.0, f.1, since_more z.began (length z.knows.seen) (length h) (length h') (let l = length-append h (e ∷ []) in omega arith) f.2)
+          (fits_more h z.knows e xz.0 zx.1 f.0, f.1, since_more z.began (length z.knows.seen) (length h) (length h') (one_longer h e) f.2)
 
   -- and the step proves that call to its caller
   pub names_event : (s : St) (r : Rule s) (id : ℕ) (v : V) (cs : List (ℕ × Unit {0})) (c : StateCall T) (y : StateReply T) (got : Option LastGot) → v ≡ only_in_view v ∷ [] → get_elem? s.views id ≡ some v
@@ -132,8 +132,8 @@ module _ (T : Type 0) (packs : ℕ → Type 0) (value_of : ℕ → T) (start : S
       history = subst (λ (z : Start). IsStateHistory (begun value_of z) h') (sym (started s r id v is at)) (IsHistory-snoc state_flow (begun value_of start) r.history e r.is_history replies may);
       began = began_at (only_in_view v).began (length r.history);
       grows = (fits.0.0, ap (λ (l : StateHistory T). l ++ e ∷ []) fits.0.1, fits.0.2);
-      in_time = let w = began_within s r id v is at in let l = length-append r.history (e ∷ []) in (w.0, omega (arith, w.1, l));
-      timed = IsTimed-snoc r.history e r.timed (in_time s r id v c y is at);
+      in_time = let w = began_within s r id v is at in (w.0, before_own r.history e (began_at (only_in_view v).began (length r.history)) w.1);
+      timed = IsTimed-snoc r.history e r.timed (begins_in_time s r id v c y is at);
       names = fits_own r.history (only_in_view v).knows (began_at (only_in_view v).began (length r.history)) (said c y) fits;
     },
     refl,

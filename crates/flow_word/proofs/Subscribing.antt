@@ -226,7 +226,7 @@ module _ (T : Type 0) (packs : ℕ → Type 0) (value_of : ℕ → T) (start : S
         makes_event T packs value_of start s r id me.0 c y got (set s.words 1 found) r.word is at replies tt (set-get_or s.words 1 0 ∙ r.words) r.packed r.value,
         ((λ _. names_event T packs value_of start s r id me.0 me.1 c y got is at replies tt), λ less. absurd (omega arith)),
       ))
-      (λ room. (in_call (began_at (only_in_view me.0).began (length r.history)) (only_in_view me.0) ∷ [], keeps, tt, goes_on T packs value_of start s r 1 id me.0 is at, ((λ full. absurd (room full)), λ _. (_, refl, omega arith))))
+      (λ room. (in_call (began_at (only_in_view me.0).began (length r.history)) (only_in_view me.0) ∷ [], keeps, tt, goes_on T packs value_of start s r 1 id me.0 is at, ((λ full. absurd (room full)), λ _. (began_at (only_in_view me.0).began (length r.history), refl, omega arith))))
 
   entered : (f g : StateFlowState T) (old new : ℕ) → IsCounted start.limit f → start.limit < 4294967296 → old ≡ counts f → new ≡ old + 4294967297 → g.issued ≡ f.issued + 1 → length g.subscribers ≡ length f.subscribers + 1 → new ≡ counts g
   entered f g old new h fits is more a b = let d : (f.issued + 1) * 4294967296 ≡ f.issued * 4294967296 + 4294967296 = omega arith in

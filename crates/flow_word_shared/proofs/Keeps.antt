@@ -1,5 +1,5 @@
 -- What keeps the rule of the table. Begin with `event_step` (a step that is the one event of a call) and `quiet_step` (a step of no event).
-use Rattle.std.proofs.Common.{◌≡◌, ◌≢◌, ◌⊎◌, ℕ, zero, suc, ◌+◌, ◌*◌, ◌%◌, ◌<◌, ◌≤◌, List, [], ◌∷◌, ◌++◌, map, length, get_or, set, Option, Some, None, refl, sym, ap, ◌∙◌, subst, inl, ⊎_elim, le_refl, arith, length-append}
+use Rattle.std.proofs.Common.{◌≡◌, ◌≢◌, ◌⊎◌, ℕ, zero, suc, ◌+◌, ◌*◌, ◌%◌, ◌<◌, ◌≤◌, List, [], ◌∷◌, ◌++◌, map, length, get_or, set, Option, Some, None, refl, sym, ap, ◌∙◌, subst, inl, ⊎_elim, le_refl, arith}
 use Rattle.std.specs.List.{slice_get}
 use Rattle.std.proofs.Math.Nat.{mod-lt}
 use Rattle.std.proofs.lemmas.List.{get_or-set_same, get_or-set_other, length-set}
@@ -22,7 +22,7 @@ use Rattle.flow_law.specs.SharedFlow.{values}
 use Rattle.flow_law.specs.SharedHistory.{History, Replies, after, shared_after_all, shared_flow, IsSharedHistory}
 use Rattle.flow_law.proofs.HistoryLemmas.{after_all-snoc, IsHistory-snoc}
 use Rattle.flow_law.proofs.Names.{grew_refl, fits_more, fits_own}
-use Rattle.flow_law.proofs.RealTimeLemmas.{grown_longer, began_now, IsTimed-snoc}
+use Rattle.flow_law.proofs.RealTimeLemmas.{grown_longer, before_own, began_now, IsTimed-snoc}
 use Rattle.flow_law.proofs.SeatLemmas.{changed, at_only}
 use Rattle.flow_word_shared.specs.declared.view.RingKnown.{RingKnown}
 use Rattle.flow_word_shared.specs.declared.view.Hold.{Hold}
@@ -186,7 +186,7 @@ module _ (T : Type 0) (packs : ℕ → Type 0) (value_of : ℕ → T) (start : R
         history = subst (λ (z : RingStart). IsSharedHistory z.config h') (sym (started s r id v is at)) is_history;
         began = length r.history;
         grows = (fits.0.0, ap (λ (l : History T). l ++ e ∷ []) fits.0.1, fits.0.2);
-        in_time = let l = length-append r.history (e ∷ []) in (grown_longer x.knows.name x.knows.seen r.history fits.0, omega arith);
+        in_time = (grown_longer x.knows.name x.knows.seen r.history fits.0, before_own r.history e (length r.history) (le_refl (length r.history)));
         timed = timed;
         names = names;
       },
