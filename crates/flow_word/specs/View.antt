@@ -36,7 +36,6 @@ module _ {T : Type 0} where
   abbrev pub in_call : ℕ → Known T → Known T
   in_call began x = record { knows = x.knows; start = x.start; subscriber = x.subscriber; began = Some began }
 
-
   -- the token, with f applied to what it knows
   abbrev pub with_knows : (StateKnowledge T → StateKnowledge T) → Known T → Known T
   with_knows f x = known (f x.knows) x.start x.subscriber
