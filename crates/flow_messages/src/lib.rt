@@ -6,7 +6,7 @@
 //! messages: the receiver knows what the type of the message says.
 //!
 //! # A meeting afterwards
-//! `set_and_read_apart`: one thread sets a value, another one reads, and they never meet. A third caller that meets both
+//! `set_and_read_apart`: one caller sets a value, another one reads, and they never meet. A third caller that meets both
 //! afterwards concludes that a call which had returned when the other one began came first.
 #![tactic(auto)]
 
@@ -14,6 +14,6 @@ mod apart;
 mod message;
 mod passing;
 
-pub use apart::{Found, set_and_read_apart};
+pub use apart::set_and_read_apart;
 pub use message::{Message, OneFlow};
 pub use passing::{Heard, pass_on};
