@@ -1,11 +1,10 @@
 -- A token that meets two others that made one call each has seen both calls.
-use Rattle.std.proofs.Common.{◌≡◌, ℕ, List, [], ◌∷◌, ◌++◌, length, refl, sym, ap, ◌∙◌, subst, append_assoc}
+use Rattle.std.proofs.Common.{◌≡◌, ℕ, [], ◌∷◌, ◌++◌, length, refl, sym, ap, ◌∙◌, subst, append_assoc}
 use Rattle.flow_law.specs.declared.call.StateCall.TheVariants.{Set, GetValue}
 use Rattle.flow_law.specs.declared.call.StateReply.TheVariants.{Done, Got}
 use Rattle.flow_law.specs.declared.history.HistoryEvent.{HistoryEvent}
 use Rattle.flow_law.specs.declared.states.StateFlowState.{StateFlowState}
-use Rattle.flow_law.specs.Growth.{event}
-use Rattle.flow_law.specs.Promise.{said, Token, CallsIn}
+use Rattle.flow_law.specs.Promise.{Token, CallsIn}
 use Rattle.flow_law.specs.RealTime.{IsAt, InRealTime}
 use Rattle.flow_law.specs.StateFlow.{StateHistory, state_flow}
 use Rattle.flow_law.specs.Tokens.{MeetsIn, HasSeenMore}

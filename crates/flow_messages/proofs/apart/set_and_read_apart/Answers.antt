@@ -1,4 +1,4 @@
-use Rattle.std.proofs.Common.{◌≡◌, ◌∙◌, ap, sym, subst}
+use Rattle.std.proofs.Common.{◌∙◌, ap, sym, subst}
 use Rattle.flow_law.specs.declared.call.StateCall.TheVariants.{Set, GetValue}
 use Rattle.flow_law.specs.declared.call.StateReply.TheVariants.{Done, Got}
 use Rattle.flow_law.specs.Promise.{CallsIn}
