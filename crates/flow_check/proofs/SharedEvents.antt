@@ -40,7 +40,7 @@ pub in_order : (config : Config) (limit : ℕ) (h : History ℕ) → InOrder (sh
 in_order config limit h = always_in_order (record config { limit = limit }) h
 
 abbrev pub told : ℕ → SharedCall ℕ → Reply → HistoryEvent (Said (SharedCall ℕ) Reply)
-told caller c r = event (caller_name caller) (said c r)
+told caller c r = event (caller_name caller) 0 (said c r)
 
 module _ (callers : CallsByCaller SharedEntry) (config : Config) (limit : ℕ) (m : Kept) (k : ℕ) (h : History ℕ) (st : StandsIn callers config limit m k h) where
   abbrev first : SharedFlowState ℕ

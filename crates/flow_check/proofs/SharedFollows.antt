@@ -182,7 +182,7 @@ module _ (callers : CallsByCaller SharedEntry) (config : Config) (limit : ℕ) w
     | inl y ↦
         let op = entry.operation in
         let c = call_of caller y.number op in
-        let e = event (caller_name caller) (said c y.replied) in
+        let e = event (caller_name caller) 0 (said c y.replied) in
         let all = subst (λ (p : History ℕ). IsHistory shared_flow (first_of config limit) (h ++ p)) y.is_event is in
         let before = history_left shared_flow (first_of config limit) h (e ∷ []) all in
         let replies = (legal_right shared_flow (first_of config limit) h (e ∷ []) all.legal).0 in

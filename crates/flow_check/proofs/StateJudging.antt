@@ -122,7 +122,7 @@ module _ (callers : CallsByCaller StateEntry) (initial limit : ℕ) where
       let owners = owners_all state_flow [] h in
       let room : s.issued ≢ s.limit = λ e. absurd (omega arith) in
       let led = leads (length callers) m k s owners st (sound h is) caller near op own.0 own.1 room in
-      let e = event (caller_name caller) (said (state_call_of caller led.0 op) led.1.0) in (
+      let e = event (caller_name caller) 0 (said (state_call_of caller led.0 op) led.1.0) in (
         e ∷ [],
         record { number = led.0; given = own.0; replied = led.1.0; is_recorded = own.2; is_reply = led.1.1; is_event = refl {a = e ∷ []}; may_make = led.1.4 },
         IsHistory-snoc state_flow first h e is led.1.2 led.1.3,
@@ -135,7 +135,7 @@ module _ (callers : CallsByCaller StateEntry) (initial limit : ℕ) where
       let op = entry.operation in
       let s = state_after_all first h in
       let owners = owners_all state_flow [] h in
-      let e = event (caller_name caller) (said (state_call_of caller x.number op) x.replied) in
+      let e = event (caller_name caller) 0 (said (state_call_of caller x.number op) x.replied) in
       let all = subst (λ (p : StateHistory ℕ). IsHistory state_flow first (h ++ p)) x.is_event is in
       let before = history_left state_flow first h (e ∷ []) all in
       let replies = (legal_right state_flow first h (e ∷ []) all.legal).0 in

@@ -86,7 +86,8 @@ MayAddNothing s owners caller entry = by entry.operation
     by _ = ⊥
 
 module _ (first : SharedFlowState ℕ) where
-  -- a part of a recorded call is one event under the caller's name
+  -- a part of a recorded call is one event under the caller's name. Nothing looks at when its call began in the history: the record says
+  -- when it did.
   pub record AddsEvent (h : History ℕ) (caller : ℕ) (entry : SharedEntry) (part : History ℕ) : Type 0 where
     -- the number of the caller's subscription or emission, if the call names one
     pub number : ℕ
@@ -94,7 +95,7 @@ module _ (first : SharedFlowState ℕ) where
     pub replied : SharedReply ℕ
     pub is_recorded : IsRecorded entry.answer given
     pub is_reply : IsRecordedReply number entry.operation given replied
-    pub is_event : part ≡ event (caller_name caller) (said (call_of caller number entry.operation) replied) ∷ []
+    pub is_event : part ≡ event (caller_name caller) 0 (said (call_of caller number entry.operation) replied) ∷ []
     pub may_make : MayMake (shared_after_all first h) (owners_all shared_flow [] h) caller entry.operation
 
   -- a part of a recorded call is one event under the caller's name, or no event

@@ -62,7 +62,7 @@ MayMakeState s owners caller operation.Subscribe = HasNoStateSubscription s owne
 MayMakeState s owners caller _ = Unit {0}
 
 module _ (first : StateFlowState ℕ) where
-  -- a recorded call is one event under the caller's name
+  -- a recorded call is one event under the caller's name. Nothing looks at when its call began in the history: the record says when it did.
   pub record AddsStateEntry (h : StateHistory ℕ) (caller : ℕ) (entry : StateEntry) (part : StateHistory ℕ) : Type 0 where
     -- the number of the caller's subscription, if the call names one
     pub number : ℕ
@@ -70,7 +70,7 @@ module _ (first : StateFlowState ℕ) where
     pub replied : StateReply ℕ
     pub is_recorded : IsStateRecorded entry.answer given
     pub is_reply : reply_of number entry.operation given ≡ Some replied
-    pub is_event : part ≡ event (caller_name caller) (said (state_call_of caller number entry.operation) replied) ∷ []
+    pub is_event : part ≡ event (caller_name caller) 0 (said (state_call_of caller number entry.operation) replied) ∷ []
     pub may_make : MayMakeState (state_after_all first h) (owners_all state_flow [] h) caller entry.operation
 
 -- a legal and owned history of some state flow with this initial value, with the flow's own numbers, explains the calls

@@ -12,12 +12,14 @@ use Rattle.atomic_table.proofs.Lists.{at_set, set_again, set_here, set_else, at_
 use Rattle.flow_law.specs.declared.history.HistoryEvent.{HistoryEvent}
 use Rattle.flow_law.specs.declared.history.Knowledge.{Knowledge}
 use Rattle.flow_gate.specs.declared.view.SeatView.{SeatView}
-use Rattle.flow_law.specs.Growth.{IsApartFrom, Fits, NamesOnlyMade, events_of}
+use Rattle.flow_law.specs.Growth.{IsApartFrom, Fits, NamesOnlyMade, after_events}
+use Rattle.flow_law.specs.RealTime.{IsTimed}
 use Rattle.flow_gate.specs.View.{seat_view}
 use Rattle.flow_gate.specs.Rule.{GateHolds, KnownAt, IsHeld}
 use Rattle.flow_law.specs.Growth.{sees, loses, adds, makes, child}
 use Rattle.flow_gate.specs.Steps.{stands_from, entered, observed, looked, left, first_known, others_known}
-use Rattle.flow_law.proofs.Names.{every_map, grew_refl, fits_more, fits_own, makes_fits, child_fits, child_apart, apart_child, makes_child, child_makes}
+use Rattle.flow_law.proofs.Names.{every_map, grew_refl, fits_more_all, names_own_all, makes_fits, child_fits, child_apart, apart_child, makes_child, child_makes}
+use Rattle.flow_law.proofs.RealTimeLemmas.{IsTimed-events}
 use Rattle.flow_law.proofs.SeatLemmas.{Joined, joined_once, Parted, parted_once}
 use Rattle.flow_gate.proofs.Places.{at_only, at_two, at_none, at_inside, at_end, every_at, of_map, known_set, known_end, AllApart, apart_from}
 
@@ -76,6 +78,7 @@ module _ {S E : Type 0} (stands : S → List (HistoryEvent E) → Type 0) where
       → Rule (stepped s 0 (word s) id cs w keeps)
   unmoved s r id v w cs at idle off fits apart = subst (λ (ws : List ℕ). Rule record { words = ws; homes = s.homes; views = set s.views id w }) (sym (set-get_or s.words 0 0)) record {
     history = r.history;
+    timed = r.timed;
     wide = r.wide;
     sound = r.sound;
     free = r.free;
@@ -100,7 +103,7 @@ module _ {S E : Type 0} (stands : S → List (HistoryEvent E) → Type 0) where
     tt,
     unmoved s r id v w me.1 at off off (changed_fits r.history (sees r.history) (sees_fits r.history) s.views id v v.holds at r.fits)
         (changed_apart (sees r.history) (λ _. refl) (λ u. le_refl u.made) s.views id v v.holds at r.apart),
-    (r.history, x.0, x.1, all_fit s r id v at, refl),
+    (r.history, x.0, x.1, all_fit s r id v at, refl, r.timed),
   )
 
   -- a step that changes nothing
@@ -110,7 +113,7 @@ module _ {S E : Type 0} (stands : S → List (HistoryEvent E) → Type 0) where
     keeps,
     tt,
     subst Rule (λ k. record { words = sym (set-get_or s.words 0 0) k; homes = s.homes; views = sym (set_again s.views id me.0 at) k }) r,
-    (r.history, x.0, x.1, all_fit s r id me.0 at, refl),
+    (r.history, x.0, x.1, all_fit s r id me.0 at, refl, r.timed),
   )
 
   pub enters : (slots id : ℕ) (t : Knowledge E) (me : Me S (SeatView E)) → me.0 ≡ seat_view (t ∷ []) false → Allows Rule slots id me 0 (λ n. either (eqb n 0) 1 n) (entered stands (step slots 0 0 1 none) me)
@@ -125,6 +128,7 @@ module _ {S E : Type 0} (stands : S → List (HistoryEvent E) → Type 0) where
         x.1,
         subst (λ b. Rule (stepped s 0 (either b 1 n) id me.1 w (takes 0 x.0))) (sym (eq-eqb n 0 hit)) record {
           history = r.history;
+          timed = r.timed;
           wide = length-set s.words 0 1 ∙ wide;
           sound = r.sound;
           free = λ e. absurd (omega arith);
@@ -136,7 +140,7 @@ module _ {S E : Type 0} (stands : S → List (HistoryEvent E) → Type 0) where
           fits = changed_fits r.history (sees r.history) (sees_fits r.history) s.views id v true at r.fits;
           apart = changed_apart (sees r.history) (λ _. refl) (λ u. le_refl u.made) s.views id v true at r.apart;
         },
-        ((λ _. (r.history, x.0, x.2, all_fit s r id v at, refl)), λ not. absurd (not hit)),
+        ((λ _. (r.history, x.0, x.2, all_fit s r id v at, refl, r.timed)), λ not. absurd (not hit)),
       ))
       (λ miss. let w : SeatView E = seat_view (map loses v.known) false in (
         w,
@@ -148,18 +152,18 @@ module _ {S E : Type 0} (stands : S → List (HistoryEvent E) → Type 0) where
         ((λ hit. absurd (miss hit)), λ _. refl),
       ))
 
-  pub leaves : (slots id : ℕ) (t : Knowledge E) (x : S) (w : List E) (me : Me S (SeatView E)) → slots ≡ 1 → me ≡ (seat_view (t ∷ []) true, (0, x) ∷ []) → stands x (t.seen ++ events_of t.name w)
+  pub leaves : (slots id : ℕ) (t : Knowledge E) (x : S) (w : List E) (me : Me S (SeatView E)) → slots ≡ 1 → me ≡ (seat_view (t ∷ []) true, (0, x) ∷ []) → stands x (after_events t.name w t.seen)
       → Allows Rule slots id me 0 (λ _. 0) (λ _. left w (step slots 0 0 0 none) me 0)
   leaves slots id t x w me one is fine = subst (λ (m : Me S (SeatView E)). Allows Rule slots id m 0 (λ _. 0) (λ _. left w (step slots 0 0 0 none) m 0)) (sym is) (λ s r long at _.
       let v : SeatView E = seat_view (t ∷ []) true in let v' : SeatView E = seat_view (adds w t ∷ []) false in let wide = r.wide in
       let seen : t.seen ≡ r.history = (r.holder id v at refl).0 in
-      let log : List (HistoryEvent E) = t.seen ++ events_of t.name w in
-      let same : r.history ++ events_of t.name w ≡ log = ap (λ l. l ++ events_of t.name w) (sym seen) in
+      let log : List (HistoryEvent E) = after_events t.name w t.seen in
+      let same : after_events t.name w r.history ≡ log = ap (after_events t.name w) (sym seen) in
       let mine : KnownAt s.views id 0 t = (v, at, refl) in
       let others : (i a : ℕ) (u : Knowledge E) → i ≢ id → KnownAt s.views i a u → Fits log u = λ i a u ne p.
       let tu : IsApartFrom t u = r.apart id 0 i a t u mine p (inl (λ e. ne (sym e))) in let ut : IsApartFrom u t = r.apart i a id 0 u t p mine (inl ne) in
-      subst (λ l. Fits l u) same (fits_more r.history u t.name w tu.0 ut.1 (r.fits i a u p)) in
-      let own : Fits log (adds w t) = (grew_refl t.name log, subst (NamesOnlyMade t.name t.made) same (fits_own r.history t w (r.fits id 0 t mine))) in
+      subst (λ l. Fits l u) same (fits_more_all t.name w r.history u tu.0 ut.1 (r.fits i a u p)) in
+      let own : Fits log (adds w t) = (grew_refl t.name log, subst (NamesOnlyMade t.name t.made) same (names_own_all t.name t.made w r.history (r.fits id 0 t mine).1)) in
       let free : get_elem? (set s.homes 0 (some x)) 0 ≡ some (some x) = set_here s.homes 0 (some x) (omega arith) in
       let none_in : (i : ℕ) (y : SeatView E) → get_elem? (set s.views id v') i ≡ some y → y.holds ≡ true → ⊥ =
       λ i y p on. ⊎_elim (λ (h : (i ≡ id) × (v' ≡ y)). true≢false (sym on ∙ ap (λ (z : SeatView E). z.holds) (sym h.1)))
@@ -169,6 +173,7 @@ module _ {S E : Type 0} (stands : S → List (HistoryEvent E) → Type 0) where
         tt,
         record {
           history = log;
+          timed = subst IsTimed same (IsTimed-events t.name w r.history r.timed);
           wide = length-set s.words 0 0 ∙ wide;
           sound = (x, fine);
           free = λ _. (x, free, fine);
@@ -188,6 +193,7 @@ module _ {S E : Type 0} (stands : S → List (HistoryEvent E) → Type 0) where
       → (IsHeld s.views → IsHeld views) → ((i a : ℕ) (t : Knowledge E) → KnownAt views i a t → Fits r.history t) → AllApart views → Rule record { words = s.words; homes = s.homes; views = views }
   reseated s r views old still fits apart = record {
     history = r.history;
+    timed = r.timed;
     wide = r.wide;
     sound = r.sound;
     free = r.free;

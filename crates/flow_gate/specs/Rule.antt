@@ -8,6 +8,7 @@ use Rattle.atomic_table.specs.Table.{State}
 use Rattle.flow_law.specs.declared.history.HistoryEvent.{HistoryEvent}
 use Rattle.flow_law.specs.declared.history.Knowledge.{Knowledge}
 use Rattle.flow_law.specs.Growth.{Fits, IsApartFrom}
+use Rattle.flow_law.specs.RealTime.{IsTimed}
 use Rattle.flow_gate.specs.declared.view.SeatView.{SeatView}
 use Rattle.flow_gate.specs.View.{seat_view}
 
@@ -22,6 +23,8 @@ IsHeld {E} views = (i : ℕ) × (k : Knowledge E) × (get_elem? views i ≡ some
 pub record GateHolds {S E : Type 0} (stands : S → List (HistoryEvent E) → Type 0) (s : State S (SeatView E)) : Type 0 where
   -- the one history of the gate
   pub history : List (HistoryEvent E)
+  -- each of its calls began before its event, and after its caller's last event
+  pub timed : IsTimed history
   pub wide : length s.words ≡ 1
   -- some state stood for the history, also while the gate is taken
   pub sound : (state : S) × stands state history

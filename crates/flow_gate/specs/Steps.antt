@@ -5,6 +5,7 @@ use Rattle.atomic_table.specs.Table.{Me, Step, rest}
 use Rattle.flow_law.specs.declared.history.HistoryEvent.{HistoryEvent}
 use Rattle.flow_law.specs.declared.history.Knowledge.{Knowledge}
 use Rattle.flow_law.specs.Growth.{Fits, sees, loses, adds}
+use Rattle.flow_law.specs.RealTime.{IsTimed}
 use Rattle.flow_gate.specs.declared.view.SeatView.{SeatView}
 use Rattle.flow_gate.specs.View.{seat_view}
 
@@ -36,7 +37,7 @@ module _ {E : Type 0} where
     entered step before found after =
         (found ≡ 0 → (history : List (HistoryEvent E)) × (state : S) × stands state history
         × AllByRecursion (Fits history) before.0.known
-        × (after ≡ (seat_view (map (sees history) before.0.known) true, (0, state) ∷ before.1)))
+        × (after ≡ (seat_view (map (sees history) before.0.known) true, (0, state) ∷ before.1)) × IsTimed history)
         × (found ≢ 0 → after ≡ (seat_view (map loses before.0.known) false, before.1))
 
     -- the seat has seen the history so far, and some state stands for it
@@ -44,13 +45,13 @@ module _ {E : Type 0} where
     observed step before found after =
         (history : List (HistoryEvent E)) × (state : S) × stands state history
         × AllByRecursion (Fits history) before.0.known
-        × (after ≡ (seat_view (map (sees history) before.0.known) before.0.holds, before.1))
+        × (after ≡ (seat_view (map (sees history) before.0.known) before.0.holds, before.1)) × IsTimed history
 
     -- nothing has changed, and some state stands for the history so far
     abbrev pub looked : Step S → Pass → ℕ → Pass → Type 0
     looked step before found after =
         (history : List (HistoryEvent E)) × (state : S) × stands state history
-        × AllByRecursion (Fits history) before.0.known × (after ≡ before)
+        × AllByRecursion (Fits history) before.0.known × (after ≡ before) × IsTimed history
 
   -- the seat no longer holds the state, and has seen the events that it added
   abbrev pub left : {S : Type 0} → List E → Step S → Me S (SeatView E) → ℕ → Me S (SeatView E) → Type 0

@@ -1,10 +1,11 @@
 -- What contracts see of a gate and of its seats.
 -- Begin with `SeatState`, and with `Finds`: what a caller that enters finds.
-use Rattle.std.specs.Prelude.{◌≡◌, List, ◌++◌, Option, Some, None}
+use Rattle.std.specs.Prelude.{◌≡◌, List, Option, Some, None}
 use Rattle.atomic_table.specs.Seated.{TableId}
 use Rattle.flow_law.specs.declared.history.HistoryEvent.{HistoryEvent}
-use Rattle.flow_law.specs.Growth.{Fits, events_of, knowledge, sees}
+use Rattle.flow_law.specs.Growth.{Fits, after_events, knowledge, sees}
 use Rattle.flow_law.specs.Promise.{Token}
+use Rattle.flow_law.specs.RealTime.{IsTimed}
 use Rattle.flow_law.specs.Tokens.{Origin, knowing, Begins}
 
 -- the token of a seat: its gate, and what it knows
@@ -49,6 +50,8 @@ module _ {S E : Type 0} (stands : S → S → List (HistoryEvent E) → Type 0) 
     pub state : S
     pub stood : stands gate.first state history
     pub fits : Fits history before.knows
+    -- each call of the history began before its event, and after its caller's last event
+    pub timed : IsTimed history
     pub held : after.held ≡ Some state
     pub token : after.token ≡ knowing before
         (knowledge before.knows.name before.knows.made after.token.knows.lost history)
@@ -60,12 +63,13 @@ module _ {S E : Type 0} (stands : S → S → List (HistoryEvent E) → Type 0) 
   -- the seat holds a state that stands for what its token has seen, followed by these events under its name
   abbrev pub StandsWith : SeatState S E → List E → Type 0
   StandsWith seat added = (state : S) × (seat.held ≡ Some state)
-      × stands gate.first state (seat.token.knows.seen ++ events_of seat.token.knows.name added)
+      × stands gate.first state (after_events seat.token.knows.name added seat.token.knows.seen)
 
   -- Two tokens meet: both have then seen one history, for which some state stood, and which fits what each had seen.
   pub record MeetsAtGate (one other one_after other_after : GateToken E) : Type 0 where
     pub history : List (HistoryEvent E)
     pub stood : (state : S) × stands gate.first state history
+    pub timed : IsTimed history
     pub fits_one : Fits history one.knows
     pub fits_other : Fits history other.knows
     pub sees_one : one_after ≡ knowing one (sees history one.knows)
@@ -76,9 +80,10 @@ module _ {S E : Type 0} (stands : S → S → List (HistoryEvent E) → Type 0) 
   StandsForSome state = (history : List (HistoryEvent E)) × stands gate.first state history
 
   -- the state stands for a history: what the token has seen, followed by events of other callers, within the token's
-  -- rule of names
+  -- rule of names, whose calls began in time
   abbrev pub StandsAfter : GateToken E → S → Type 0
-  StandsAfter t state = (history : List (HistoryEvent E)) × stands gate.first state history × Fits history t.knows
+  StandsAfter t state =
+      (history : List (HistoryEvent E)) × stands gate.first state history × Fits history t.knows × IsTimed history
 
   -- some state satisfies `StandsAfter`
   abbrev pub HasStood : GateToken E → Type 0

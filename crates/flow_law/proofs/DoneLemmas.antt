@@ -67,8 +67,8 @@ module _ {E : Type 0} where
   said_by_silent k [] a = refl
   said_by_silent k (e ∷ es) a = said_by_no k e es (same_not k e.name (λ (p : k ≡ e.name). a.0 (sym p))) ∙ said_by_silent k es a.1
 
-  pub said_by_one : (k : List ℕ) (x : E) → said_by k (event k x ∷ []) ≡ x ∷ []
-  said_by_one k x = said_by_yes k (event k x) [] (same_refl k)
+  pub said_by_one : (k : List ℕ) (began : ℕ) (x : E) → said_by k (event k began x ∷ []) ≡ x ∷ []
+  said_by_one k began x = said_by_yes k (event k began x) [] (same_refl k)
 
   -- events of others add nothing
   pub said_by_others : (k : List ℕ) (h more : List (HistoryEvent E)) → IsSilent k more → said_by k (h ++ more) ≡ said_by k h
@@ -150,7 +150,7 @@ module _ {C R : Type 0} where
       let g = a.grows in let k = before.name in record {
         name = a.name;
         made = a.made;
-        grows = (g.0 ++ event k (said c r) ∷ [], g.1 ∙ append_assoc before.seen g.0 (event k (said c r) ∷ []));
-        done = ap (λ (n : List ℕ). said_by n after.seen) a.name ∙ ap (said_by k) g.1 ∙ said_by-append k (before.seen ++ g.0) (event k (said c r) ∷ [])
-            ∙ ap (λ l. l ++ said_by k (event k (said c r) ∷ [])) (said_by_others k before.seen g.0 g.2) ∙ ap (λ l. done_by before ++ l) (said_by_one k (said c r));
+        grows = (g.0 ++ event k a.began (said c r) ∷ [], g.1 ∙ append_assoc before.seen g.0 (event k a.began (said c r) ∷ []));
+        done = ap (λ (n : List ℕ). said_by n after.seen) a.name ∙ ap (said_by k) g.1 ∙ said_by-append k (before.seen ++ g.0) (event k a.began (said c r) ∷ [])
+            ∙ ap (λ l. l ++ said_by k (event k a.began (said c r) ∷ [])) (said_by_others k before.seen g.0 g.2) ∙ ap (λ l. done_by before ++ l) (said_by_one k a.began (said c r));
       }

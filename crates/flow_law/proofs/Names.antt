@@ -4,7 +4,7 @@ use Rattle.std.proofs.lemmas.List.{append_cancel_left}
 use Rattle.std.specs.List.{AllByRecursion}
 use Rattle.flow_law.specs.declared.history.HistoryEvent.{HistoryEvent}
 use Rattle.flow_law.specs.declared.history.Knowledge.{Knowledge}
-use Rattle.flow_law.specs.Growth.{IsMadeBy, GrowsByOthers, NamesOnlyMade, Fits, IsApartFrom, event, events_of}
+use Rattle.flow_law.specs.Growth.{IsMadeBy, GrowsByOthers, NamesOnlyMade, Fits, IsApartFrom, event, after_events}
 use Rattle.flow_law.specs.Growth.{makes, child}
 
 module _ {X : Type 0} where
@@ -52,17 +52,29 @@ module _ {E : Type 0} where
   pub grew_more : (k : List ℕ) (h h' more : List (HistoryEvent E)) → GrowsByOthers k h h' → AllByRecursion (λ e. e.name ≢ k) more → GrowsByOthers k h (h' ++ more)
   grew_more k h h' more g a = (g.0 ++ more, ap (λ l. l ++ more) g.1 ∙ append_assoc h g.0 more, every_append (λ e. e.name ≢ k) g.0 more g.2 a)
 
-  -- a history still fits what a seat knows after another seat, named n, adds events
-  pub fits_more : (log : List (HistoryEvent E)) (t : Knowledge E) (n : List ℕ) (w : List E) → n ≢ t.name → IsMadeBy t.name t.made n → Fits log t → Fits (log ++ events_of n w) t
-  fits_more log t n w other num f = (
-    grew_more t.name t.seen log (events_of n w) f.0 (every_map (λ (e : HistoryEvent E). e.name ≢ t.name) (event n) (λ _. other) w),
-    every_append (λ e. IsMadeBy t.name t.made e.name) log (events_of n w) f.1 (every_map (λ (e : HistoryEvent E). IsMadeBy t.name t.made e.name) (event n) (λ _. num) w),
+  -- a history still fits what a seat knows after another seat adds an event
+  pub fits_more : (log : List (HistoryEvent E)) (t : Knowledge E) (e : HistoryEvent E) → e.name ≢ t.name → IsMadeBy t.name t.made e.name → Fits log t → Fits (log ++ e ∷ []) t
+  fits_more log t e other num f = (
+    grew_more t.name t.seen log (e ∷ []) f.0 (other, tt),
+    every_append (λ e. IsMadeBy t.name t.made e.name) log (e ∷ []) f.1 (num, tt),
   )
 
-  -- the seat that adds them has seen them
-  pub fits_own : (log : List (HistoryEvent E)) (t : Knowledge E) (w : List E) → Fits log t → NamesOnlyMade t.name t.made (log ++ events_of t.name w)
-  fits_own log t w f = every_append (λ e. IsMadeBy t.name t.made e.name) log (events_of t.name w) f.1
-      (every_map (λ (e : HistoryEvent E). IsMadeBy t.name t.made e.name) (event t.name) (λ _. numbered_self t.name t.made) w)
+  -- an event of its own keeps the seat's rule of names
+  pub names_own : (log : List (HistoryEvent E)) (name : List ℕ) (made began : ℕ) (what : E) → NamesOnlyMade name made log → NamesOnlyMade name made (log ++ event name began what ∷ [])
+  names_own log name made began what all = every_append (λ e. IsMadeBy name made e.name) log (event name began what ∷ []) all (numbered_self name made, tt)
+
+  -- the seat that adds it has seen it
+  pub fits_own : (log : List (HistoryEvent E)) (t : Knowledge E) (began : ℕ) (what : E) → Fits log t → NamesOnlyMade t.name t.made (log ++ event t.name began what ∷ [])
+  fits_own log t began what f = names_own log t.name t.made began what f.1
+
+  -- the same of several events
+  pub fits_more_all : (n : List ℕ) (w : List E) (log : List (HistoryEvent E)) (t : Knowledge E) → n ≢ t.name → IsMadeBy t.name t.made n → Fits log t → Fits (after_events n w log) t
+  fits_more_all n [] log t other num f = f
+  fits_more_all n (x ∷ xs) log t other num f = fits_more_all n xs (log ++ event n (length log) x ∷ []) t other num (fits_more log t (event n (length log) x) other num f)
+
+  pub names_own_all : (name : List ℕ) (made : ℕ) (w : List E) (log : List (HistoryEvent E)) → NamesOnlyMade name made log → NamesOnlyMade name made (after_events name w log)
+  names_own_all name made [] log all = all
+  names_own_all name made (x ∷ xs) log all = names_own_all name made xs (log ++ event name (length log) x ∷ []) (names_own log name made (length log) x all)
 
   module _ (s : Knowledge E) where
     abbrev k : List ℕ

@@ -17,7 +17,7 @@ abbrev bufferless : Config
 bufferless = record { replay = 0; extra = 0; overflow = Suspend; limit = 1000 }
 
 abbrev by : List ℕ → SharedCall ℕ → SharedReply ℕ → HistoryEvent (Said (SharedCall ℕ) (SharedReply ℕ))
-by name c r = record { name = name; what = record { call = c; reply = r } }
+by name c r = record { name = name; began = 0; what = record { call = c; reply = r } }
 
 -- the first seat subscribes, which gives 1 to the subscription's seat, and emits, which gives 2 to itself
 abbrev before : History ℕ → History ℕ

@@ -50,7 +50,7 @@ module _ {Id T S C R : Type 0} (kind : Kind T S C R) (first : S) where
 
   -- the two may be named in either order
   pub meets_turned : (one t one' t' : Token Id (Said C R)) → MeetsIn kind first one t one' t' → MeetsIn kind first t one t' one'
-  meets_turned one t one' t' m = record { history = m.history; is_history = m.is_history; fits_one = m.fits_other; fits_other = m.fits_one; sees_one = m.sees_other; sees_other = m.sees_one }
+  meets_turned one t one' t' m = record { history = m.history; is_history = m.is_history; timed = m.timed; fits_one = m.fits_other; fits_other = m.fits_one; sees_one = m.sees_other; sees_other = m.sees_one }
 
   pub meets_later : (start a b : Knowledge (Said C R)) (t t' : Token Id (Said C R)) → MeetsInTurn kind first start a t t' → Extends a.seen b.seen → MeetsInTurn kind first start b t t'
   meets_later start a b t t' m x = record { only_meets = m.only_meets; history = m.history; names = m.names; since = m.since; into = extends_trans t'.knows.seen a.seen b.seen m.into x }
@@ -125,14 +125,14 @@ module _ {Id T S C R : Type 0} (kind : Kind T S C R) (first : S) where
       let g = called.1.grows in let h = met.knows.seen ++ g.0 in
       accounts_before h one.knows met.knows s.1 record {
         done = said_by_others met.knows.name met.knows.seen g.0 g.2;
-        names = names_left met.knows.name met.knows.made h read.knows.seen (event met.knows.name (said c r) ∷ [], g.1)
+        names = names_left met.knows.name met.knows.made h read.knows.seen (event met.knows.name called.1.began (said c r) ∷ [], g.1)
             (subst (λ (n : List ℕ). NamesOnlyMade n met.knows.made read.knows.seen) called.1.name (subst (λ (m : ℕ). NamesOnlyMade read.knows.name m read.knows.seen) called.1.made called.1.names));
       }
 
   -- it is a history of the flow, and the call's reply is the flow's after it
   pub before_call : (met read : Token Id (Said C R)) (c : C) (r : R) → (called : CallsIn kind first met c r read) → IsHistory kind first (met.knows.seen ++ called.1.grows.0) × kind.Replies (after_all kind first (met.knows.seen ++ called.1.grows.0)) c r
   before_call met read c r called =
-      let g = called.1.grows in let h = met.knows.seen ++ g.0 in let last = event met.knows.name (said c r) ∷ [] in
+      let g = called.1.grows in let h = met.knows.seen ++ g.0 in let last = event met.knows.name called.1.began (said c r) ∷ [] in
       let whole : IsHistory kind first (h ++ last) = subst (IsHistory kind first) g.1 called.1.history in
       (history_left kind first h last whole, (legal_right kind first h last whole.legal).0)
 
@@ -145,7 +145,7 @@ module _ {Id T S C R : Type 0} (kind : Kind T S C R) (first : S) where
   accounts_around seat o p q r met read c a xs ys zs called x y m n =
       let g = called.1.grows in let h = met.knows.seen ++ g.0 in
       accounts_all kind first seat h o p q r xs ys zs (extends_trans p.seen met.knows.seen h x (g.0, refl))
-      (extends_trans h read.knows.seen q.seen (event met.knows.name (said c a) ∷ [], g.1) y) m n
+      (extends_trans h read.knows.seen q.seen (event met.knows.name called.1.began (said c a) ∷ [], g.1) y) m n
 
   -- two lists of tokens, which both were met before the call and after it
   pub closed_around : {V W : Type 0} (seat : V → Token Id (Said C R)) (place : W → Token Id (Said C R)) (one mid met read next end : Token Id (Said C R)) (c : C) (a : R) (xs ys zs : List V) (us vs ws : List W)

@@ -12,7 +12,7 @@ use Rattle.flow_law.specs.declared.call.StateReply.TheVariants.{Done, Got, Answe
 use Rattle.flow_law.specs.StateFlow.{StateHistory, first_state_flow, IsLegalState}
 
 abbrev pub event : StateCall ℕ → StateReply ℕ → HistoryEvent (Said (StateCall ℕ) (StateReply ℕ))
-event call reply = record { name = []; what = record { call = call; reply = reply } }
+event call reply = record { name = []; began = 0; what = record { call = call; reply = reply } }
 
 abbrev state_run : StateHistory ℕ
 state_run =

@@ -28,11 +28,11 @@ module _ {T S C R : Type 0} (kind : Kind T S C R) (law : Lawful kind) where
   )
 
   -- the same after the token's own `next`
-  pub subscription_next : (first : S) (name : List ℕ) (u : ℕ) (h : Log) (r : R) → IsHistory kind first (h ++ event name (said (kind.take_next u) r) ∷ [])
+  pub subscription_next : (first : S) (name : List ℕ) (began u : ℕ) (h : Log) (r : R) → IsHistory kind first (h ++ event name began (said (kind.take_next u) r) ∷ [])
       → IsGiven kind name (subscriber u) h → IsSubscribed kind u h
-      → IsGiven kind name (subscriber u) (h ++ event name (said (kind.take_next u) r) ∷ []) × IsSubscribed kind u (h ++ event name (said (kind.take_next u) r) ∷ [])
-  subscription_next first name u h r is given there =
-      let last : HistoryEvent (Said C R) = event name (said (kind.take_next u) r) in (
+      → IsGiven kind name (subscriber u) (h ++ event name began (said (kind.take_next u) r) ∷ []) × IsSubscribed kind u (h ++ event name began (said (kind.take_next u) r) ∷ [])
+  subscription_next first name began u h r is given there =
+      let last : HistoryEvent (Said C R) = event name began (said (kind.take_next u) r) in (
         given_stays kind law first h (last ∷ []) (subscriber u) name is.legal given,
         λ other l.
             subst (kind.HasSubscriber u) (sym (after_all-snoc kind other h last))
@@ -40,10 +40,10 @@ module _ {T S C R : Type 0} (kind : Kind T S C R) (law : Lawful kind) where
       )
 
   -- of a subscription, the name has the number, and the number is a subscriber's
-  pub subscription_given : (subscribe : List ℕ → C) → Subscribing kind subscribe → (h : Log) (by name : List ℕ) (u : ℕ)
-      → IsGiven kind name (subscriber u) (h ++ event by (said (subscribe name) (kind.subscribed u)) ∷ []) × IsSubscribed kind u (h ++ event by (said (subscribe name) (kind.subscribed u)) ∷ [])
-  subscription_given subscribe subscribing h by name u =
-      let last : HistoryEvent (Said C R) = event by (said (subscribe name) (kind.subscribed u)) in (
+  pub subscription_given : (subscribe : List ℕ → C) → Subscribing kind subscribe → (h : Log) (by name : List ℕ) (began u : ℕ)
+      → IsGiven kind name (subscriber u) (h ++ event by began (said (subscribe name) (kind.subscribed u)) ∷ []) × IsSubscribed kind u (h ++ event by began (said (subscribe name) (kind.subscribed u)) ∷ [])
+  subscription_given subscribe subscribing h by name began u =
+      let last : HistoryEvent (Said C R) = event by began (said (subscribe name) (kind.subscribed u)) in (
         last_given kind h last (record { number = subscriber u; name = name }) (subscribing.gives by name u),
         λ other l.
             subst (kind.HasSubscriber u) (sym (after_all-snoc kind other h last))

@@ -19,11 +19,11 @@ use Rattle.flow_law.proofs.Subscriptions.{given_grows, subscription_grows, subsc
 
 -- one call of a core that stands for a history
 module _ {K T S C R : Type 0} (kind : Kind T S C R) (StandsAs : K → S → Type 0) where
-  pub stands_next : (first : S) (x y : K) (h : List (HistoryEvent (Said C R))) (name : List ℕ) (c : C) (r : R) → StandsForHistory kind StandsAs first x h → Documents kind StandsAs x c r y → MayCall kind c name h
-      → StandsForHistory kind StandsAs first y (h ++ event name (said c r) ∷ [])
-  stands_next first x y h name c r stood documents may = let step = documents (after_all kind first h) stood.1 in (
-    IsHistory-snoc kind first h (event name (said c r)) stood.0 step.0 may,
-    subst (StandsAs y) (sym (after_all-snoc kind first h (event name (said c r)))) step.1,
+  pub stands_next : (first : S) (x y : K) (h : List (HistoryEvent (Said C R))) (name : List ℕ) (began : ℕ) (c : C) (r : R) → StandsForHistory kind StandsAs first x h → Documents kind StandsAs x c r y → MayCall kind c name h
+      → StandsForHistory kind StandsAs first y (h ++ event name began (said c r) ∷ [])
+  stands_next first x y h name began c r stood documents may = let step = documents (after_all kind first h) stood.1 in (
+    IsHistory-snoc kind first h (event name began (said c r)) stood.0 step.0 may,
+    subst (StandsAs y) (sym (after_all-snoc kind first h (event name began (said c r)))) step.1,
   )
 
 module _ {T S C R : Type 0} (kind : Kind T S C R) (law : Lawful kind) where
@@ -51,15 +51,15 @@ module _ {T S C R : Type 0} (kind : Kind T S C R) (law : Lawful kind) where
     abbrev earlier : List (HistoryEvent (Said C R))
     earlier = before.seen ++ a.grows.0
 
-    whole : IsHistory kind first (earlier ++ event before.name (said c r) ∷ [])
+    whole : IsHistory kind first (earlier ++ event before.name a.began (said c r) ∷ [])
     whole = subst (IsHistory kind first) a.grows.1 a.history
 
     is_earlier : IsHistory kind first earlier
-    is_earlier = history_left kind first earlier (event before.name (said c r) ∷ []) whole
+    is_earlier = history_left kind first earlier (event before.name a.began (said c r) ∷ []) whole
 
     -- the reply is the flow's, in the state before it
     replies : kind.Replies (after_all kind first earlier) c r
-    replies = (legal_right kind first earlier (event before.name (said c r) ∷ []) whole.legal).0
+    replies = (legal_right kind first earlier (event before.name a.began (said c r) ∷ []) whole.legal).0
 
     -- some state in which the flow replies so
     pub replied_in : (s : S) × kind.Replies s c r
@@ -70,14 +70,14 @@ module _ {T S C R : Type 0} (kind : Kind T S C R) (law : Lawful kind) where
 
     -- the event gave a number
     pub given_by : (o : Owner) → kind.gives before.name c r ≡ Some o → IsGiven kind o.name o.number after.seen
-    given_by o gives = subst (IsGiven kind o.name o.number) (sym a.grows.1) (last_given kind earlier (event before.name (said c r)) o gives)
+    given_by o gives = subst (IsGiven kind o.name o.number) (sym a.grows.1) (last_given kind earlier (event before.name a.began (said c r)) o gives)
 
     -- a number stays the token's
     pub given_after : (number : Number) → IsGiven kind before.name number before.seen → IsGiven kind after.name number after.seen
     given_after number given =
         let now : IsGiven kind before.name number earlier = given_grows kind law first before.name number before.seen earlier is_earlier (a.grows.0, refl, a.grows.2) given in
         subst (λ (z : List ℕ × List (HistoryEvent (Said C R))). IsGiven kind z.0 number z.1) (λ i. (sym a.name i, sym a.grows.1 i))
-        (given_stays kind law first earlier (event before.name (said c r) ∷ []) number before.name whole.legal now)
+        (given_stays kind law first earlier (event before.name a.began (said c r) ∷ []) number before.name whole.legal now)
 
     there : (u : ℕ) → IsSubscription kind before u → kind.HasSubscriber u (after_all kind first earlier)
     there u old = (still u old).1 first is_earlier.legal
@@ -85,7 +85,7 @@ module _ {T S C R : Type 0} (kind : Kind T S C R) (law : Lawful kind) where
   pub subscription_after_next : (first : S) (before after : Knowledge (Said C R)) (u : ℕ) (r : R) → AddsOne (IsHistory kind first) before (kind.take_next u) r after → IsSubscription kind before u → IsSubscription kind after u
   subscription_after_next first before after u r a old =
       let now = still first before after (kind.take_next u) r a u old in
-      let grown = subscription_next kind law first before.name u (earlier first before after (kind.take_next u) r a) r (whole first before after (kind.take_next u) r a) now.0 now.1 in
+      let grown = subscription_next kind law first before.name a.began u (earlier first before after (kind.take_next u) r a) r (whole first before after (kind.take_next u) r a) now.0 now.1 in
       subst (λ (z : List ℕ × List (HistoryEvent (Said C R))). IsGiven kind z.0 (subscriber u) z.1 × IsSubscribed kind u z.1) (λ i. (sym a.name i, sym a.grows.1 i)) grown
 
   -- `next` of a subscription never replies Gone
@@ -116,7 +116,7 @@ module _ {T S C R : Type 0} (kind : Kind T S C R) (law : Lawful kind) where
       → IsSubscription kind (child between) u
   subscription_made subscribe subscribing first before between u a =
       let name = child_name before.name (before.made + 1) in
-      let given = subscription_given kind law subscribe subscribing (before.seen ++ a.grows.0) before.name name u in
+      let given = subscription_given kind law subscribe subscribing (before.seen ++ a.grows.0) before.name name a.began u in
       subst (λ (z : List ℕ × List (HistoryEvent (Said C R))). IsGiven kind z.0 (subscriber u) z.1 × IsSubscribed kind u z.1) (λ i. (child_name (sym a.name i) (sym a.made i + 1), sym a.grows.1 i)) given
 
 module _ {Id T S C R : Type 0} (kind : Kind T S C R) (law : Lawful kind) (first : S) (old new : NumberedToken Id (Said C R)) (subscribed : IsSubscription kind old.token.knows old.number) (number : new.number ≡ old.number) where

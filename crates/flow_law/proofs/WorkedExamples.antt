@@ -22,7 +22,7 @@ replies config cs = replies_from (first_state config) cs
 
 abbrev pub played_from : SharedFlowState ℕ → List (SharedCall ℕ) → History ℕ
 played_from s [] = []
-played_from s (c ∷ cs) = record { name = []; what = record { call = c; reply = (answer_to c s).reply } } ∷ played_from (answer_to c s).after cs
+played_from s (c ∷ cs) = record { name = []; began = 0; what = record { call = c; reply = (answer_to c s).reply } } ∷ played_from (answer_to c s).after cs
 
 abbrev pub suspending : ℕ → ℕ → Config
 suspending replay extra = record { replay = replay; extra = extra; overflow = Suspend; limit = 1000 }

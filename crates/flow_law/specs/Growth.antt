@@ -1,6 +1,6 @@
 -- Names of seats, histories that grow, and what a token knows. They are the same for every kind of flow.
 -- The first seat's name is empty; the j-th seat made through a seat has that seat's name followed by j.
-use Rattle.std.specs.Prelude.{◌≡◌, ◌≢◌, ℕ, ◌+◌, ◌≤◌, List, [], ◌∷◌, ◌++◌, map}
+use Rattle.std.specs.Prelude.{◌≡◌, ◌≢◌, ℕ, ◌+◌, ◌≤◌, List, [], ◌∷◌, ◌++◌, length}
 use Rattle.std.specs.List.{AllByRecursion}
 use Rattle.flow_law.specs.declared.history.HistoryEvent.{HistoryEvent}
 use Rattle.flow_law.specs.declared.history.Knowledge.{Knowledge}
@@ -18,13 +18,14 @@ IsMadeBy name made other = (j : ℕ) (rest : List ℕ) → other ≡ name ++ j �
 -- ---- histories
 
 module _ {E : Type 0} where
-  -- an event of the token of this name
-  abbrev pub event : List ℕ → E → HistoryEvent E
-  event name what = record { name = name; what = what }
+  -- an event of the token of this name, whose call began when the history had this many events
+  abbrev pub event : List ℕ → ℕ → E → HistoryEvent E
+  event name began what = record { name = name; began = began; what = what }
 
-  -- the events that a token of this name adds
-  abbrev pub events_of : List ℕ → List E → List (HistoryEvent E)
-  events_of name added = map (event name) added
+  -- the history after a token of this name added these events, one after another: each call began when the event before it was added
+  abbrev pub after_events : List ℕ → List E → List (HistoryEvent E) → List (HistoryEvent E)
+  after_events name [] h = h
+  after_events name (what ∷ more) h = after_events name more (h ++ event name (length h) what ∷ [])
 
   -- no event has this name
   abbrev pub IsSilent : List ℕ → List (HistoryEvent E) → Type 0
@@ -64,9 +65,9 @@ module _ {E : Type 0} where
   abbrev pub loses : Knowledge E → Knowledge E
   loses k = knowledge k.name k.made (k.lost + 1) k.seen
 
-  -- what the token knows after it has added events of its own
+  -- what the token knows after it has added events of its own, one after another
   abbrev pub adds : List E → Knowledge E → Knowledge E
-  adds added k = knowledge k.name k.made k.lost (k.seen ++ events_of k.name added)
+  adds added k = knowledge k.name k.made k.lost (after_events k.name added k.seen)
 
   -- what the token knows after a seat was made through it
   abbrev pub makes : Knowledge E → Knowledge E

@@ -13,6 +13,7 @@ pub mod StateFlow
 pub mod Conflation
 pub mod Current
 pub mod Growth
+pub mod RealTime
 pub mod Promise
 pub mod Tokens
 pub mod Standing

@@ -11,6 +11,7 @@ use Rattle.flow_law.specs.declared.outcome.Next.TheVariants.{Gone}
 use Rattle.flow_law.specs.Growth.{Fits, child_name, first_knowledge, sees, loses, makes, child}
 use Rattle.flow_law.specs.History.{Kind, IsHistory, replied}
 use Rattle.flow_law.specs.Promise.{Token, CallsIn, CallsAtOnceIn}
+use Rattle.flow_law.specs.RealTime.{IsTimed}
 
 -- a flow: which one it is, and its first state
 pub record Origin (Id S : Type 0) : Type 0 where
@@ -77,6 +78,7 @@ module _ {Id T S C R : Type 0} (kind : Kind T S C R) (first : S) where
   pub record MeetsIn (one other one_after other_after : Token Id (Said C R)) : Type 0 where
     pub history : List (HistoryEvent (Said C R))
     pub is_history : IsHistory kind first history
+    pub timed : IsTimed history
     pub fits_one : Fits history one.knows
     pub fits_other : Fits history other.knows
     pub sees_one : one_after ≡ knowing one (sees history one.knows)

@@ -3,10 +3,16 @@ ghost use Rattle.std.specs.Prelude.{◌≡◌};
 
 use crate::sequence::Sequence;
 
-/// One event of a history: the name of the token through which the call was made, and what the event says. Only
-/// contracts use events; no value of this type is made.
+/// One event of a history. Only contracts use events; no value of this type is made.
+///
+/// A call adds its event before it returns. So the call had ended by the time that another one began only if `began` of
+/// the other one's event is greater than the number of events before this one.
 pub struct HistoryEvent<E> {
+    /// The name of the token through which the call was made.
     pub name: Sequence<u64>,
+    /// How many events the history had when the call began, at its first step on the flow.
+    pub began: u64,
+    /// What the event says.
     pub what: E,
 }
 

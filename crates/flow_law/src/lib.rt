@@ -32,7 +32,8 @@ pub use guarded::Guarded;
 pub use history::{HistoryEvent, Knowledge, Said};
 pub use laws::{
     law_accepted, law_admitted, law_closed, law_conflated, law_current, law_delivered,
-    law_idle_since, law_lagged, law_no_idle_queue, law_replay, law_turn_account, law_updated,
+    law_idle_since, law_lagged, law_linearizable, law_no_idle_queue, law_replay, law_turn_account,
+    law_updated,
 };
 pub use outcome::{Drained, Emit, Next};
 pub use report::{Event, Report, ShareFault};

@@ -1,1 +1,2 @@
+pub mod ApartLemmas
 pub mod BeforeLemmas

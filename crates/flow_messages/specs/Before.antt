@@ -25,18 +25,20 @@ module _ {E : Type 0} where
       (before : List (HistoryEvent E)) × (between : List (HistoryEvent E)) × (after : List (HistoryEvent E))
       × (h ≡ before ++ first ∷ (between ++ second ∷ after))
 
--- the caller of this name set the value
-abbrev pub set_by : List ℕ → ℕ → HistoryEvent SaysNumber
-set_by name value = event name (said (Set value) Done)
+-- the caller of this name set the value, by a call that began when the history had `began` events
+abbrev pub set_by : List ℕ → ℕ → ℕ → HistoryEvent SaysNumber
+set_by name began value = event name began (said (Set value) Done)
 
--- the caller of this name read the value
-abbrev pub read_event : List ℕ → ℕ → HistoryEvent SaysNumber
-read_event name value = event name (said GetValue (Got value))
+-- the caller of this name read the value, by such a call
+abbrev pub read_event : List ℕ → ℕ → ℕ → HistoryEvent SaysNumber
+read_event name began value = event name began (said GetValue (Got value))
 
 -- the token has seen that its maker set the value
 abbrev pub IsSetByMaker : ℕ → Knowledge SaysNumber → Type 0
-IsSetByMaker value k = (maker : List ℕ) × (j : ℕ) × (k.name ≡ child_name maker j) × Has (set_by maker value) k.seen
+IsSetByMaker value k = (maker : List ℕ) × (j : ℕ) × (k.name ≡ child_name maker j) × (began : ℕ) × Has (set_by maker began value) k.seen
 
 -- a caller set `value`, and later in the history this token read `found`
 abbrev pub ReadsAfterSet : ℕ → ℕ → Knowledge SaysNumber → Type 0
-ReadsAfterSet value found k = (sender : List ℕ) × ComesBefore (set_by sender value) (read_event k.name found) k.seen
+ReadsAfterSet value found k =
+    (sender : List ℕ) × (set_began : ℕ) × (read_began : ℕ)
+    × ComesBefore (set_by sender set_began value) (read_event k.name read_began found) k.seen

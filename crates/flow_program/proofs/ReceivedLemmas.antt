@@ -123,17 +123,17 @@ module _ {T : Type 0} where
   -- ---- which token subscribed, and which one calls `next`
 
   abbrev Found : List ℕ → List ℕ → ℕ → History T → Type 0
-  Found k name u h = (before : History T) × (more : History T) × (h ≡ (before ++ event k (said (call.Subscribe name []) (reply.Subscribed u)) ∷ []) ++ more)
+  Found k name u h = (before : History T) × (more : History T) × (began : ℕ) × (h ≡ (before ++ event k began (said (call.Subscribe name []) (reply.Subscribed u)) ∷ []) ++ more)
 
   -- a `subscribe` of a token is an event of the history
   found : (k name : List ℕ) (u : ℕ) (h : History T) → HasSubscribed name u (said_by k h) → Found k name u h
   found k name u [] has = absurd has
   found k name u (e ∷ es) has = split (is_same_name k e.name) (λ b. HasSubscribed name u (cond b (e.what ∷ said_by k es) (said_by k es)) → Found k name u (e ∷ es))
-      (λ same has. ⊎_elim (λ (is : e.what ≡ said (call.Subscribe name []) (reply.Subscribed u)). ([], es, (let p : k ≡ e.name = same_is k e.name same in λ i. event (sym p i) (is i) ∷ es))) (λ h. later (found k name u es h)) has)
+      (λ same has. ⊎_elim (λ (is : e.what ≡ said (call.Subscribe name []) (reply.Subscribed u)). ([], es, e.began, (let p : k ≡ e.name = same_is k e.name same in λ i. event (sym p i) e.began (is i) ∷ es))) (λ h. later (found k name u es h)) has)
       (λ _ has. later (found k name u es has)) has
     where
       later : Found k name u es → Found k name u (e ∷ es)
-      later f = (e ∷ f.0, f.1, ap (λ l. e ∷ l) f.2)
+      later f = (e ∷ f.0, f.1, f.2, ap (λ l. e ∷ l) f.3)
 
   module _ (first : SharedFlowState T) (h : History T) (is : IsHistory shared_flow first h) (ended : NothingEnded h) (k name : List ℕ) (u : ℕ) (has : HasSubscribed name u (said_by k h)) where
     abbrev Whole : History T → Type 0
@@ -142,14 +142,14 @@ module _ {T : Type 0} where
     pub subscribed : Whole h
     subscribed =
         let f = found k name u h has in
-        let e : HistoryEvent (Says T) = event k (said (call.Subscribe name []) (reply.Subscribed u)) in
+        let e : HistoryEvent (Says T) = event k f.2 (said (call.Subscribe name []) (reply.Subscribed u)) in
         let begun = f.0 ++ e ∷ [] in
-        let legal : IsLegalFrom first (begun ++ f.1) = subst (IsLegalFrom first) f.2 is.legal in
+        let legal : IsLegalFrom first (begun ++ f.1) = subst (IsLegalFrom first) f.3 is.legal in
         let left : IsLegalFrom first begun = Rattle.flow_law.proofs.Owners.legal_left shared_flow first begun f.1 legal in
         let told = (legal_right shared_flow first f.0 (e ∷ []) left).0 in
         let there : Has u (shared_after_all first begun) = subst (Has u) (sym (after_all-append shared_flow first f.0 (e ∷ []))) ((shared_subscribing []).has (shared_after_all first f.0) name u told) in
-        let rest : NothingEnded f.1 = every_right (λ (e : HistoryEvent (Says T)). EndsNothing e.what.call) begun f.1 (subst NothingEnded f.2 ended) in
-        subst Whole (sym f.2) (
+        let rest : NothingEnded f.1 = every_right (λ (e : HistoryEvent (Says T)). EndsNothing e.what.call) begun f.1 (subst NothingEnded f.3 ended) in
+        subst Whole (sym f.3) (
           given_stays shared_flow shared_lawful first begun f.1 (subscriber u) name legal (last_given shared_flow f.0 e (record { number = subscriber u; name = name }) refl),
           subst (Has u) (sym (after_all-append shared_flow first begun f.1)) (stays u (shared_after_all first begun) f.1 rest there),
         )

@@ -1,8 +1,7 @@
 -- From what a core does at each `next` in one entry to a drain of the caller: the first call comes after the history that was found
 -- on entering, and the other calls follow at once.
-use Rattle.std.proofs.Common.{◌≡◌, ◌≢◌, ℕ, ◌+◌, ◌≤◌, List, [], ◌∷◌, ◌++◌, length, drop, Option, Some, None, Result, Ok, Err, refl, sym, ap, ◌∙◌, subst, inl, arith, append_assoc, append-nil, length-append}
+use Rattle.std.proofs.Common.{◌≡◌, ◌≢◌, ℕ, ◌+◌, ◌≤◌, List, [], ◌∷◌, ◌++◌, length, drop, Option, Some, None, Result, Ok, Err, refl, sym, ap, ◌∙◌, subst, inl, arith, le_refl, append_assoc, length-append}
 use Rattle.std.proofs.Math.Seq.{drop-append_seam}
-use Rattle.std.proofs.lemmas.List.{map-append}
 use Rattle.std.specs.List.{FoldsTo}
 use Rattle.flow_law.specs.declared.fault.FlowFault.{FlowFault}
 use Rattle.flow_law.specs.declared.history.HistoryEvent.{HistoryEvent}
@@ -12,14 +11,16 @@ use Rattle.flow_law.specs.declared.outcome.Next.TheVariants as next
 use Rattle.flow_law.specs.declared.outcome.Drained.{Drained}
 use Rattle.flow_law.specs.declared.outcome.Drained.TheVariants as drained
 use Rattle.flow_law.specs.Draining.{NextsGive, DrainsBy, TakesBy, EndsBy, EndsByCall}
-use Rattle.flow_law.specs.Growth.{Fits, NamesOnlyMade, adds, event, events_of, knowledge}
+use Rattle.flow_law.specs.Growth.{Fits, NamesOnlyMade, adds, event, after_events, knowledge}
 use Rattle.flow_law.specs.History.{Kind, MayCall, IsSubscription, subscriber, replied}
 use Rattle.flow_law.specs.Lawful.{Lawful}
 use Rattle.flow_law.specs.Promise.{said, CallsIn}
+use Rattle.flow_law.specs.RealTime.{IsTimed}
 use Rattle.flow_law.specs.Standing.{Documents, StandsForHistory}
 use Rattle.flow_law.specs.Tokens.{knowing, numbered_token, origin}
 use Rattle.flow_law.proofs.DrainingLemmas.{HasTaken}
 use Rattle.flow_law.proofs.Names.{fits_own, grew_refl}
+use Rattle.flow_law.proofs.RealTimeLemmas.{grown_longer, before_own, began_now, IsTimed-snoc, after_events-append}
 use Rattle.flow_law.proofs.TokenLemmas.{stands_next, may_grows, may_speak, never_gone, subscription_after_next, subscription_met}
 use Rattle.flow_gate.specs.Tokens.{GateToken, GateOrigin, SeatState, idle_seat, Finds}
 use Rattle.flow_shared.specs.Calls.{HoldsFor, NextsOf, GateNumbered}
@@ -64,22 +65,23 @@ module _ {K T S C R : Type 0} (kind : Kind T S C R) (StandsAs : K → S → Type
     pub stood : StandsForHistory kind StandsAs flow.first core t.knows.seen
     pub subscribed : IsSubscription kind t.knows n
     pub names : NamesOnlyMade t.knows.name t.knows.made t.knows.seen
+    pub timed : IsTimed t.knows.seen
 
   abbrev pub seeing : GateToken (Said C R) → ℕ → List (HistoryEvent (Said C R)) → GateToken (Said C R)
   seeing t lost history = knowing t (knowledge t.knows.name t.knows.made lost history)
 
   -- one more call of a caller that found this history
-  module _ (before : GateToken (Said C R)) (lost : ℕ) (history : List (HistoryEvent (Said C R))) (core after_core : K) (r : R) (more : before.knows.lost ≤ lost) (fits : Fits history before.knows)
+  module _ (before : GateToken (Said C R)) (lost : ℕ) (history : List (HistoryEvent (Said C R))) (core after_core : K) (r : R) (more : before.knows.lost ≤ lost) (fits : Fits history before.knows) (timed : IsTimed history)
       (stood : StandsForHistory kind StandsAs flow.first core history) (subscribed : IsSubscription kind before.knows n) (documents : Documents kind StandsAs core (kind.take_next n) r after_core) where
     abbrev after : GateToken (Said C R)
-    after = seeing before lost (history ++ event before.knows.name (said (kind.take_next n) r) ∷ [])
+    after = seeing before lost (history ++ event before.knows.name (length history) (said (kind.take_next n) r) ∷ [])
 
     may : MayCall kind (kind.take_next n) before.knows.name history
     may = may_grows kind law flow.first (kind.take_next n) before.knows.name before.knows.seen history stood.0 fits.0
         (may_speak kind law (kind.take_next n) (subscriber n) before.knows.name before.knows.seen (law.next_speaks n) subscribed.0)
 
     stands : StandsForHistory kind StandsAs flow.first after_core after.knows.seen
-    stands = stands_next kind StandsAs flow.first core after_core history before.knows.name (kind.take_next n) r stood documents may
+    stands = stands_next kind StandsAs flow.first core after_core history before.knows.name (length history) (kind.take_next n) r stood documents may
 
     calls : CallsIn kind flow.first before (kind.take_next n) r after
     calls = (
@@ -89,13 +91,19 @@ module _ {K T S C R : Type 0} (kind : Kind T S C R) (StandsAs : K → S → Type
         made = refl;
         lost = more;
         history = stands.0;
-        grows = (fits.0.0, ap (λ (l : List (HistoryEvent (Said C R))). l ++ event before.knows.name (said (kind.take_next n) r) ∷ []) fits.0.1, fits.0.2);
-        names = fits_own history before.knows (said (kind.take_next n) r ∷ []) fits;
+        began = length history;
+        grows = (fits.0.0, ap (λ (l : List (HistoryEvent (Said C R))). l ++ event before.knows.name (length history) (said (kind.take_next n) r) ∷ []) fits.0.1, fits.0.2);
+        in_time = (grown_longer before.knows.name before.knows.seen history fits.0, before_own history last (length history) (le_refl (length history)));
+        timed = IsTimed-snoc history last timed (began_now before.knows.name (said (kind.take_next n) r) history);
+        names = fits_own history before.knows (length history) (said (kind.take_next n) r) fits;
       },
     )
+      where
+        last : HistoryEvent (Said C R)
+        last = event before.knows.name (length history) (said (kind.take_next n) r)
 
     stays : Stays after after_core
-    stays = record { stood = stands; subscribed = subscription_after_next kind law flow.first before.knows after.knows n r calls.1 subscribed; names = calls.1.names }
+    stays = record { stood = stands; subscribed = subscription_after_next kind law flow.first before.knows after.knows n r calls.1 subscribed; names = calls.1.names; timed = calls.1.timed }
 
   fits_itself : (t : GateToken (Said C R)) (core : K) → Stays t core → Fits t.knows.seen t.knows
   fits_itself t core s = (grew_refl t.knows.name t.knows.seen, s.names)
@@ -110,30 +118,29 @@ module _ {K T S C R : Type 0} (kind : Kind T S C R) (StandsAs : K → S → Type
   gives : (values : List T) (t : GateToken (Said C R)) (core last : K) → Stays t core → NextsGive (CoreNexts kind n StandsAs) core values last
       → Gives t values (knowing t (adds (said_values kind n values) t.knows)) last
   gives [] t core last s taken =
-      subst (λ (h : List (HistoryEvent (Said C R))). Gives t [] (seeing t t.knows.lost h) last) (sym (append-nil t.knows.seen)) (refl, subst (Stays t) taken s)
+      (refl, subst (Stays t) taken s)
   gives (v ∷ values) t core last s taken =
-      let one = calls t t.knows.lost t.knows.seen core taken.0 (kind.received (next.Value v)) (omega arith) (fits_itself t core s) s.stood s.subscribed taken.1 in
-      let here = stays t t.knows.lost t.knows.seen core taken.0 (kind.received (next.Value v)) (omega arith) (fits_itself t core s) s.stood s.subscribed taken.1 in
-      let e = event t.knows.name (said (kind.take_next n) (kind.received (next.Value v))) in
+      let one = calls t t.knows.lost t.knows.seen core taken.0 (kind.received (next.Value v)) (omega arith) (fits_itself t core s) s.timed s.stood s.subscribed taken.1 in
+      let here = stays t t.knows.lost t.knows.seen core taken.0 (kind.received (next.Value v)) (omega arith) (fits_itself t core s) s.timed s.stood s.subscribed taken.1 in
+      let e = event t.knows.name (length t.knows.seen) (said (kind.take_next n) (kind.received (next.Value v))) in
       let middle = seeing t t.knows.lost (t.knows.seen ++ e ∷ []) in
       let others = gives values middle taken.0 last here taken.2 in
-      let all = subst (λ (h : List (HistoryEvent (Said C R))). Gives middle values (seeing t t.knows.lost h) last) (append_assoc t.knows.seen (e ∷ []) (events_of t.knows.name (said_values kind n values))) others in
-      ((numbered_token middle n, (one, refl), all.0), all.1)
+      ((numbered_token middle n, (one, refl), others.0), others.1)
 
   -- the call that ended the drain of a caller that found this history
-  module _ (before : GateToken (Said C R)) (lost : ℕ) (history : List (HistoryEvent (Said C R))) (core : K) (more : before.knows.lost ≤ lost) (fits : Fits history before.knows)
+  module _ (before : GateToken (Said C R)) (lost : ℕ) (history : List (HistoryEvent (Said C R))) (core : K) (more : before.knows.lost ≤ lost) (fits : Fits history before.knows) (timed : IsTimed history)
       (stood : StandsForHistory kind StandsAs flow.first core history) (subscribed : IsSubscription kind before.knows n) where
     abbrev Ends : Result Drained FlowFault → K → Type 0
     Ends result new =
-        let end = seeing before lost (history ++ events_of before.knows.name (said_end kind n result)) in
+        let end = seeing before lost (after_events before.knows.name (said_end kind n result) history) in
         EndsByCall (NextsOf kind flow) (numbered_token before n) result (numbered_token end n) × Stays end new
 
     ends_by : (answer : Result (Next T) FlowFault) (new : K) → CoreNexts kind n StandsAs core answer new
-        → NextsOf kind flow (numbered_token before n) answer (numbered_token (seeing before lost (history ++ event before.knows.name (said (kind.take_next n) (replied kind kind.received answer)) ∷ [])) n)
-        × Stays (seeing before lost (history ++ event before.knows.name (said (kind.take_next n) (replied kind kind.received answer)) ∷ [])) new
+        → NextsOf kind flow (numbered_token before n) answer (numbered_token (seeing before lost (history ++ event before.knows.name (length history) (said (kind.take_next n) (replied kind kind.received answer)) ∷ [])) n)
+        × Stays (seeing before lost (history ++ event before.knows.name (length history) (said (kind.take_next n) (replied kind kind.received answer)) ∷ [])) new
     ends_by answer new documents =
         let r = replied kind kind.received answer in
-        ((calls before lost history core new r more fits stood subscribed documents, refl), stays before lost history core new r more fits stood subscribed documents)
+        ((calls before lost history core new r more fits timed stood subscribed documents, refl), stays before lost history core new r more fits timed stood subscribed documents)
 
     ends : (result : Result Drained FlowFault) (new : K) → EndsByCall (CoreNexts kind n StandsAs) core result new → result ≢ Ok drained.Most → Ends result new
     ends (Ok drained.Most) new ended other = absurd (other refl)
@@ -145,25 +152,21 @@ module _ {K T S C R : Type 0} (kind : Kind T S C R) (StandsAs : K → S → Type
   ends_after : (result : Result Drained FlowFault) (t : GateToken (Said C R)) (core new : K) → Stays t core → EndsByCall (CoreNexts kind n StandsAs) core result new
       → EndsByCall (NextsOf kind flow) (numbered_token t n) result (numbered_token (adding t (said_end kind n result)) n) × Stays (adding t (said_end kind n result)) new
   ends_after (Ok drained.Most) t core new s ended =
-      subst (λ (h : List (HistoryEvent (Said C R))). EndsByCall (NextsOf kind flow) (numbered_token t n) (Ok drained.Most) (numbered_token (seeing t t.knows.lost h) n) × Stays (seeing t t.knows.lost h) new)
-      (sym (append-nil t.knows.seen)) (refl, subst (Stays t) ended s)
-  ends_after (Ok drained.Empty) t core new s ended = ends t t.knows.lost t.knows.seen core (omega arith) (fits_itself t core s) s.stood s.subscribed (Ok drained.Empty) new ended (λ e. cc)
-  ends_after (Ok drained.Gone) t core new s ended = ends t t.knows.lost t.knows.seen core (omega arith) (fits_itself t core s) s.stood s.subscribed (Ok drained.Gone) new ended (λ e. cc)
-  ends_after (Err fault) t core new s ended = ends t t.knows.lost t.knows.seen core (omega arith) (fits_itself t core s) s.stood s.subscribed (Err fault) new ended (λ e. cc)
+      (refl, subst (Stays t) ended s)
+  ends_after (Ok drained.Empty) t core new s ended = ends t t.knows.lost t.knows.seen core (omega arith) (fits_itself t core s) s.timed s.stood s.subscribed (Ok drained.Empty) new ended (λ e. cc)
+  ends_after (Ok drained.Gone) t core new s ended = ends t t.knows.lost t.knows.seen core (omega arith) (fits_itself t core s) s.timed s.stood s.subscribed (Ok drained.Gone) new ended (λ e. cc)
+  ends_after (Err fault) t core new s ended = ends t t.knows.lost t.knows.seen core (omega arith) (fits_itself t core s) s.timed s.stood s.subscribed (Err fault) new ended (λ e. cc)
 
   all_seen : (name : List ℕ) (history : List (HistoryEvent (Said C R))) (e : Said C R) (values end : List (Said C R))
-      → ((history ++ event name e ∷ []) ++ events_of name values) ++ events_of name end ≡ history ++ events_of name ((e ∷ values) ++ end)
-  all_seen name history e values end =
-      append_assoc (history ++ event name e ∷ []) (events_of name values) (events_of name end)
-      ∙ append_assoc history (event name e ∷ []) (events_of name values ++ events_of name end)
-      ∙ ap (λ (l : List (HistoryEvent (Said C R))). history ++ event name e ∷ l) (sym (map-append (event name) values end))
+      → after_events name end (after_events name values (history ++ event name (length history) e ∷ [])) ≡ after_events name ((e ∷ values) ++ end) history
+  all_seen name history e values end = sym (after_events-append name (e ∷ values) end history)
 
   -- all calls of a caller that found this history
-  module _ (before : GateToken (Said C R)) (lost : ℕ) (history : List (HistoryEvent (Said C R))) (core : K) (more : before.knows.lost ≤ lost) (fits : Fits history before.knows)
+  module _ (before : GateToken (Said C R)) (lost : ℕ) (history : List (HistoryEvent (Said C R))) (core : K) (more : before.knows.lost ≤ lost) (fits : Fits history before.knows) (timed : IsTimed history)
       (stood : StandsForHistory kind StandsAs flow.first core history) (subscribed : IsSubscription kind before.knows n) where
     -- what it has seen then
     abbrev pub seen_after : List T → Result Drained FlowFault → GateToken (Said C R)
-    seen_after values result = seeing before lost (history ++ events_of before.knows.name (said_values kind n values ++ said_end kind n result))
+    seen_after values result = seeing before lost (after_events before.knows.name (said_values kind n values ++ said_end kind n result) history)
 
     record Draws (values : List T) (result : Result Drained FlowFault) (new : K) : Type 0 where
       last : GateToken (Said C R)
@@ -174,13 +177,13 @@ module _ {K T S C R : Type 0} (kind : Kind T S C R) (StandsAs : K → S → Type
     draws : (values : List T) (result : Result Drained FlowFault) (last new : K) → NextsGive (CoreNexts kind n StandsAs) core values last → EndsByCall (CoreNexts kind n StandsAs) last result new
         → (values ≡ [] → result ≢ Ok drained.Most) → Draws values result new
     draws [] result last new taken ended other =
-        let e = ends before lost history core more fits stood subscribed result new (subst (λ (k : K). EndsByCall (CoreNexts kind n StandsAs) k result new) (sym taken) ended) (other refl) in
+        let e = ends before lost history core more fits timed stood subscribed result new (subst (λ (k : K). EndsByCall (CoreNexts kind n StandsAs) k result new) (sym taken) ended) (other refl) in
         record { last = before; taken = refl; ended = e.0; stays = e.1 }
     draws (v ∷ values) result last new taken ended other =
         let r = kind.received (next.Value v) in
-        let one = calls before lost history core taken.0 r more fits stood subscribed taken.1 in
-        let here = stays before lost history core taken.0 r more fits stood subscribed taken.1 in
-        let middle = seeing before lost (history ++ event before.knows.name (said (kind.take_next n) r) ∷ []) in
+        let one = calls before lost history core taken.0 r more fits timed stood subscribed taken.1 in
+        let here = stays before lost history core taken.0 r more fits timed stood subscribed taken.1 in
+        let middle = seeing before lost (history ++ event before.knows.name (length history) (said (kind.take_next n) r) ∷ []) in
         let others = gives values middle taken.0 last here taken.2 in
         let then = adding middle (said_values kind n values) in
         let e = subst (λ (h : List (HistoryEvent (Said C R))). EndsByCall (NextsOf kind flow) (numbered_token then n) result (numbered_token (seeing before lost h) n) × Stays (seeing before lost h) new)
@@ -208,17 +211,22 @@ module _ {K T S C R : Type 0} (kind : Kind T S C R) (StandsAs : K → S → Type
 pub appended_since : {T : Type 0} (old new values : List T) → new ≡ old ++ values → drop (length old) new ≡ values
 appended_since old new values e = ap (drop (length old)) e ∙ drop-append_seam old values
 
+-- a caller that entered has seen a history whose calls began in time
+pub timed_inside : {K T S C R : Type 0} (kind : Kind T S C R) (StandsAs : K → S → Type 0) (start : K → S) (gate : GateOrigin K) (before : GateToken (Said C R)) (seat : SeatState K (Said C R))
+    → Finds (λ first state h. StandsForHistory kind StandsAs (start first) state h) gate before seat → IsTimed seat.token.knows.seen
+timed_inside {C = C} {R = R} kind StandsAs start gate before seat f = subst (λ (t : GateToken (Said C R)). IsTimed t.knows.seen) (sym f.token) f.timed
+
 -- A caller inside, from the core that was lent to it up to leaving: `since` is what the evidence says of the list before.
 module _ {K T S C R : Type 0} (kind : Kind T S C R) (StandsAs : K → S → Type 0) (law : Lawful kind) (n : ℕ) where
   module _ (first : S) (seat : SeatState K (Said C R)) (lent new : K) (holds : HoldsFor kind StandsAs first seat) (is : seat.held ≡ Some lent) (subscribed : IsSubscription kind seat.token.knows n)
-      (names : NamesOnlyMade seat.token.knows.name seat.token.knows.made seat.token.knows.seen)
+      (names : NamesOnlyMade seat.token.knows.name seat.token.knows.made seat.token.knows.seen) (timed : IsTimed seat.token.knows.seen)
       (most : ℕ) (some : 1 ≤ most) (old_list since new_list : List T) (same : since ≡ old_list) (result : Result Drained FlowFault) (t : TakesBy (CoreNexts kind n StandsAs) most lent old_list result new_list new) where
     given : drop (length since) new_list ≡ t.values
     given = appended_since since new_list t.values (t.appended ∙ ap (λ (l : List T). l ++ t.values) (sym same))
 
-    pub may_leave : StandsForHistory kind StandsAs first new (seat.token.knows.seen ++ events_of seat.token.knows.name (said_since kind n since new_list result))
-    may_leave = subst (λ (values : List T). StandsForHistory kind StandsAs first new (seat.token.knows.seen ++ events_of seat.token.knows.name (said_values kind n values ++ said_end kind n result))) (sym given)
-        (stands_then kind StandsAs law (origin seat.token.table_id first) n seat.token seat.token.knows.lost seat.token.knows.seen lent (omega arith) (grew_refl seat.token.knows.name seat.token.knows.seen, names)
+    pub may_leave : StandsForHistory kind StandsAs first new (after_events seat.token.knows.name (said_since kind n since new_list result) seat.token.knows.seen)
+    may_leave = subst (λ (values : List T). StandsForHistory kind StandsAs first new (after_events seat.token.knows.name (said_values kind n values ++ said_end kind n result) seat.token.knows.seen)) (sym given)
+        (stands_then kind StandsAs law (origin seat.token.table_id first) n seat.token seat.token.knows.lost seat.token.knows.seen lent (omega arith) (grew_refl seat.token.knows.name seat.token.knows.seen, names) timed
         (lent_stands kind StandsAs first seat lent holds is) subscribed most some old_list new_list result new t)
 
     pub has_taken : (after : SeatState K (Said C R)) → after ≡ idle_seat (knowing seat.token (adds (said_since kind n since new_list result) seat.token.knows)) → TakesInside kind n StandsAs most seat old_list result new_list after
@@ -253,7 +261,7 @@ module _ {K T S C R : Type 0} (kind : Kind T S C R) (StandsAs : K → S → Type
       stood = subst (λ (k : K). StandsForHistory kind StandsAs flow.first k f.history) (sym same_state) found
 
       abbrev end : GateToken (Said C R)
-      end = seen_after kind StandsAs law flow n before seat.token.knows.lost f.history i.state lost f.fits stood subscribed i.takes.values result
+      end = seen_after kind StandsAs law flow n before seat.token.knows.lost f.history i.state lost f.fits f.timed stood subscribed i.takes.values result
 
       is_end : after.token ≡ end
       is_end = ap (λ (z : SeatState K (Said C R)). z.token) i.left ∙ ap (λ (t : GateToken (Said C R)). knowing t (adds (said_values kind n i.takes.values ++ said_end kind n result) t.knows)) f.token
@@ -266,11 +274,11 @@ module _ {K T S C R : Type 0} (kind : Kind T S C R) (StandsAs : K → S → Type
 
       pub subscribed_after : IsSubscription kind after.token.knows n
       subscribed_after = subst (λ (t : GateToken (Said C R)). IsSubscription kind t.knows n) (sym is_end)
-          (subscribed_still kind StandsAs law flow n before seat.token.knows.lost f.history i.state lost f.fits stood subscribed most some old_list new_list result i.core i.takes)
+          (subscribed_still kind StandsAs law flow n before seat.token.knows.lost f.history i.state lost f.fits f.timed stood subscribed most some old_list new_list result i.core i.takes)
 
       pub drains_by : DrainsBy (NextsOf kind flow) most (numbered_token before n) old_list result new_list (numbered_token after.token n)
       drains_by = subst (λ (t : GateToken (Said C R)). DrainsBy (NextsOf kind flow) most (numbered_token before n) old_list result new_list (numbered_token t n)) (sym is_end)
-          (drains kind StandsAs law flow n before seat.token.knows.lost f.history i.state lost f.fits stood subscribed most some old_list new_list result i.core i.takes)
+          (drains kind StandsAs law flow n before seat.token.knows.lost f.history i.state lost f.fits f.timed stood subscribed most some old_list new_list result i.core i.takes)
 
 -- a subscription stays one, so a drain never finds it gone
 module _ {T S C R : Type 0} (kind : Kind T S C R) (law : Lawful kind) (flow : GateOrigin S) where

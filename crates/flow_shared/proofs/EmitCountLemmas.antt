@@ -49,8 +49,8 @@ module _ {T : Type 0} where
   emits_others k [] a = refl
   emits_others k (e ∷ es) a = ap (λ z. emit_of z e.what.call + emits k es) (apart k e.name a.0) ∙ (zero_plus (emits k es) ∙ emits_others k es a.1)
 
-  emits_last : (k : List ℕ) (c : SharedCall T) (r : SharedReply T) → emits k (event k (said c r) ∷ []) ≡ emit_of true c
-  emits_last k c r = ap (λ z. emit_of z c + 0) ((numbers_exact k k).1 refl) ∙ plus_zero (emit_of true c)
+  emits_last : (k : List ℕ) (began : ℕ) (c : SharedCall T) (r : SharedReply T) → emits k (event k began (said c r) ∷ []) ≡ emit_of true c
+  emits_last k began c r = ap (λ z. emit_of z c + 0) ((numbers_exact k k).1 refl) ∙ plus_zero (emit_of true c)
 
   -- the `emit`s of the token
   abbrev pub count : SharedToken T → ℕ
@@ -58,10 +58,10 @@ module _ {T : Type 0} where
 
   pub count_called : (flow : GateOrigin (SharedFlowState T)) (t u : SharedToken T) (c : SharedCall T) (r : SharedReply T) → SharedCalls flow t c r u → count u ≡ count t + emit_of true c
   count_called flow t u c r called =
-      let g = called.1.grows in let k = t.knows.name in let e = event k (said c r) in
+      let g = called.1.grows in let k = t.knows.name in let e = event k called.1.began (said c r) in
       let quiet : emits k (t.knows.seen ++ g.0) ≡ count t = emits_append k t.knows.seen g.0 ∙ (ap (λ z. count t + z) (emits_others k g.0 g.2) ∙ plus_zero (count t)) in
       ap (λ z. emits z u.knows.seen) called.1.name ∙ (ap (emits k) g.1 ∙ (emits_append k (t.knows.seen ++ g.0) (e ∷ [])
-      ∙ (ap (λ z. z + emits k (e ∷ [])) quiet ∙ ap (λ z. count t + z) (emits_last k c r))))
+      ∙ (ap (λ z. z + emits k (e ∷ [])) quiet ∙ ap (λ z. count t + z) (emits_last k called.1.began c r))))
 
   count_busy : (t u : SharedToken T) → IsBusy t u → count u ≡ count t
   count_busy t u busy = ap count busy

@@ -1,15 +1,17 @@
 -- From the contract of entering a gate and that of one call of a core to the contract of a call of a flow.
-use Rattle.std.proofs.Common.{◌≡◌, ℕ, ◌≤◌, List, [], ◌∷◌, ◌++◌, refl, sym, ap, ◌∙◌, subst, arith, Option, Some, None, IfSome}
+use Rattle.std.proofs.Common.{◌≡◌, ℕ, ◌≤◌, List, [], ◌∷◌, ◌++◌, length, le_refl, refl, sym, ap, ◌∙◌, subst, arith, Option, Some, None, IfSome}
 use Rattle.flow_law.specs.declared.history.HistoryEvent.{HistoryEvent}
 use Rattle.flow_law.specs.declared.history.Said.{Said}
 use Rattle.flow_law.specs.Growth.{event, knowledge, adds, GrowsByOthers}
 use Rattle.flow_law.specs.History.{Kind, IsHistory, MayCall}
 use Rattle.flow_law.specs.Lawful.{Lawful}
 use Rattle.flow_law.specs.Promise.{said, AddsOne, CallsIn}
+use Rattle.flow_law.specs.RealTime.{IsTimed}
 use Rattle.flow_law.specs.Standing.{Documents, StandsForHistory}
 use Rattle.flow_law.specs.Tokens.{knowing, origin, subscription_name}
 use Rattle.flow_law.proofs.Names.{fits_own}
 use Rattle.flow_law.proofs.Owners.{history_left}
+use Rattle.flow_law.proofs.RealTimeLemmas.{grown_longer, before_own, began_now, IsTimed-snoc, IsTimed-seen}
 use Rattle.flow_law.proofs.TokenLemmas.{stands_next, may_grows}
 use Rattle.flow_gate.specs.Tokens.{GateToken, GateOrigin, SeatState, idle_seat, Finds, HasStood}
 use Rattle.flow_shared.specs.Calls.{HoldsFor, SaysIn}
@@ -19,11 +21,11 @@ module _ {K T S C R : Type 0} (kind : Kind T S C R) (StandsAs : K → S → Type
   -- t is the token of a caller inside, x the state as it was lent, y what it became; c' is the call as it was named on leaving
   module _ (first : S) (t : GateToken (Said C R)) (x y : K) (c c' : C) (r : R) (stood : StandsForHistory kind StandsAs first x t.knows.seen) (named : c' ≡ c)
       (documents : Documents kind StandsAs x c r y) (may : MayCall kind c t.knows.name t.knows.seen) where
-    both : StandsForHistory kind StandsAs first y (t.knows.seen ++ event t.knows.name (said c r) ∷ [])
-    both = stands_next kind StandsAs first x y t.knows.seen t.knows.name c r stood documents may
+    both : StandsForHistory kind StandsAs first y (t.knows.seen ++ event t.knows.name (length t.knows.seen) (said c r) ∷ [])
+    both = stands_next kind StandsAs first x y t.knows.seen t.knows.name (length t.knows.seen) c r stood documents may
 
-    pub may_leave : StandsForHistory kind StandsAs first y (t.knows.seen ++ event t.knows.name (said c' r) ∷ [])
-    may_leave = subst (λ (d : C). StandsForHistory kind StandsAs first y (t.knows.seen ++ event t.knows.name (said d r) ∷ [])) (sym named) both
+    pub may_leave : StandsForHistory kind StandsAs first y (t.knows.seen ++ event t.knows.name (length t.knows.seen) (said c' r) ∷ [])
+    may_leave = subst (λ (d : C). StandsForHistory kind StandsAs first y (t.knows.seen ++ event t.knows.name (length t.knows.seen) (said d r) ∷ [])) (sym named) both
 
     pub has_said : (after : SeatState K (Said C R)) → after ≡ idle_seat (knowing t (adds (said c' r ∷ []) t.knows)) → SaysIn kind first t c r after
     has_said after is = (is ∙ ap (λ (d : C). idle_seat (knowing t (adds (said d r ∷ []) t.knows))) named, both.0)
@@ -47,6 +49,10 @@ module _ {K T S C R : Type 0} (kind : Kind T S C R) (start : K → S) (StandsAs 
   pub has_seen : (flow : GateOrigin S) (gate : GateOrigin K) (t : GateToken (Said C R)) → origin gate.table_id (start gate.first) ≡ flow → HasStood stands gate t → IsHistory kind flow.first t.knows.seen
   has_seen flow gate t is stood = let of_gate = stood.1 in let grown = of_gate.2.0 in
       history_left kind flow.first t.knows.seen grown.0 (subst (λ (z : S × List (HistoryEvent (Said C R))). IsHistory kind z.0 z.1) (λ i. ((is i).first, grown.1 i)) of_gate.1.0)
+
+  -- its calls began in time
+  pub seen_in_time : (gate : GateOrigin K) (t : GateToken (Said C R)) → HasStood stands gate t → IsTimed t.knows.seen
+  seen_in_time gate t stood = let of_gate = stood.1 in IsTimed-seen t.knows.name t.knows.seen of_gate.0 of_gate.2.0 of_gate.3
 
   -- a caller that enters, makes a call and leaves
   module _ (law : Lawful kind) (flow : GateOrigin S) (gate : GateOrigin K) (before : GateToken (Said C R)) (seat : SeatState K (Said C R)) (is : origin gate.table_id (start gate.first) ≡ flow) (f : Finds stands gate before seat) where
@@ -74,8 +80,8 @@ module _ {K T S C R : Type 0} (kind : Kind T S C R) (start : K → S) (StandsAs 
     -- A call of the state that the seat lends made x into y. c' is the call as it was named on leaving.
     module _ (c : List ℕ → C) (x y : K) (r : R) (lent : seat.held ≡ Some x) (documents : Documents kind StandsAs x (c (subscription_name seat.token.knows)) r y)
         (may : MayCall kind (c (subscription_name before.knows)) before.knows.name before.knows.seen) (c' : C) (named : c' ≡ c (subscription_name seat.token.knows)) where
-      pub stands_inside : StandsForHistory kind StandsAs (start gate.first) y (seat.token.knows.seen ++ event seat.token.knows.name (said c' r) ∷ [])
-      stands_inside = subst (λ (s : S). StandsForHistory kind StandsAs s y (seat.token.knows.seen ++ event seat.token.knows.name (said c' r) ∷ [])) (sym first_is)
+      pub stands_inside : StandsForHistory kind StandsAs (start gate.first) y (seat.token.knows.seen ++ event seat.token.knows.name (length seat.token.knows.seen) (said c' r) ∷ [])
+      stands_inside = subst (λ (s : S). StandsForHistory kind StandsAs s y (seat.token.knows.seen ++ event seat.token.knows.name (length seat.token.knows.seen) (said c' r) ∷ [])) (sym first_is)
           (may_leave kind StandsAs flow.first seat.token x y (c (subscription_name seat.token.knows)) c' r (lent_stands kind StandsAs flow.first seat x found lent) named documents (may_inside c may))
 
       pub says_inside : (after : SeatState K (Said C R)) → after ≡ idle_seat (knowing seat.token (adds (said c' r ∷ []) seat.token.knows)) → SaysIn kind flow.first seat.token (c (subscription_name seat.token.knows)) r after
@@ -97,10 +103,16 @@ module _ {K T S C R : Type 0} (kind : Kind T S C R) (start : K → S) (StandsAs 
         name = refl;
         made = refl;
         lost = lost;
-        history = subst (λ (t : GateToken (Said C R)). IsHistory kind flow.first (t.knows.seen ++ event t.knows.name (said call r) ∷ [])) f.token said_here.1;
-        grows = (f.fits.0.0, ap (λ (l : List (HistoryEvent (Said C R))). l ++ event before.knows.name (said call r) ∷ []) f.fits.0.1, f.fits.0.2);
-        names = fits_own f.history before.knows (said call r ∷ []) f.fits;
+        history = subst (λ (t : GateToken (Said C R)). IsHistory kind flow.first (t.knows.seen ++ event t.knows.name (length t.knows.seen) (said call r) ∷ [])) f.token said_here.1;
+        began = length f.history;
+        grows = (f.fits.0.0, ap (λ (l : List (HistoryEvent (Said C R))). l ++ event before.knows.name (length f.history) (said call r) ∷ []) f.fits.0.1, f.fits.0.2);
+        in_time = (grown_longer before.knows.name before.knows.seen f.history f.fits.0, before_own f.history last (length f.history) (le_refl (length f.history)));
+        timed = IsTimed-snoc f.history last f.timed (began_now before.knows.name (said call r) f.history);
+        names = fits_own f.history before.knows (length f.history) (said call r) f.fits;
       }
+        where
+          last : HistoryEvent (Said C R)
+          last = event before.knows.name (length f.history) (said call r)
 
       is_after : after.token ≡ knowing entered (adds (said call r ∷ []) entered.knows)
       is_after = ap (λ (z : SeatState K (Said C R)). z.token) said_here.0 ∙ ap (λ (t : GateToken (Said C R)). knowing t (adds (said call r ∷ []) t.knows)) f.token

@@ -23,7 +23,7 @@ module _ {T : Type 0} where
   pub subscription_after_value : (first : StateFlowState T) (before after : StateKnowledge T) (u : ℕ) (r : StateReply T) → AddsOne (IsStateHistory first) before GetValue r after → IsSubscription state_flow before u → IsSubscription state_flow after u
   subscription_after_value first before after u r a old =
       let earlier : StateHistory T = before.seen ++ a.grows.0 in
-      let last : HistoryEvent (Said (StateCall T) (StateReply T)) = event before.name (said GetValue r) in
+      let last : HistoryEvent (Said (StateCall T) (StateReply T)) = event before.name a.began (said GetValue r) in
       let whole : IsStateHistory first (earlier ++ last ∷ []) = subst (IsStateHistory first) a.grows.1 a.history in
       let grown = subscription_grows state_flow state_lawful first before.name u before.seen earlier (history_left state_flow first earlier (last ∷ []) whole) (a.grows.0, refl, a.grows.2) old.0 old.1 in
       let there : IsSubscribed state_flow u (earlier ++ last ∷ []) = λ other l.

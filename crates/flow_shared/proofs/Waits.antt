@@ -27,7 +27,7 @@ module _ {T S C R : Type 0} (kind : Kind T S C R) (flow : GateOrigin S) where
   pub called_later : (t u w : GateToken (Said C R)) (c : C) (r : R) → IsBusy t u → flows.Calls kind flow u c r w → flows.Calls kind flow t c r w
   called_later t u w c r busy called = let a = subst (λ (z : GateToken (Said C R)). flows.Calls kind flow z c r w) busy called in (
     a.0,
-    record { name = a.1.name; made = a.1.made; lost = omega (arith, a.1.lost); history = a.1.history; grows = a.1.grows; names = a.1.names },
+    record { name = a.1.name; made = a.1.made; lost = omega (arith, a.1.lost); history = a.1.history; began = a.1.began; grows = a.1.grows; in_time = a.1.in_time; timed = a.1.timed; names = a.1.names },
   )
 
   -- so far nothing was found: every run of `next` from here on is the rest of a run from the old subscription

@@ -1,6 +1,6 @@
 -- What each call of a flow for several threads does, for any kind of flow. Begin with `Calls`: one word for every call that is
 -- an event. `flow` is the flow: which one, and the state that it began with.
-use Rattle.std.specs.Prelude.{◌≡◌, ◌≢◌, ℕ, List, ◌∷◌, [], ◌++◌, true, Some, Result, Ok, Err}
+use Rattle.std.specs.Prelude.{◌≡◌, ◌≢◌, ℕ, List, ◌∷◌, [], ◌++◌, length, true, Some, Result, Ok, Err}
 use Rattle.atomic_table.specs.Seated.{TableId}
 use Rattle.flow_law.specs.declared.fault.FlowFault.{FlowFault}
 use Rattle.flow_law.specs.declared.history.HistoryEvent.{HistoryEvent}
@@ -100,4 +100,4 @@ module _ {T S C R : Type 0} (kind : Kind T S C R) (first : S) where
   -- a caller that was inside made this call, got this reply and left
   abbrev pub SaysIn : {K : Type 0} → GateToken (Said C R) → C → R → SeatState K (Said C R) → Type 0
   SaysIn before call reply after =
-      (after ≡ idle_seat (flows.knowing before (adds (said call reply ∷ []) before.knows))) × IsHistory kind first (before.knows.seen ++ event before.knows.name (said call reply) ∷ [])
+      (after ≡ idle_seat (flows.knowing before (adds (said call reply ∷ []) before.knows))) × IsHistory kind first (before.knows.seen ++ event before.knows.name (length before.knows.seen) (said call reply) ∷ [])

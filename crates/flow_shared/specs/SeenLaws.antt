@@ -13,6 +13,7 @@ use Rattle.flow_law.specs.Current.{Converges}
 use Rattle.flow_law.specs.History.{IsHistory}
 use Rattle.flow_law.specs.Lagging.{EachLags}
 use Rattle.flow_law.specs.Laws.{Delivers, NoIdleQueue}
+use Rattle.flow_law.specs.RealTime.{InRealTime}
 use Rattle.flow_law.specs.Replaying.{EachReplays}
 use Rattle.flow_law.specs.SharedHistory.{shared_flow, state_after}
 use Rattle.flow_law.specs.StateFlow.{IsStateHistory}
@@ -22,6 +23,7 @@ module _ {T : Type 0} where
   -- it is a history of the shared flow that began with this state, and the laws of shared flows hold of it
   pub record SharedLaws (first : SharedFlowState T) (seen : List (HistoryEvent (Said (SharedCall T) (SharedReply T)))) : Type 0 where
     pub history : IsHistory shared_flow first seen
+    pub in_real_time : InRealTime seen
     pub delivered : (u : ℕ) → Delivers u first.config seen
     pub no_idle_queue : NoIdleQueue (state_after first.config seen)
     pub admitted : EachWaits first.config seen
@@ -31,5 +33,6 @@ module _ {T : Type 0} where
   -- it is a history of the state flow that began with this state, and the laws of state flows hold of it
   pub record StateLaws (first : StateFlowState T) (seen : List (HistoryEvent (Said (StateCall T) (StateReply T)))) : Type 0 where
     pub history : IsStateHistory first seen
+    pub in_real_time : InRealTime seen
     pub conflated : Conflates first.value seen
     pub current : (u : ℕ) → Converges u first seen

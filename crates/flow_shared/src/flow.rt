@@ -2,6 +2,7 @@
 ghost use Rattle.std.specs.Prelude.{◌≡◌, IfOk, IfErr, IfSome};
 ghost use Rattle.flow_law.specs.History.{IsHistory};
 ghost use Rattle.flow_law.specs.Growth.{makes, child};
+ghost use Rattle.flow_law.specs.RealTime.{IsTimed};
 ghost use Rattle.flow_law.specs.Tokens.{Begins, knowing};
 ghost use Rattle.flow_law.specs.declared.fault.FlowFault.TheVariants.{OutOfMemory};
 ghost use Rattle.flow_shared.specs.Calls.{ClosesAs, Meets};
@@ -118,6 +119,7 @@ impl<S: FlowCore + Drop, A: Allocator + Copy> Flow<S, A> {
         requires { seat.old.table_id ≡ self.now.table_id }
         ensures unchanged { seat.new ≡ seat.old }
         ensures history { IsHistory S.kind self.now.first seat.new.knows.seen }
+        ensures timed { IsTimed seat.new.knows.seen }
     {
         self.gate.look(&mut seat.seat);
     }

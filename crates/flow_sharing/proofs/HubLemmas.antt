@@ -137,23 +137,23 @@ shared-watches resets h k a other does = ap (λ (s : SharedSeats _ _). s.watchin
 
 module _ {Id T : Type 0} (first : SharedFlowState T) (h k : SharedSeats Id T) where
   put-sends : (x : T) (a : Result Bool FlowFault) (emission : Option ℕ) → PutBy first x h.sending a k.sending emission → Silent SharedSays h k ⊎ SendsOne SharedSays (puts x) h k
-  put-sends x (Ok false) emission does = inr (_, refl, does.0.0.1.grows)
-  put-sends x (Ok true) emission (number, does, is) = inr (_, refl, does.0.1.grows)
-  put-sends x (Err OutOfMemory) emission does = inr (_, refl, does.0.0.1.grows)
-  put-sends x (Err TooLarge) emission does = inr (_, refl, does.0.0.1.grows)
-  put-sends x (Err NeedsBuffer) emission does = inr (_, refl, does.0.0.1.grows)
-  put-sends x (Err Exhausted) emission does = inr (_, refl, does.0.0.1.grows)
-  put-sends x (Err Unsupported) emission does = inr (_, refl, does.0.0.1.grows)
+  put-sends x (Ok false) emission does = inr (_, refl, does.0.0.1.began, does.0.0.1.grows)
+  put-sends x (Ok true) emission (number, does, is) = inr (_, refl, does.0.1.began, does.0.1.grows)
+  put-sends x (Err OutOfMemory) emission does = inr (_, refl, does.0.0.1.began, does.0.0.1.grows)
+  put-sends x (Err TooLarge) emission does = inr (_, refl, does.0.0.1.began, does.0.0.1.grows)
+  put-sends x (Err NeedsBuffer) emission does = inr (_, refl, does.0.0.1.began, does.0.0.1.grows)
+  put-sends x (Err Exhausted) emission does = inr (_, refl, does.0.0.1.began, does.0.0.1.grows)
+  put-sends x (Err Unsupported) emission does = inr (_, refl, does.0.0.1.began, does.0.0.1.grows)
   put-sends x (Err Busy) emission does = inl (ap (λ (t : SenderToken Id T). t.knows.seen) does.0)
 
   poll-sends : (waiting : Option ℕ) (a : Result Bool FlowFault) (emission : Option ℕ) → PollBy first waiting h.sending a k.sending emission → Silent SharedSays h k ⊎ SendsOne SharedSays polls h k
   poll-sends None a emission does = inl (ap (λ (t : SenderToken Id T). t.knows.seen) does.1)
-  poll-sends (Some number) (Ok waits) emission does = inr (_, (number, refl), does.0.0.1.grows)
+  poll-sends (Some number) (Ok waits) emission does = inr (_, (number, refl), does.0.0.1.began, does.0.0.1.grows)
   poll-sends (Some number) (Err fault) emission does = inl (ap (λ (t : SenderToken Id T). t.knows.seen) does.1)
 
   cancel-sends : (waiting : Option ℕ) (a : Result Bool FlowFault) (emission : Option ℕ) → CancelBy first waiting h.sending a k.sending emission → Silent SharedSays h k ⊎ SendsOne SharedSays cancels h k
   cancel-sends None a emission does = inl (ap (λ (t : SenderToken Id T). t.knows.seen) does.1)
-  cancel-sends (Some number) (Ok waited) emission does = inr (_, (number, refl), does.0.0.1.grows)
+  cancel-sends (Some number) (Ok waited) emission does = inr (_, (number, refl), does.0.0.1.began, does.0.0.1.grows)
   cancel-sends (Some number) (Err fault) emission does = inl (ap (λ (t : SenderToken Id T). t.knows.seen) does.1)
 
 shared-sends : {Id T : Type 0} (c : HubCall T) (h k : SharedSeats Id T) (a : HubAnswer c) → SharedFlowHubDoes c h a k → Sends SharedSays c a h k
@@ -161,7 +161,7 @@ shared-sends counts h k a does = ap (λ (s : SharedSeats _ _). s.sending.knows.s
 shared-sends (puts x) h k a does = put-sends h.flow.first h k x a k.emission does.0
 shared-sends polls h k a does = poll-sends h.flow.first h k h.emission a k.emission does.0
 shared-sends cancels h k a does = cancel-sends h.flow.first h k h.emission a k.emission does.0
-shared-sends resets h k (Ok done) does = (_, refl, does.0.0.0.1.grows)
+shared-sends resets h k (Ok done) does = (_, refl, does.0.0.0.1.began, does.0.0.0.1.grows)
 shared-sends resets h k (Err fault) does = ap (λ (t : SenderToken _ _). t.knows.seen) does.0.1
 
 pub shared-by-seats : (Id T : Type 0) (waits : SharedSeats Id T → Bool) → BySeats (shared_flow {T = T}) SharedSays (HubStep SharedFlowHubDoes waits)
@@ -199,11 +199,11 @@ state-watches resets h k (Err fault) other (inr (is, same)) = ap (λ (s : StateS
 
 state-sends : {Id T : Type 0} (c : HubCall T) (h k : StateSeats Id T) (a : HubAnswer c) → StateFlowHubDoes c h a k → Sends StateSays c a h k
 state-sends counts h k a does = ap (λ (s : StateSeats _ _). s.sending.knows.seen) does.1
-state-sends (puts x) h k (Ok waits) (none, does, only) = inr (_, refl, does.0.1.grows)
+state-sends (puts x) h k (Ok waits) (none, does, only) = inr (_, refl, does.0.1.began, does.0.1.grows)
 state-sends (puts x) h k (Err fault) (is, lost, only) = inl (ap (λ (t : Token _ _). t.knows.seen) lost)
 state-sends polls h k a (none, is) = inl (ap (λ (s : StateSeats _ _). s.sending.knows.seen) is)
 state-sends cancels h k a (none, is) = inl (ap (λ (s : StateSeats _ _). s.sending.knows.seen) is)
-state-sends resets h k (Ok done) (does, only) = (_, refl, does.0.1.grows)
+state-sends resets h k (Ok done) (does, only) = (_, refl, does.0.1.began, does.0.1.grows)
 state-sends resets h k (Err fault) (inl (is, lost, only)) = ap (λ (t : Token _ _). t.knows.seen) lost
 state-sends resets h k (Err fault) (inr (is, same)) = ap (λ (s : StateSeats _ _). s.sending.knows.seen) same
 

@@ -28,7 +28,7 @@ module _ {Id T S C R : Type 0} (kind : Kind T S C R) (first : S) where
       let grows = called.0.1.grows in (
         called.0.0,
         called.0.1.name,
-        (grows.0 ++ event before.knows.name (said call reply) ∷ [], grows.1 ∙ append_assoc before.knows.seen grows.0 (event before.knows.name (said call reply) ∷ [])),
+        (grows.0 ++ event before.knows.name called.0.1.began (said call reply) ∷ [], grows.1 ∙ append_assoc before.knows.seen grows.0 (event before.knows.name called.0.1.began (said call reply) ∷ [])),
       )
 
 module _ {Id S E I : Type 0} where

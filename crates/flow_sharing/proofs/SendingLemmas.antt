@@ -19,7 +19,7 @@ module _ {Id T S E I : Type 0} (Says : I → HubCall T → E → Type 0) where
 
   -- it has added the event that the call is
   abbrev pub SendsOne : HubCall T → SeatedHub Id S E I → SeatedHub Id S E I → Type 0
-  SendsOne c h k = (what : E) × Says h.initial c what × Grows h.sending.knows.name h.sending.knows.seen what k.sending.knows.seen
+  SendsOne c h k = (what : E) × Says h.initial c what × (at : ℕ) × Grows h.sending.knows.name h.sending.knows.seen at what k.sending.knows.seen
 
   -- what each call of a hub has to satisfy
   abbrev pub Sends : (c : HubCall T) → HubAnswer c → SeatedHub Id S E I → SeatedHub Id S E I → Type 0
@@ -54,10 +54,10 @@ module _ {Id T S E I : Type 0} (Says : I → HubCall T → E → Type 0) (step :
 
   -- and before one in which it adds an event
   adds-one : (c : HubCall T) (calls : List (HubCall T)) (h m k : SeatedHub Id S E I) → FollowsInTurn began h → SendsOne Says c h m → Adds calls m k → Adds (c ∷ calls) h k
-  adds-one c calls h m k follows (what, says, grows) adds = (
+  adds-one c calls h m k follows (what, says, at, grows) adds = (
     what,
     subst (λ i. Says i c what) follows.1 says,
-    (m.sending.knows.seen, subst (λ n. Grows n h.sending.knows.seen what m.sending.knows.seen) follows.3.1 grows, adds),
+    (m.sending.knows.seen, at, subst (λ n. Grows n h.sending.knows.seen at what m.sending.knows.seen) follows.3.1 grows, adds),
   )
 
   abbrev AddsNoReset : SeatedHub Id S E I → SeatedHub Id S E I → Type 0

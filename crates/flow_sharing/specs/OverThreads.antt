@@ -65,7 +65,7 @@ module _ {Id S E I : Type 0} where
 abbrev pub AddsFor : {T E : Type 0} → (HubCall T → E → Type 0) → List ℕ → List (HubCall T) → List (HistoryEvent E) → List (HistoryEvent E) → Type 0
 AddsFor Says name [] earlier later = later ≡ earlier
 AddsFor {E = E} Says name (call ∷ calls) earlier later =
-    (what : E) × Says call what × ((between : List (HistoryEvent E)) × Grows name earlier what between × AddsFor Says name calls between later)
+    (what : E) × Says call what × ((between : List (HistoryEvent E)) × (began : ℕ) × Grows name earlier began what between × AddsFor Says name calls between later)
 
 -- whether a turn makes a reset: it was due or asked for, and is not left due
 abbrev pub makes_reset : Bool → Bool → Bool

@@ -78,7 +78,7 @@ module _ {T : Type 0} (u : ℕ) where
       h = before.seen ++ a.grows.0
 
       e : HistoryEvent (Said (SharedCall T) (SharedReply T))
-      e = event before.name (said (call.TakeNext u) (reply.Received Empty))
+      e = event before.name a.began (said (call.TakeNext u) (reply.Received Empty))
 
       s : SharedFlowState T
       s = shared_after_all first h
@@ -143,7 +143,7 @@ module _ {T : Type 0} (u : ℕ) where
 pub is_newest : {T : Type 0} (first : StateFlowState T) (before after : Knowledge (Said (StateCall T) (StateReply T))) (v : T) → AddsOne (IsStateHistory first) before GetValue (Got v) after
     → Conflates first.value after.seen → IsNewest first.value after.seen v
 is_newest {T} first before after v a conflates = λ u unreached reached.
-    let h = before.seen ++ a.grows.0 in let e = event before.name (said GetValue (Got v)) in let m = beside unreached first.value in
+    let h = before.seen ++ a.grows.0 in let e = event before.name a.began (said GetValue (Got v)) in let m = beside unreached first.value in
     let agrees = subst (AgreeAll u m) a.grows.1 (conflates u unreached reached) in
     ap (λ (z : StateHistory T). cache (beside_after u m z).shared) a.grows.1 ∙ ap (λ (z : Beside T). cache z.shared) (after_last u m h e) ∙ last_agrees u m h e agrees
 

@@ -63,15 +63,17 @@ module _ {T : Type 0} where
   reads_back flow old middle new value (Err fault) set read = tt
   reads_back flow old middle new value (Ok found) set read =
       let name = old.knows.name in let one = set.1.grows in let two = read.1.grows in let own : middle.knows.name ≡ name = set.1.name in
-      let sets = event name (said (call.Set value) reply.Done) in let reads = event name (said call.GetValue (reply.Got found)) in
+      let sets = event name set.1.began (said (call.Set value) reply.Done) in let reads = event name read.1.began (said call.GetValue (reply.Got found)) in
       let h = old.knows.seen ++ one.0 in
-      let read_is : new.knows.seen ≡ (middle.knows.seen ++ two.0) ++ reads ∷ [] = two.1 ∙ ap (λ n. (middle.knows.seen ++ two.0) ++ event n (said call.GetValue (reply.Got found)) ∷ []) own in
+      let read_is : new.knows.seen ≡ (middle.knows.seen ++ two.0) ++ reads ∷ [] = two.1 ∙ ap (λ n. (middle.knows.seen ++ two.0) ++ event n read.1.began (said call.GetValue (reply.Got found)) ∷ []) own in
       let seen : new.knows.seen ≡ ((h ++ sets ∷ []) ++ two.0) ++ reads ∷ [] = read_is ∙ ap (λ l. (l ++ two.0) ++ reads ∷ []) one.1 in
       let legal = (subst (IsStateHistory flow.first) seen read.1.history).legal in
       let replied : reply.Got found ≡ reply.Got (state_after_all flow.first ((h ++ sets ∷ []) ++ two.0)).value = (legal_right state_flow flow.first ((h ++ sets ∷ []) ++ two.0) (reads ∷ []) legal).0 in
       record {
         earlier = one.0;
         between = two.0;
+        set_began = set.1.began;
+        read_began = read.1.began;
         seen = seen;
         earlier_by_others = one.2;
         between_by_others = subst (λ n. IsSilent n two.0) own two.2;

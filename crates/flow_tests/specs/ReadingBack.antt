@@ -1,5 +1,5 @@
 -- What a caller of a state flow knows after it has set a value and then read the current one.
-use Rattle.std.specs.Prelude.{◌≡◌, true, List, [], ◌∷◌, ◌++◌}
+use Rattle.std.specs.Prelude.{◌≡◌, ℕ, true, List, [], ◌∷◌, ◌++◌}
 use Rattle.flow_law.specs.declared.history.Knowledge.{Knowledge}
 use Rattle.flow_law.specs.declared.history.Said.{Said}
 use Rattle.flow_law.specs.declared.call.StateCall.{StateCall}
@@ -28,7 +28,11 @@ module _ {T : Type 0} where
   pub record ReadsBack (before : Knowledge (Said (StateCall T) (StateReply T))) (value found : T) (after : Knowledge (Said (StateCall T) (StateReply T))) : Type 0 where
     pub earlier : StateHistory T
     pub between : StateHistory T
-    pub seen : after.seen ≡ (((before.seen ++ earlier) ++ event before.name (said (Set value) Done) ∷ []) ++ between) ++ event before.name (said GetValue (Got found)) ∷ []
+    -- when the two calls began
+    pub set_began : ℕ
+    pub read_began : ℕ
+    pub seen : after.seen
+        ≡ (((before.seen ++ earlier) ++ event before.name set_began (said (Set value) Done) ∷ []) ++ between) ++ event before.name read_began (said GetValue (Got found)) ∷ []
     pub earlier_by_others : IsSilent before.name earlier
     pub between_by_others : IsSilent before.name between
     pub last_set : found ≡ value_after value between

@@ -1,5 +1,5 @@
 -- Each step on a word keeps the rule of the table. Begin with `makes_event`: a step that is the one event of a call.
-use Rattle.std.proofs.Common.{◌≡◌, ◌≢◌, ℕ, Bool, true, false, eqb, eq-eqb, ne_eqb, ◌%◌, ◌<◌, List, [], ◌∷◌, ◌++◌, map, length, get_or, set, Option, refl, sym, ap, ◌∙◌, subst, inl, inr, le_refl, arith}
+use Rattle.std.proofs.Common.{◌≡◌, ◌≢◌, ℕ, ◌≤◌, Bool, true, false, eqb, eq-eqb, ne_eqb, ◌%◌, ◌<◌, List, [], ◌∷◌, ◌++◌, map, length, get_or, set, Option, refl, sym, ap, ◌∙◌, subst, inl, inr, le_refl, arith}
 use mathlib.Core.Logic.{dite}
 use mathlib.Core.Option.{none, some}
 use native.Mathlib.Decide.{ℕ_discrete}
@@ -17,17 +17,19 @@ use Rattle.flow_law.specs.declared.call.StateReply.TheVariants as reply
 use Rattle.flow_law.specs.declared.states.StateFlowState.{StateFlowState}
 use Rattle.flow_law.specs.Growth.{Fits, IsApartFrom, event}
 use Rattle.flow_law.specs.History.{MayCall}
+use Rattle.flow_law.specs.RealTime.{BeganInTime, began_at}
 use Rattle.flow_law.specs.Promise.{said}
 use Rattle.flow_law.specs.Seats.{SeatAt}
 use Rattle.flow_law.specs.StateFlow.{StateHistory, state_flow_after, StateFlowReplies, state_flow, state_after_all, IsStateHistory}
 use Rattle.flow_law.proofs.HistoryLemmas.{after_all-snoc, IsHistory-snoc}
 use Rattle.flow_law.proofs.Names.{grew_refl, fits_more, fits_own}
+use Rattle.flow_law.proofs.RealTimeLemmas.{since_seen, since_more, grown_longer, before_own, one_longer, began_since, IsTimed-snoc}
 use Rattle.flow_law.proofs.SeatLemmas.{changed, at_only}
 use Rattle.flow_law.proofs.StateCounts.{IsCounted, is_counted}
 use Rattle.flow_word.specs.declared.view.Known.{Known}
 use Rattle.flow_word.specs.declared.view.LastGot.{LastGot}
 use Rattle.flow_word.specs.declared.view.Start.{Start}
-use Rattle.flow_word.specs.View.{begun, known, only_in_view}
+use Rattle.flow_word.specs.View.{begun, known, in_call, only_in_view}
 use Rattle.flow_word.specs.Rule.{counts, IsFine, WordHolds}
 use Rattle.flow_word.specs.Steps.{StepMakes, reads, sets, exchanges, counts_live}
 
@@ -45,12 +47,13 @@ module _ (T : Type 0) (packs : ℕ → Type 0) (value_of : ℕ → T) (start : S
   abbrev pub now : StateHistory T → StateFlowState T
   now h = state_after_all (begun value_of start) h
 
-  abbrev pub event_by : Known T → StateCall T → StateReply T → HistoryEvent (Said (StateCall T) (StateReply T))
-  event_by x c r = event x.knows.name (said c r)
+  -- the event that a step adds to this history
+  abbrev pub event_by : Known T → StateHistory T → StateCall T → StateReply T → HistoryEvent (Said (StateCall T) (StateReply T))
+  event_by x h c r = event x.knows.name (began_at x.began (length h)) (said c r)
 
   -- the token after its call, which is then this subscriber
   abbrev pub after_call : Known T → StateHistory T → StateCall T → StateReply T → Option LastGot → Known T
-  after_call x h c r got = known (record { name = x.knows.name; made = x.knows.made; lost = x.knows.lost; seen = h ++ event_by x c r ∷ [] }) x.start got
+  after_call x h c r got = known (record { name = x.knows.name; made = x.knows.made; lost = x.knows.lost; seen = h ++ event_by x h c r ∷ [] }) x.start got
 
   pub found_at : (s : St) (id : ℕ) (v : V) → v ≡ only_in_view v ∷ [] → get_elem? s.views id ≡ some v → SeatAt (λ (v : V). v) s.views id 0 (only_in_view v)
   found_at s id v is at = (v, at, subst (λ (l : V). get_elem? l 0 ≡ some (only_in_view v)) (sym is) refl)
@@ -61,6 +64,16 @@ module _ (T : Type 0) (packs : ℕ → Type 0) (value_of : ℕ → T) (start : S
   pub fits_at : (s : St) (r : Rule s) (id : ℕ) (v : V) → v ≡ only_in_view v ∷ [] → get_elem? s.views id ≡ some v → Fits r.history (only_in_view v).knows
   fits_at s r id v is at = (r.seats.fine id 0 (only_in_view v) (found_at s id v is at)).0
 
+  -- its call began between what its token had seen and this step
+  began_within : (s : St) (r : Rule s) (id : ℕ) (v : V) → v ≡ only_in_view v ∷ [] → get_elem? s.views id ≡ some v
+      → (length (only_in_view v).knows.seen ≤ began_at (only_in_view v).began (length r.history)) × (began_at (only_in_view v).began (length r.history) ≤ length r.history)
+  began_within s r id v is at = let x = only_in_view v in let f = r.seats.fine id 0 x (found_at s id v is at) in
+      since_seen x.began (length x.knows.seen) (length r.history) f.2 (grown_longer x.knows.name x.knows.seen r.history f.0.0)
+
+  begins_in_time : (s : St) (r : Rule s) (id : ℕ) (v : V) (c : StateCall T) (y : StateReply T) → v ≡ only_in_view v ∷ [] → get_elem? s.views id ≡ some v → BeganInTime r.history (event_by (only_in_view v) r.history c y)
+  begins_in_time s r id v c y is at = let x = only_in_view v in let w = began_within s r id v is at in
+      began_since x.knows.name (began_at x.began (length r.history)) (said c y) x.knows.seen r.history (fits_at s r id v is at).0 w.0 w.1
+
   -- a step that is the one event of a call keeps the rule
   pub makes_event : (s : St) (r : Rule s) (id : ℕ) (v : V) (c : StateCall T) (y : StateReply T) (got : Option LastGot) (words' : List ℕ) (word' : ℕ) → v ≡ only_in_view v ∷ [] → get_elem? s.views id ≡ some v
       → StateFlowReplies (now r.history) c y → MayCall state_flow c (only_in_view v).knows.name r.history
@@ -69,6 +82,7 @@ module _ (T : Type 0) (packs : ℕ → Type 0) (value_of : ℕ → T) (start : S
   makes_event s r id v c y got words' word' is at replies may ws packed value = record {
     history = h';
     is_history = IsHistory-snoc state_flow (begun value_of start) h e r.is_history replies may;
+    timed = IsTimed-snoc h e r.timed (begins_in_time s r id v c y is at);
     word = word';
     packed = packed;
     value = value ∙ ap (λ (z : StateFlowState T). z.value) next;
@@ -86,7 +100,7 @@ module _ (T : Type 0) (packs : ℕ → Type 0) (value_of : ℕ → T) (start : S
       h = r.history
 
       e : HistoryEvent (Said (StateCall T) (StateReply T))
-      e = event_by x c y
+      e = event_by x h c y
 
       h' : StateHistory T
       h' = h ++ e ∷ []
@@ -100,12 +114,12 @@ module _ (T : Type 0) (packs : ℕ → Type 0) (value_of : ℕ → T) (start : S
       own : (a : ℕ) (z : Known T) → get_elem? v a ≡ some z → IsFine start h' (known (record { name = z.knows.name; made = z.knows.made; lost = z.knows.lost; seen = h' }) z.start got)
       own a z p = let same : x ≡ z = (at_only x z a (subst (λ (l : V). get_elem? l a ≡ some z) is p)).1 in
           subst (λ (k : Known T). IsFine start h' (known (record { name = k.knows.name; made = k.knows.made; lost = k.knows.lost; seen = h' }) k.start got)) same
-          ((grew_refl x.knows.name h', fits_own h x.knows (said c y ∷ []) (fits_at s r id v is at)), started s r id v is at)
+          ((grew_refl x.knows.name h', fits_own h x.knows (began_at x.began (length h)) (said c y) (fits_at s r id v is at)), started s r id v is at, tt)
 
       others : (i a : ℕ) (z : Known T) → i ≢ id → SeatAt (λ (v : V). v) s.views i a z → IsFine start h' z
       others i a z ne p = let f = r.seats.fine i a z p in
           let xz : IsApartFrom x.knows z.knows = r.seats.apart id 0 i a x z place p (inl (λ q. ne (sym q))) in let zx : IsApartFrom z.knows x.knows = r.seats.apart i a id 0 z x p place (inl ne) in
-          (fits_more h z.knows x.knows.name (said c y ∷ []) xz.0 zx.1 f.0, f.1)
+          (fits_more h z.knows e xz.0 zx.1 f.0, f.1, since_more z.began (length z.knows.seen) (length h) (length h') (one_longer h e) f.2)
 
   -- and the step proves that call to its caller
   pub names_event : (s : St) (r : Rule s) (id : ℕ) (v : V) (cs : List (ℕ × Unit {0})) (c : StateCall T) (y : StateReply T) (got : Option LastGot) → v ≡ only_in_view v ∷ [] → get_elem? s.views id ≡ some v
@@ -116,8 +130,11 @@ module _ (T : Type 0) (packs : ℕ → Type 0) (value_of : ℕ → T) (start : S
       made = refl;
       lost = le_refl (only_in_view v).knows.lost;
       history = subst (λ (z : Start). IsStateHistory (begun value_of z) h') (sym (started s r id v is at)) (IsHistory-snoc state_flow (begun value_of start) r.history e r.is_history replies may);
+      began = began_at (only_in_view v).began (length r.history);
       grows = (fits.0.0, ap (λ (l : StateHistory T). l ++ e ∷ []) fits.0.1, fits.0.2);
-      names = fits_own r.history (only_in_view v).knows (said c y ∷ []) fits;
+      in_time = let w = began_within s r id v is at in (w.0, before_own r.history e (began_at (only_in_view v).began (length r.history)) w.1);
+      timed = IsTimed-snoc r.history e r.timed (begins_in_time s r id v c y is at);
+      names = fits_own r.history (only_in_view v).knows (began_at (only_in_view v).began (length r.history)) (said c y) fits;
     },
     refl,
     refl,
@@ -125,7 +142,7 @@ module _ (T : Type 0) (packs : ℕ → Type 0) (value_of : ℕ → T) (start : S
   )
     where
       e : HistoryEvent (Said (StateCall T) (StateReply T))
-      e = event_by (only_in_view v) c y
+      e = event_by (only_in_view v) r.history c y
 
       h' : StateHistory T
       h' = r.history ++ e ∷ []
@@ -139,6 +156,29 @@ module _ (T : Type 0) (packs : ℕ → Type 0) (value_of : ℕ → T) (start : S
   -- a step of no event, which changes nothing
   pub still : (s : St) (r : Rule s) (i id : ℕ) (v : V) → get_elem? s.views id ≡ some v → Rule record { words = set s.words i (get_or s.words i 0); homes = s.homes; views = set s.views id v }
   still s r i id v at = subst Rule (λ k. record { words = sym (set-get_or s.words i 0) k; homes = s.homes; views = sym (set_again s.views id v at) k }) r
+
+  -- a step of no event in a call, or the first one: it notes when the call began
+  pub goes_on : (s : St) (r : Rule s) (i id : ℕ) (v : V) → v ≡ only_in_view v ∷ [] → get_elem? s.views id ≡ some v
+      → Rule record { words = set s.words i (get_or s.words i 0); homes = s.homes; views = set s.views id (in_call (began_at (only_in_view v).began (length r.history)) (only_in_view v) ∷ []) }
+  goes_on s r i id v is at = subst (λ (z : List ℕ). Rule record { words = z; homes = s.homes; views = set s.views id (calls (only_in_view v) ∷ []) }) (sym (set-get_or s.words i 0)) record {
+    history = r.history;
+    is_history = r.is_history;
+    timed = r.timed;
+    word = r.word;
+    packed = r.packed;
+    value = r.value;
+    words = r.words;
+    limit_fits = r.limit_fits;
+    seats = changed (λ (v : V). v) (λ (x : Known T). x.knows) (IsFine start r.history) calls (λ _. refl) (λ z. le_refl z.knows.made) s.views id v (calls (only_in_view v) ∷ []) at
+        (ap (λ (l : V). map calls l) (sym is)) own (λ i a z _ p. r.seats.fine i a z p) r.seats.apart;
+  }
+    where
+      calls : Known T → Known T
+      calls = in_call (began_at (only_in_view v).began (length r.history))
+
+      own : (a : ℕ) (z : Known T) → get_elem? v a ≡ some z → IsFine start r.history (calls z)
+      own a z p = let same : only_in_view v ≡ z = (at_only (only_in_view v) z a (subst (λ (l : V). get_elem? l a ≡ some z) is p)).1 in
+          subst (λ (k : Known T). IsFine start r.history (calls k)) same (fits_at s r id v is at, started s r id v is at, began_within s r id v is at)
 
   -- ---- the word of the value
 

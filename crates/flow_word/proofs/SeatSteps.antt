@@ -37,6 +37,7 @@ module _ (T : Type 0) (packs : ℕ → Type 0) (value_of : ℕ → T) (start : S
   reseated s r views seats = record {
     history = r.history;
     is_history = r.is_history;
+    timed = r.timed;
     word = r.word;
     packed = r.packed;
     value = r.value;
@@ -49,13 +50,14 @@ module _ (T : Type 0) (packs : ℕ → Type 0) (value_of : ℕ → T) (start : S
   opens packed fits = record {
     history = [];
     is_history = record { begins = refl; legal = tt; owned = tt };
+    timed = tt;
     word = start.word;
     packed = packed;
     value = refl;
     words = refl;
     limit_fits = fits;
     seats = record {
-      fine = λ i a x p. subst (IsFine start []) (at i a x p).2 ((grew_refl [] [], tt), refl);
+      fine = λ i a x p. subst (IsFine start []) (at i a x p).2 ((grew_refl [] [], tt), refl, tt);
       apart = λ i a j b x y p q ne. let m = at i a x p in let n = at j b y q in ⊎_elim (λ d. absurd (d (m.0 ∙ sym n.0))) (λ d. absurd (d (m.1 ∙ sym n.1))) ne;
     };
   }
@@ -67,7 +69,7 @@ module _ (T : Type 0) (packs : ℕ → Type 0) (value_of : ℕ → T) (start : S
   pub making : (id : ℕ) (v : V) → v ≡ only_in_view v ∷ [] → Splits Rule id v (map (with_knows makes) v) (map (with_knows child) v)
   making id v is s r at = let x : Known T = only_in_view v in let fits = fits_at T packs value_of start s r id v is at in let from = started T packs value_of start s r id v is at in
       reseated s r _ (made (λ (v : V). v) (λ (x : Known T). x.knows) (IsFine start r.history) s.views id v (map (with_knows makes) v) (map (with_knows child) v) x (with_knows makes x) (with_knows child x) is
-      (ap (λ (l : V). map (with_knows makes) l) is) (ap (λ (l : V). map (with_knows child) l) is) refl refl (makes_fits x.knows r.history fits, from) (child_fits x.knows r.history fits, from) at r.seats)
+      (ap (λ (l : V). map (with_knows makes) l) is) (ap (λ (l : V). map (with_knows child) l) is) refl refl (makes_fits x.knows r.history fits, from, tt) (child_fits x.knows r.history fits, from, tt) at r.seats)
 
   -- a view of no token
   pub blanks : (id : ℕ) (v : V) → Splits Rule id v v []
@@ -87,10 +89,11 @@ module _ (T : Type 0) (packs : ℕ → Type 0) (value_of : ℕ → T) (start : S
     tt,
     subst (λ (z : List ℕ). Rule record { words = z; homes = s.homes; views = set s.views id (map (with_knows (sees h)) me.0) }) (sym (set-get_or s.words 0 0))
         (reseated s r _ (changed (λ (v : V). v) (λ (x : Known T). x.knows) (IsFine start h) (with_knows (sees h)) (λ _. refl) (λ z. le_refl z.knows.made) s.views id me.0 (map (with_knows (sees h)) me.0) at refl
-        (λ a z p. let f = r.seats.fine id a z (me.0, at, p) in ((grew_refl z.knows.name h, f.0.1), f.1)) (λ i a z _ p. r.seats.fine i a z p) r.seats.apart)),
+        (λ a z p. let f = r.seats.fine id a z (me.0, at, p) in ((grew_refl z.knows.name h, f.0.1), f.1, tt)) (λ i a z _ p. r.seats.fine i a z p) r.seats.apart)),
     (
       h,
       subst (λ (z : Start). IsStateHistory (begun value_of z) h) (sym (ap (λ (l : V). (only_in_view l).start) is ∙ first.1)) r.is_history,
+      r.timed,
       subst (AllByRecursion (λ (z : Known T). Fits h z.knows)) (sym is) (first.0, (second.0, tt)),
       refl,
     ),
@@ -112,7 +115,7 @@ module _ (T : Type 0) (packs : ℕ → Type 0) (value_of : ℕ → T) (start : S
     keeps,
     tt,
     still T packs value_of start s r 0 id me.0 at,
-    (r.history, subst (λ (z : Start). IsStateHistory (begun value_of z) r.history) (sym (started T packs value_of start s r id me.0 is at)) r.is_history, fits_at T packs value_of start s r id me.0 is at, refl),
+    (r.history, subst (λ (z : Start). IsStateHistory (begun value_of z) r.history) (sym (started T packs value_of start s r id me.0 is at)) r.is_history, r.timed, fits_at T packs value_of start s r id me.0 is at, refl),
   )
 
   -- two tokens are split again

@@ -21,6 +21,7 @@ use Rattle.flow_law.specs.declared.states.StateFlowState.{StateFlowState}
 use Rattle.flow_law.specs.declared.states.StateSubscriber.{StateSubscriber}
 use Rattle.flow_law.specs.Growth.{Fits, sees, child}
 use Rattle.flow_law.specs.History.{subscriber, IsGiven}
+use Rattle.flow_law.specs.RealTime.{began_at}
 use Rattle.flow_law.specs.StateFlow.{StateHistory, last_got_by, is_state_exhausted, state_flow_after, Receives, StateFlowReplies, state_flow, state_after_all, IsStateHistory}
 use Rattle.flow_law.specs.Tokens.{subscription_name}
 use Rattle.flow_law.proofs.HistoryLemmas.{after_all-snoc, IsHistory-snoc}
@@ -33,10 +34,10 @@ use Rattle.flow_law.proofs.Subscriptions.{given_grows}
 use Rattle.flow_word.specs.declared.view.Known.{Known}
 use Rattle.flow_word.specs.declared.view.LastGot.{LastGot}
 use Rattle.flow_word.specs.declared.view.Start.{Start}
-use Rattle.flow_word.specs.View.{StateKnowledge, begun, got_last, only_in_view}
+use Rattle.flow_word.specs.View.{StateKnowledge, begun, got_last, in_call, only_in_view}
 use Rattle.flow_word.specs.Rule.{counts, WordHolds}
 use Rattle.flow_word.specs.Steps.{word_received, value_in, IsPack, HasGot, StepMakes, reads_by, receives, leaves, finds_room, enters}
-use Rattle.flow_word.proofs.Keeps.{event_by, after_call, started, fits_at, makes_event, names_event, found_is, still, counted}
+use Rattle.flow_word.proofs.Keeps.{event_by, after_call, started, fits_at, makes_event, names_event, found_is, still, goes_on, counted}
 
 -- what a subscription knows holds of a history that fits its token
 pub has_grown : {T : Type 0} (packs : ℕ → Type 0) (value_of : ℕ → T) (first : StateFlowState T) (k : StateKnowledge T) (number : ℕ) (last : Option ℕ) (h : StateHistory T) → IsStateHistory first h → Fits h k
@@ -73,10 +74,10 @@ module _ (T : Type 0) (packs : ℕ → Type 0) (value_of : ℕ → T) (start : S
   as_started s r id v k number last is at new = subst (λ (z : Start). HasGot packs value_of (begun value_of z) k number last) (sym (started T packs value_of start s r id v is at)) new
 
   -- what the subscription knows after its call of `next`
-  got_then : (s : St) (r : Rule s) (v : V) (x : LastGot) (found : ℕ) (y : StateReply T) → IsStateHistory (begun value_of start) (r.history ++ event_by T packs value_of start (only_in_view v) (call.TakeNext x.number) y ∷ [])
+  got_then : (s : St) (r : Rule s) (v : V) (x : LastGot) (found : ℕ) (y : StateReply T) → IsStateHistory (begun value_of start) (r.history ++ event_by T packs value_of start (only_in_view v) r.history (call.TakeNext x.number) y ∷ [])
       → IsGiven state_flow (only_in_view v).knows.name (subscriber x.number) r.history → last_got_by x.number (state_flow_after (current r.history) (call.TakeNext x.number) y).subscribers ≡ Some (Some (value_of found)) → packs found
       → HasGot packs value_of (begun value_of start) (after_call T packs value_of start (only_in_view v) r.history (call.TakeNext x.number) y (Some (got_last x.number (Some found)))).knows x.number (Some found)
-  got_then s r v x found y is given got packed = let e = event_by T packs value_of start (only_in_view v) (call.TakeNext x.number) y in record {
+  got_then s r v x found y is given got packed = let e = event_by T packs value_of start (only_in_view v) r.history (call.TakeNext x.number) y in record {
     given = given_stays state_flow state_lawful (begun value_of start) r.history (e ∷ []) (subscriber x.number) (only_in_view v).knows.name is.legal given;
     got = ap (λ (z : StateFlowState T). last_got_by x.number z.subscribers) (after_all-snoc state_flow (begun value_of start) r.history e) ∙ got;
     packed = packed;
@@ -95,7 +96,7 @@ module _ (T : Type 0) (packs : ℕ → Type 0) (value_of : ℕ → T) (start : S
       → NextOwes s id me x (get_or s.words 0 0) y
   next_is s r id me x y is at given replies got same value =
       let found : ℕ = get_or s.words 0 0 in let c : StateCall T = call.TakeNext x.number in let v : V = me.0 in let sub : Option LastGot = Some (got_last x.number (Some found)) in
-      let packed : packs found = subst packs (sym (found_is T packs value_of start s r)) r.packed in let e = event_by T packs value_of start (only_in_view v) c (reply.Received y) in
+      let packed : packs found = subst packs (sym (found_is T packs value_of start s r)) r.packed in let e = event_by T packs value_of start (only_in_view v) r.history c (reply.Received y) in
       let is_history : IsStateHistory (begun value_of start) (r.history ++ e ∷ []) = IsHistory-snoc state_flow (begun value_of start) r.history e r.is_history replies given in (
         after_call T packs value_of start (only_in_view v) r.history c (reply.Received y) sub ∷ [],
         keeps,
@@ -153,10 +154,10 @@ module _ (T : Type 0) (packs : ℕ → Type 0) (value_of : ℕ → T) (start : S
       )
 
   -- what the subscription knows after its call of `value`
-  got_still : (s : St) (r : Rule s) (v : V) (x : LastGot) (y : StateReply T) → IsStateHistory (begun value_of start) (r.history ++ event_by T packs value_of start (only_in_view v) call.GetValue y ∷ [])
+  got_still : (s : St) (r : Rule s) (v : V) (x : LastGot) (y : StateReply T) → IsStateHistory (begun value_of start) (r.history ++ event_by T packs value_of start (only_in_view v) r.history call.GetValue y ∷ [])
       → HasGot packs value_of (begun value_of start) (sees r.history (only_in_view v).knows) x.number x.last
       → HasGot packs value_of (begun value_of start) (after_call T packs value_of start (only_in_view v) r.history call.GetValue y (only_in_view v).subscriber).knows x.number x.last
-  got_still s r v x y is old = let e = event_by T packs value_of start (only_in_view v) call.GetValue y in record {
+  got_still s r v x y is old = let e = event_by T packs value_of start (only_in_view v) r.history call.GetValue y in record {
     given = given_stays state_flow state_lawful (begun value_of start) r.history (e ∷ []) (subscriber x.number) (only_in_view v).knows.name is.legal old.given;
     got = ap (λ (z : StateFlowState T). last_got_by x.number z.subscribers) (after_all-snoc state_flow (begun value_of start) r.history e) ∙ old.got;
     packed = old.packed;
@@ -167,7 +168,7 @@ module _ (T : Type 0) (packs : ℕ → Type 0) (value_of : ℕ → T) (start : S
       → HasGot packs value_of (begun value_of (only_in_view me.0).start) (only_in_view me.0).knows x.number x.last → Allows Rule slots id me 0 (λ n. n) (reads_by packs value_of (step slots 0 0 0 none) me)
   reading_by slots id me x is has old s r n at small =
       let found : ℕ = get_or s.words 0 0 in let c : StateCall T = call.GetValue in let y : StateReply T = reply.Got (value_of found) in let v : V = me.0 in
-      let same = found_is T packs value_of start s r in let e = event_by T packs value_of start (only_in_view v) c y in
+      let same = found_is T packs value_of start s r in let e = event_by T packs value_of start (only_in_view v) r.history c y in
       let replies : StateFlowReplies (current r.history) c y = ap (λ (z : T). reply.Got z) (ap value_of same ∙ r.value) in
       let is_history : IsStateHistory (begun value_of start) (r.history ++ e ∷ []) = IsHistory-snoc state_flow (begun value_of start) r.history e r.is_history replies tt in (
         after_call T packs value_of start (only_in_view v) r.history c y (only_in_view v).subscriber ∷ [],
@@ -225,7 +226,7 @@ module _ (T : Type 0) (packs : ℕ → Type 0) (value_of : ℕ → T) (start : S
         makes_event T packs value_of start s r id me.0 c y got (set s.words 1 found) r.word is at replies tt (set-get_or s.words 1 0 ∙ r.words) r.packed r.value,
         ((λ _. names_event T packs value_of start s r id me.0 me.1 c y got is at replies tt), λ less. absurd (omega arith)),
       ))
-      (λ room. (me.0, keeps, tt, still T packs value_of start s r 1 id me.0 at, ((λ full. absurd (room full)), λ _. (refl, omega arith))))
+      (λ room. (in_call (began_at (only_in_view me.0).began (length r.history)) (only_in_view me.0) ∷ [], keeps, tt, goes_on T packs value_of start s r 1 id me.0 is at, ((λ full. absurd (room full)), λ _. (began_at (only_in_view me.0).began (length r.history), refl, omega arith))))
 
   entered : (f g : StateFlowState T) (old new : ℕ) → IsCounted start.limit f → start.limit < 4294967296 → old ≡ counts f → new ≡ old + 4294967297 → g.issued ≡ f.issued + 1 → length g.subscribers ≡ length f.subscribers + 1 → new ≡ counts g
   entered f g old new h fits is more a b = let d : (f.issued + 1) * 4294967296 ≡ f.issued * 4294967296 + 4294967296 = omega arith in
@@ -244,7 +245,7 @@ module _ (T : Type 0) (packs : ℕ → Type 0) (value_of : ℕ → T) (start : S
       let m : ℕ = old / 4294967296 + 1 in let y : StateReply T = reply.Subscribed m in let sub : Option LastGot = Some (got_last m None) in let flow = h.limit_is in
       let free : is_state_exhausted f ≡ false = ne_eqb f.issued f.limit (λ q. absurd (omega arith)) in
       let replies : StateFlowReplies f c y = ap (λ (z : ℕ). reply.Subscribed (z + 1)) issued ∙ sym (cond-false (is_state_exhausted f) (reply.Refused Exhausted) (reply.Subscribed (f.issued + 1)) free) in
-      let u : StateSubscriber T = record { number = m; last = None } in let e = event_by T packs value_of start (only_in_view me.0) c y in
+      let u : StateSubscriber T = record { number = m; last = None } in let e = event_by T packs value_of start (only_in_view me.0) r.history c y in
       let word1 : new ≡ counts (state_flow_after f c y) = entered f (state_flow_after f c y) old new h r.limit_fits (sym hit ∙ same) more (ap (λ (z : ℕ). z + 1) issued) (length-append f.subscribers (u ∷ [])) in
       let w : V = after_call T packs value_of start (only_in_view me.0) r.history c y sub ∷ [] in
       let has : HasGot packs value_of (begun value_of start) (child (only_in_view w).knows) m None = record {

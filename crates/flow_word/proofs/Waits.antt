@@ -1,8 +1,7 @@
 -- Calls of `next` that found nothing, before one that found something.
-use Rattle.std.proofs.Common.{◌≡◌, subst, List, [], ◌∷◌, Option, Some, None, Ok}
+use Rattle.std.proofs.Common.{◌≡◌, subst, [], ◌∷◌, Option, Some, None, Ok}
 use Rattle.futures.specs.Runs.{After, Within}
 use Rattle.flow_law.specs.declared.history.Said.{Said}
-use Rattle.flow_law.specs.declared.outcome.Next.TheVariants.{Value, Empty}
 use Rattle.flow_law.specs.History.{Kind}
 use Rattle.flow_law.specs.Handles.{next_of}
 use Rattle.flow_law.specs.Tokens.{NumberedToken, NextsIn}

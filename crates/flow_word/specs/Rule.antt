@@ -3,6 +3,7 @@ use Rattle.std.specs.Prelude.{◌≡◌, ℕ, ◌+◌, ◌*◌, ◌<◌, List, [
 use Rattle.atomic_table.specs.Table.{State}
 use Rattle.flow_law.specs.declared.states.StateFlowState.{StateFlowState}
 use Rattle.flow_law.specs.Growth.{Fits}
+use Rattle.flow_law.specs.RealTime.{IsTimed, BeganSince}
 use Rattle.flow_law.specs.Seats.{SeatsFit}
 use Rattle.flow_law.specs.StateFlow.{StateHistory, state_after_all, IsStateHistory}
 use Rattle.flow_word.specs.declared.view.Known.{Known}
@@ -14,14 +15,16 @@ abbrev pub counts : {T : Type 0} → StateFlowState T → ℕ
 counts s = s.issued * 4294967296 + length s.subscribers
 
 -- The history begins with what the token has seen, other callers made the rest, and it keeps the token's rule of names. The token is of
--- the flow with this start.
+-- the flow with this start. Its call, if it is in one, began since it had seen all that it has seen.
 abbrev pub IsFine : {T : Type 0} → Start → StateHistory T → Known T → Type 0
-IsFine start history x = Fits history x.knows × (x.start ≡ start)
+IsFine start history x = Fits history x.knows × (x.start ≡ start) × BeganSince x.began (length x.knows.seen) (length history)
 
 pub record WordHolds {T : Type 0} (packs : ℕ → Type 0) (value_of : ℕ → T) (start : Start) (s : State Unit (List (Known T))) : Type 0 where
   -- the one history of the flow
   pub history : StateHistory T
   pub is_history : IsStateHistory (begun value_of start) history
+  -- each call began in time
+  pub timed : IsTimed history
   -- the pack of the value after it
   pub word : ℕ
   pub packed : packs word

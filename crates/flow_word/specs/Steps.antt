@@ -13,11 +13,12 @@ use Rattle.flow_law.specs.declared.states.StateFlowState.{StateFlowState}
 use Rattle.flow_law.specs.Growth.{Fits, sees, child}
 use Rattle.flow_law.specs.History.{subscriber, IsGiven}
 use Rattle.flow_law.specs.Promise.{AddsOne}
+use Rattle.flow_law.specs.RealTime.{IsTimed}
 use Rattle.flow_law.specs.StateFlow.{StateHistory, last_got_by, state_flow, state_after_all, IsStateHistory}
 use Rattle.flow_law.specs.Tokens.{subscription_name}
 use Rattle.flow_word.specs.declared.view.Known.{Known}
 use Rattle.flow_word.specs.declared.view.LastGot.{LastGot}
-use Rattle.flow_word.specs.View.{StateKnowledge, begun, got_last, with_knows, only_in_view}
+use Rattle.flow_word.specs.View.{StateKnowledge, begun, got_last, in_call, with_knows, only_in_view}
 
 -- what a subscriber receives if this word is found, by the pack of the last value that it got
 abbrev pub word_received : {T : Type 0} → (ℕ → T) → Option ℕ → ℕ → Next T
@@ -63,20 +64,21 @@ module _ {T : Type 0} (value_of : ℕ → T) where
   abbrev pub leaves : Step Unit → Me Unit (List (Known T)) → ℕ → Me Unit (List (Known T)) → Type 0
   leaves step before found after = (x : LastGot) → (only_in_view before.0).subscriber ≡ Some x → StepMakes before (Unsubscribe x.number) (Answered true) after
 
-  -- if no number is left, a refused `subscribe`; else no event, and the counts have room for one more subscription
+  -- if no number is left, a refused `subscribe`; else the first step of one, or one more try: no event, and the counts have room for one
+  -- more subscription
   abbrev pub finds_room : Step Unit → Me Unit (List (Known T)) → ℕ → Me Unit (List (Known T)) → Type 0
   finds_room step before found after =
       ((only_in_view before.0).start.limit ≤ found / 4294967296 → StepMakes before (Subscribe (subscription_name (only_in_view before.0).knows)) (Refused Exhausted) after)
-      × (found / 4294967296 < (only_in_view before.0).start.limit → (after ≡ before) × (found + 4294967297 < 18446744073709551616))
+      × (found / 4294967296 < (only_in_view before.0).start.limit → (began : ℕ) × (after ≡ (in_call began (only_in_view before.0) ∷ [], before.1)) × (found + 4294967297 < 18446744073709551616))
 
   -- each token of the view has seen the whole history so far
   abbrev pub observes : Step Unit → Me Unit (List (Known T)) → ℕ → Me Unit (List (Known T)) → Type 0
   observes step before found after =
-      (history : StateHistory T) × IsStateHistory (begun value_of (only_in_view before.0).start) history × AllByRecursion (λ x. Fits history x.knows) before.0 × (after ≡ (map (with_knows (sees history)) before.0, before.1))
+      (history : StateHistory T) × IsStateHistory (begun value_of (only_in_view before.0).start) history × IsTimed history × AllByRecursion (λ x. Fits history x.knows) before.0 × (after ≡ (map (with_knows (sees history)) before.0, before.1))
 
   -- nothing has changed, and some history of the flow fits what the token knows
   abbrev pub looks : Step Unit → Me Unit (List (Known T)) → ℕ → Me Unit (List (Known T)) → Type 0
-  looks step before found after = (history : StateHistory T) × IsStateHistory (begun value_of (only_in_view before.0).start) history × Fits history (only_in_view before.0).knows × (after ≡ before)
+  looks step before found after = (history : StateHistory T) × IsStateHistory (begun value_of (only_in_view before.0).start) history × IsTimed history × Fits history (only_in_view before.0).knows × (after ≡ before)
 
 module _ {T : Type 0} (packs : ℕ → Type 0) (value_of : ℕ → T) where
   -- `value`: a load of the value's word

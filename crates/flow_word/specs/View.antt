@@ -1,5 +1,5 @@
 -- The view of a seat at the table: what the tokens in it know.
-use Rattle.std.specs.Prelude.{ℕ, List, [], ◌∷◌, Option, None}
+use Rattle.std.specs.Prelude.{ℕ, List, [], ◌∷◌, Option, Some, None}
 use Rattle.flow_law.specs.declared.history.Knowledge.{Knowledge}
 use Rattle.flow_law.specs.declared.history.Said.{Said}
 use Rattle.flow_law.specs.declared.call.StateCall.{StateCall}
@@ -28,9 +28,13 @@ module _ {T : Type 0} where
   abbrev pub begun : (ℕ → T) → Start → StateFlowState T
   begun value_of start = first_state_flow start.limit (value_of start.word)
 
-  -- what a token knows, how its flow began, and what it got as a subscriber
+  -- what a token knows, how its flow began, and what it got as a subscriber; it is in no call of several steps
   abbrev pub known : StateKnowledge T → Start → Option LastGot → Known T
-  known knows start subscriber = record { knows = knows; start = start; subscriber = subscriber }
+  known knows start subscriber = record { knows = knows; start = start; subscriber = subscriber; began = None }
+
+  -- the token is in a call, which began when the history had this many events
+  abbrev pub in_call : ℕ → Known T → Known T
+  in_call began x = record { knows = x.knows; start = x.start; subscriber = x.subscriber; began = Some began }
 
   -- the token, with f applied to what it knows
   abbrev pub with_knows : (StateKnowledge T → StateKnowledge T) → Known T → Known T

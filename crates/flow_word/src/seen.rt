@@ -2,6 +2,7 @@
 ghost use Rattle.std.specs.Prelude.{◌≡◌, ℕ};
 ghost use Rattle.flow_law.specs.Conflation.{Conflates};
 ghost use Rattle.flow_law.specs.Current.{Converges};
+ghost use Rattle.flow_law.specs.RealTime.{InRealTime, IsTimed};
 ghost use Rattle.flow_law.specs.StateFlow.{IsStateHistory};
 ghost use Rattle.flow_word.specs.Handles.{IsThereAfter};
 ghost use Rattle.flow_word.specs.Tokens.{token_of, HasOneToken};
@@ -20,6 +21,7 @@ impl<T: Packed> WordState<T> {
         ensures same { (seat.new.me ≡ seat.old.me) × (seat.new.table_id ≡ seat.old.table_id) }
         ensures began { begun T.value_of (token_of seat.old).table_id.start ≡ self.now.first }
         ensures history { IsStateHistory self.now.first (token_of seat.new).knows.seen }
+        ensures timed { IsTimed (token_of seat.new).knows.seen }
     {
         self.table.shared.load::<Look>(seat, 0);
     }
@@ -33,6 +35,7 @@ impl<T: Packed> WordState<T> {
         ensures unchanged { seat.new ≡ seat.old }
         // It is a history of the flow, from its first state on.
         ensures history { IsStateHistory self.now.first seat.new.knows.seen }
+        ensures in_real_time { InRealTime seat.new.knows.seen }
         ensures conflated { Conflates self.now.first.value seat.new.knows.seen }
         ensures current { (u : ℕ) → Converges u self.now.first seat.new.knows.seen }
     {
@@ -44,6 +47,7 @@ impl<T: Packed> WordState<T> {
         requires { subscription.old.token.table_id ≡ self.now.table_id }
         ensures unchanged { subscription.new ≡ subscription.old }
         ensures history { IsStateHistory self.now.first subscription.new.token.knows.seen }
+        ensures in_real_time { InRealTime subscription.new.token.knows.seen }
         ensures conflated { Conflates self.now.first.value subscription.new.token.knows.seen }
         ensures current { (u : ℕ) → Converges u self.now.first subscription.new.token.knows.seen }
         // After this history the flow has its subscriber.

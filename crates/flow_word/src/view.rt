@@ -16,9 +16,12 @@ pub struct LastGot {
     pub last: Option<u64>,
 }
 
-/// What one token knows, the start of its flow, and what it got last as a subscriber.
+/// What one token knows, the start of its flow, what it got last as a subscriber, and when its call began, if it is in
+/// one of several steps.
 pub struct Known<T> {
     pub knows: Knowledge<Said<StateCall<T>, StateReply<T>>>,
     pub start: Start,
     pub subscriber: Option<LastGot>,
+    /// How many events the history had at the first step of the call.
+    pub began: Option<u64>,
 }

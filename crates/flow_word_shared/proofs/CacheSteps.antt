@@ -103,7 +103,7 @@ module _ (T : Type 0) (packs : ℕ → Type 0) (value_of : ℕ → T) (start : R
       began = started T packs value_of start s r id me.0 is at
 
       log_is : log_after x.start h' ≡ values st
-      log_is = ap (λ (z : RingStart). log_after z h') began ∙ ap values (after_all-snoc shared_flow (began_as start) r.history (event_by T packs value_of start x c y))
+      log_is = ap (λ (z : RingStart). log_after z h') began ∙ ap values (after_all-snoc shared_flow (began_as start) r.history (event_by T packs value_of start x r.history c y))
 
       mark : st.reset_mark ≡ k
       mark = sym (subst (λ o. IsIfKnown o st.reset_mark) marked f.4)

@@ -14,6 +14,7 @@ use Rattle.flow_law.specs.History.{IsHistory}
 use Rattle.flow_law.specs.SharedHistory.{History, shared_flow}
 use Rattle.flow_law.specs.Tokens.{IsBusy, SubscribesIn, subscription_name}
 use Rattle.flow_law.proofs.Names.{every_append}
+use Rattle.flow_law.proofs.RealTimeLemmas.{grown_longer}
 use Rattle.flow_word_shared.specs.Steps.{SeesMore}
 use Rattle.flow_word_shared.specs.Answers.{HasTried, IsOverrun}
 use Rattle.flow_word_shared.specs.Tokens.{WordFlowToken, WordFlowNumbered}
@@ -28,10 +29,10 @@ module _ {T : Type 0} where
     every_append (λ (e : HistoryEvent (Said (SharedCall T) (SharedReply T))). e.name ≢ name) one.0 two.0 one.2 two.2,
   )
 
-  grows_then : (name : List ℕ) (a b c : History T) (what : Said (SharedCall T) (SharedReply T)) → GrowsByOthers name a b → Grows name b what c → Grows name a what c
-  grows_then name a b c what one two = (
+  grows_then : (name : List ℕ) (a b c : History T) (began : ℕ) (what : Said (SharedCall T) (SharedReply T)) → GrowsByOthers name a b → Grows name b began what c → Grows name a began what c
+  grows_then name a b c began what one two = (
     one.0 ++ two.0,
-    two.1 ∙ ap (λ l. (l ++ two.0) ++ event name what ∷ []) one.1 ∙ ap (λ l. l ++ event name what ∷ []) (append_assoc a one.0 two.0),
+    two.1 ∙ ap (λ l. (l ++ two.0) ++ event name began what ∷ []) one.1 ∙ ap (λ l. l ++ event name began what ∷ []) (append_assoc a one.0 two.0),
     every_append (λ (e : HistoryEvent (Said (SharedCall T) (SharedReply T))). e.name ≢ name) one.0 two.0 one.2 two.2,
   )
 
@@ -53,7 +54,10 @@ module _ {T : Type 0} where
     made = two.made ∙ one.made;
     lost = omega (arith, one.lost, two.lost);
     history = two.history;
-    grows = grows_then a.name a.seen b.seen c.seen (said call reply) one.grows (subst (λ (n : List ℕ). Grows n b.seen (said call reply) c.seen) one.name two.grows);
+    began = two.began;
+    grows = grows_then a.name a.seen b.seen c.seen two.began (said call reply) one.grows (subst (λ (n : List ℕ). Grows n b.seen two.began (said call reply) c.seen) one.name two.grows);
+    in_time = let l = grown_longer a.name a.seen b.seen one.grows in (omega (arith, l, two.in_time.0), two.in_time.1);
+    timed = two.timed;
     names = two.names;
   }
 

@@ -16,11 +16,13 @@ use Rattle.flow_law.specs.declared.states.SharedFlowState.{SharedFlowState}
 use Rattle.flow_law.specs.Growth.{Fits, GrowsByOthers, IsApartFrom, event}
 use Rattle.flow_law.specs.History.{MayCall}
 use Rattle.flow_law.specs.Promise.{said}
+use Rattle.flow_law.specs.RealTime.{IsTimed}
 use Rattle.flow_law.specs.Seats.{SeatAt}
 use Rattle.flow_law.specs.SharedFlow.{values}
 use Rattle.flow_law.specs.SharedHistory.{History, Replies, after, shared_after_all, shared_flow, IsSharedHistory}
 use Rattle.flow_law.proofs.HistoryLemmas.{after_all-snoc, IsHistory-snoc}
 use Rattle.flow_law.proofs.Names.{grew_refl, fits_more, fits_own}
+use Rattle.flow_law.proofs.RealTimeLemmas.{grown_longer, before_own, began_now, IsTimed-snoc}
 use Rattle.flow_law.proofs.SeatLemmas.{changed, at_only}
 use Rattle.flow_word_shared.specs.declared.view.RingKnown.{RingKnown}
 use Rattle.flow_word_shared.specs.declared.view.Hold.{Hold}
@@ -92,11 +94,12 @@ module _ (T : Type 0) (packs : ℕ → Type 0) (value_of : ℕ → T) (start : R
   abbrev pub now : History T → SharedFlowState T
   now h = shared_after_all (began_as start) h
 
-  abbrev pub event_by : RingKnown T → SharedCall T → SharedReply T → HistoryEvent (Said (SharedCall T) (SharedReply T))
-  event_by x c r = event x.knows.name (said c r)
+  -- the event that a step adds to this history. Its call began at this step.
+  abbrev pub event_by : RingKnown T → History T → SharedCall T → SharedReply T → HistoryEvent (Said (SharedCall T) (SharedReply T))
+  event_by x h c r = event x.knows.name (length h) (said c r)
 
   abbrev pub more_by : RingKnown T → History T → SharedCall T → SharedReply T → History T
-  more_by x h c r = h ++ event_by x c r ∷ []
+  more_by x h c r = h ++ event_by x h c r ∷ []
 
   -- the token that has lost this many attempts and seen this, and holds and reads this
   abbrev pub turned_by : ℕ → RingKnown T → History T → Option Hold → Option Reads → RingKnown T
@@ -125,14 +128,15 @@ module _ (T : Type 0) (packs : ℕ → Type 0) (value_of : ℕ → T) (start : R
   -- the words, one token and the history change
   unfoldable pub keeps_rule : (s : St) (r : Rule s) (id : ℕ) (v : V) → v ≡ only v ∷ [] → get_elem? s.views id ≡ some v
       → (lost : ℕ) (h' seen : History T) (owner' : Option (List ℕ)) (ahead' : ℕ) (words' : List ℕ) (hold' : Option Hold) (reads' : Option Reads)
-      → IsSharedHistory start.config h' → WordsFit packs value_of start (now h') owner' ahead' words'
+      → IsSharedHistory start.config h' → IsTimed h' → WordsFit packs value_of start (now h') owner' ahead' words'
       → Fits h' (saw lost seen (only v).knows) → HoldFits start (now h') owner' ahead' words' (only v).knows.name hold'
       → ((y : RingKnown T) → IsApartFrom (only v).knows y.knows → IsApartFrom y.knows (only v).knows → IsFine start r.history r.owner r.ahead s.words y → IsFine start h' owner' ahead' words' y)
       → Rule record { words = words'; homes = s.homes; views = set s.views id (turned_by lost (only v) seen hold' reads' ∷ []) }
-  keeps_rule s r id v is at lost h' seen owner' ahead' words' hold' reads' is_history fit fits holds others = record {
+  keeps_rule s r id v is at lost h' seen owner' ahead' words' hold' reads' is_history timed fit fits holds others = record {
     starts = r.starts;
     history = h';
     is_history = is_history;
+    timed = timed;
     owner = owner';
     ahead = ahead';
     words = fit;
@@ -167,10 +171,10 @@ module _ (T : Type 0) (packs : ℕ → Type 0) (value_of : ℕ → T) (start : R
       → Rule record { words = words'; homes = s.homes; views = set s.views id (turned (only v) (more_by (only v) r.history c y) hold' reads' ∷ []) }
       × StepCalls (v, cs) c y (turned (only v) (more_by (only v) r.history c y) hold' reads' ∷ [], cs)
   event_step s r id v cs c y is at owner' ahead' words' hold' reads' replies may fit holds others = (
-    keeps_rule s r id v is at (only v).knows.lost h' h' owner' ahead' words' hold' reads' is_history (subst (λ t. WordsFit packs value_of start t owner' ahead' words') next fit)
+    keeps_rule s r id v is at (only v).knows.lost h' h' owner' ahead' words' hold' reads' is_history timed (subst (λ t. WordsFit packs value_of start t owner' ahead' words') next fit)
         (grew_refl x.knows.name h', names) (subst (λ t. HoldFits start t owner' ahead' words' x.knows.name hold') next holds)
         (λ z xz zx f. (
-          fits_more r.history z.knows x.knows.name (said c y ∷ []) xz.0 zx.1 f.0,
+          fits_more r.history z.knows e xz.0 zx.1 f.0,
           f.1,
           subst (λ t. HoldFits start t owner' ahead' words' z.knows.name z.hold) next (others z xz.0 f.2),
         )),
@@ -180,7 +184,10 @@ module _ (T : Type 0) (packs : ℕ → Type 0) (value_of : ℕ → T) (start : R
         made = refl;
         lost = le_refl x.knows.lost;
         history = subst (λ (z : RingStart). IsSharedHistory z.config h') (sym (started s r id v is at)) is_history;
+        began = length r.history;
         grows = (fits.0.0, ap (λ (l : History T). l ++ e ∷ []) fits.0.1, fits.0.2);
+        in_time = (grown_longer x.knows.name x.knows.seen r.history fits.0, before_own r.history e (length r.history) (le_refl (length r.history)));
+        timed = timed;
         names = names;
       },
       refl,
@@ -193,7 +200,7 @@ module _ (T : Type 0) (packs : ℕ → Type 0) (value_of : ℕ → T) (start : R
       x = only v
 
       e : HistoryEvent (Said (SharedCall T) (SharedReply T))
-      e = event_by x c y
+      e = event_by x r.history c y
 
       h' : History T
       h' = r.history ++ e ∷ []
@@ -207,8 +214,11 @@ module _ (T : Type 0) (packs : ℕ → Type 0) (value_of : ℕ → T) (start : R
       is_history : IsSharedHistory start.config h'
       is_history = IsHistory-snoc shared_flow (began_as start) r.history e r.is_history replies may
 
+      timed : IsTimed h'
+      timed = IsTimed-snoc r.history e r.timed (began_now x.knows.name (said c y) r.history)
+
       names : Rattle.flow_law.specs.Growth.NamesOnlyMade x.knows.name x.knows.made h'
-      names = fits_own r.history x.knows (said c y ∷ []) fits
+      names = fits_own r.history x.knows (length r.history) (said c y) fits
 
   -- a step of no event
   unfoldable pub quiet_by : (s : St) (r : Rule s) (id : ℕ) (v : V) → v ≡ only v ∷ [] → get_elem? s.views id ≡ some v
@@ -220,7 +230,7 @@ module _ (T : Type 0) (packs : ℕ → Type 0) (value_of : ℕ → T) (start : R
       → HoldFits start (now r.history) owner' ahead' words' y'.knows.name y'.hold)
       → Rule record { words = words'; homes = s.homes; views = set s.views id (turned_by lost (only v) seen hold' reads' ∷ []) }
   quiet_by s r id v is at lost seen owner' ahead' words' hold' reads' fits fit holds others =
-      keeps_rule s r id v is at lost r.history seen owner' ahead' words' hold' reads' r.is_history fit fits holds (λ z xz zx f. (f.0, f.1, others z xz.0 f.2))
+      keeps_rule s r id v is at lost r.history seen owner' ahead' words' hold' reads' r.is_history r.timed fit fits holds (λ z xz zx f. (f.0, f.1, others z xz.0 f.2))
 
   -- the same, and no attempt was lost
   pub quiet_step : (s : St) (r : Rule s) (id : ℕ) (v : V) → v ≡ only v ∷ [] → get_elem? s.views id ≡ some v

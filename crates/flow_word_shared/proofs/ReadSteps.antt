@@ -111,7 +111,7 @@ module _ (T : Type 0) (packs : ℕ → Type 0) (value_of : ℕ → T) (start : R
       let nothing : next x.number st ≡ answer Empty st = next_empty T start.config r.starts.oldest r.starts.buffer x.number x.position st here.stands all in
       let replies : Replies st c y = sym (ap (λ a. (outcome_of reply.Received a).reply) nothing) in
       let same : after st c y ≡ st = ap (λ a. (outcome_of reply.Received a).after) nothing in
-      let e = event_by T packs value_of start (only me.0) c y in
+      let e = event_by T packs value_of start (only me.0) r.history c y in
       let next_state : current (r.history ++ e ∷ []) ≡ st = after_all-snoc shared_flow (began_as start) r.history e ∙ same in
       let is_history : IsSharedHistory start.config (r.history ++ e ∷ []) = IsHistory-snoc shared_flow (began_as start) r.history e r.is_history replies here.given in (
         event_step T packs value_of start s r id me.0 me.1 c y is at r.owner r.ahead s.words None (Some x) replies here.given
@@ -232,7 +232,7 @@ module _ (T : Type 0) (packs : ℕ → Type 0) (value_of : ℕ → T) (start : R
       let gives : next u st ≡ answer (Value (value_of word)) moved = next_value T start.config r.starts.oldest r.starts.buffer u p st (value_of word) usual here.stands kept value in
       let replies : Replies st c y = sym (ap (λ a. (outcome_of reply.Received a).reply) gives) in
       let then_is : after st c y ≡ moved = ap (λ a. (outcome_of reply.Received a).after) gives in
-      let e = event_by T packs value_of start (only me.0) c y in
+      let e = event_by T packs value_of start (only me.0) r.history c y in
       let next_state : current (r.history ++ e ∷ []) ≡ moved = after_all-snoc shared_flow (began_as start) r.history e ∙ then_is in
       let is_history : IsSharedHistory start.config (r.history ++ e ∷ []) = IsHistory-snoc shared_flow (began_as start) r.history e r.is_history replies here.given in
       let w = r.words in

@@ -45,6 +45,7 @@ module _ (T : Type 0) (packs : ℕ → Type 0) (value_of : ℕ → T) (start : R
     starts = ok;
     history = [];
     is_history = record { begins = (refl, good); legal = tt; owned = tt };
+    timed = tt;
     owner = None;
     ahead = 0;
     words = record {
@@ -75,6 +76,7 @@ module _ (T : Type 0) (packs : ℕ → Type 0) (value_of : ℕ → T) (start : R
     starts = r.starts;
     history = r.history;
     is_history = r.is_history;
+    timed = r.timed;
     owner = r.owner;
     ahead = r.ahead;
     words = r.words;
@@ -91,6 +93,7 @@ module _ (T : Type 0) (packs : ℕ → Type 0) (value_of : ℕ → T) (start : R
     starts = r.starts;
     history = r.history;
     is_history = r.is_history;
+    timed = r.timed;
     owner = r.owner;
     ahead = r.ahead;
     words = r.words;
@@ -119,6 +122,7 @@ module _ (T : Type 0) (packs : ℕ → Type 0) (value_of : ℕ → T) (start : R
     (
       h,
       subst (λ (z : RingStart). IsSharedHistory z.config h) (sym (ap (λ (l : V). (only l).start) is ∙ first.1)) r.is_history,
+      r.timed,
       subst (AllByRecursion (λ (z : RingKnown T). Fits h z.knows)) (sym is) (first.0, (second.0, tt)),
       refl,
     ),
@@ -140,7 +144,7 @@ module _ (T : Type 0) (packs : ℕ → Type 0) (value_of : ℕ → T) (start : R
     keeps,
     tt,
     still T packs value_of start s r 0 id me.0 at,
-    (r.history, subst (λ (z : RingStart). IsSharedHistory z.config r.history) (sym (started T packs value_of start s r id me.0 is at)) r.is_history, fits_at T packs value_of start s r id me.0 is at, refl),
+    (r.history, subst (λ (z : RingStart). IsSharedHistory z.config r.history) (sym (started T packs value_of start s r id me.0 is at)) r.is_history, r.timed, fits_at T packs value_of start s r id me.0 is at, refl),
   )
 
   -- two tokens are split again

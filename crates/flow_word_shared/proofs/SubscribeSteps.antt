@@ -257,7 +257,7 @@ module _ (T : Type 0) (packs : ℕ → Type 0) (value_of : ℕ → T) (start : R
       then_is = ap (λ (a : Replied ℕ T). a.after) gives
 
       next_state : current h' ≡ enroll [] st
-      next_state = after_all-snoc shared_flow (began_as start) r.history (event_by T packs value_of start x c y) ∙ then_is
+      next_state = after_all-snoc shared_flow (began_as start) r.history (event_by T packs value_of start x r.history c y) ∙ then_is
 
       entry_is : entry st ≡ place
       entry_is = cond-false (is_offering st) (length st.emitted - 1) (cache_start st) (not_offering T start.config r.starts.oldest r.starts.buffer st usual)
@@ -278,7 +278,7 @@ module _ (T : Type 0) (packs : ℕ → Type 0) (value_of : ℕ → T) (start : R
 
       stands_at : IsAt start (child (saw x.knows.lost h' x.knows)) (m + 1) place
       stands_at = record {
-        given = last_given shared_flow r.history (event_by T packs value_of start x c y) (record { number = subscriber (m + 1); name = subscription_name x.knows }) refl;
+        given = last_given shared_flow r.history (event_by T packs value_of start x r.history c y) (record { number = subscriber (m + 1); name = subscription_name x.knows }) refl;
         stands = subst (λ (t : SharedFlowState T). Stands (m + 1) place (capacity_of start) t) (sym next_state) (subst (λ (j : ℕ). Stands (j + 1) place (capacity_of start) (enroll [] st)) (sym issued) stands);
       }
 

@@ -6,6 +6,7 @@ use Rattle.atomic_table.specs.Table.{State}
 use Rattle.flow_law.specs.declared.config.Overflow.TheVariants.{DropOldest}
 use Rattle.flow_law.specs.declared.states.SharedFlowState.{SharedFlowState}
 use Rattle.flow_law.specs.Growth.{Fits}
+use Rattle.flow_law.specs.RealTime.{IsTimed}
 use Rattle.flow_law.specs.Seats.{SeatsFit}
 use Rattle.flow_law.specs.SharedFlow.{values}
 use Rattle.flow_law.specs.SharedHistory.{History, shared_after_all, IsSharedHistory}
@@ -75,6 +76,8 @@ pub record RingHolds {T : Type 0} (packs : ℕ → Type 0) (value_of : ℕ → T
   -- the one history of the flow
   pub history : History T
   pub is_history : IsSharedHistory start.config history
+  -- each call began in time
+  pub timed : IsTimed history
   -- the name of the token that holds the lock bit
   pub owner : Option (List ℕ)
   pub ahead : ℕ

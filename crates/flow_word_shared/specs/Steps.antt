@@ -14,6 +14,7 @@ use Rattle.flow_law.specs.Growth.{Fits, GrowsByOthers, child, loses, sees}
 use Rattle.flow_law.specs.Tokens.{subscription_name}
 use Rattle.flow_law.specs.History.{subscriber, IsGiven}
 use Rattle.flow_law.specs.Promise.{AddsOne}
+use Rattle.flow_law.specs.RealTime.{IsTimed}
 use Rattle.flow_law.specs.SharedFlow.{position_of, own_of, values}
 use Rattle.flow_law.specs.SharedHistory.{History, shared_flow, shared_after_all, IsSharedHistory}
 use Rattle.flow_word_shared.specs.declared.view.RingKnown.{RingKnown}
@@ -177,11 +178,11 @@ module _ {T : Type 0} where
   -- a load by which each token of the view sees the whole history so far
   abbrev pub observes_all : Step Unit → MeOf T → ℕ → MeOf T → Type 0
   observes_all step before found after =
-      (history : History T) × IsSharedHistory (only before.0).start.config history × AllByRecursion (λ (x : RingKnown T). Fits history x.knows) before.0 × (after ≡ (map (ring_with_knows (sees history)) before.0, before.1))
+      (history : History T) × IsSharedHistory (only before.0).start.config history × IsTimed history × AllByRecursion (λ (x : RingKnown T). Fits history x.knows) before.0 × (after ≡ (map (ring_with_knows (sees history)) before.0, before.1))
 
   -- a load that changes nothing, while some history of the flow fits what the token knows
   abbrev pub looks_back : Step Unit → MeOf T → ℕ → MeOf T → Type 0
-  looks_back step before found after = (history : History T) × IsSharedHistory (only before.0).start.config history × Fits history (only before.0).knows × (after ≡ before)
+  looks_back step before found after = (history : History T) × IsSharedHistory (only before.0).start.config history × IsTimed history × Fits history (only before.0).knows × (after ≡ before)
 
 module _ {T : Type 0} (packs : ℕ → Type 0) (value_of : ℕ → T) where
   -- a load of the cell of a position of the buffer, by the holder, if the token has seen all values: no value was emitted since

@@ -3,6 +3,7 @@ ghost use Rattle.std.specs.Prelude.{◌≡◌, ℕ, None, IsSome};
 ghost use Rattle.flow_law.specs.History.{IsHistory};
 ghost use Rattle.flow_law.specs.Lagging.{EachLags};
 ghost use Rattle.flow_law.specs.Laws.{Delivers, NoIdleQueue};
+ghost use Rattle.flow_law.specs.RealTime.{InRealTime, IsTimed};
 ghost use Rattle.flow_law.specs.Replaying.{EachReplays};
 ghost use Rattle.flow_law.specs.SharedFlow.{position_of};
 ghost use Rattle.flow_law.specs.SharedHistory.{shared_flow, state_after};
@@ -77,6 +78,7 @@ impl<T: Packed> WordFlow<T> {
         ensures began { began_as (only seat.old.me.0).start ≡ self.now.first }
         ensures same { (seat.new.me ≡ seat.old.me) × (seat.new.table_id ≡ seat.old.table_id) }
         ensures history { IsHistory shared_flow self.now.first (ring_token seat.new).knows.seen }
+        ensures timed { IsTimed (ring_token seat.new).knows.seen }
     {
         self.table.shared.load::<LookBack>(seat, 0);
     }
@@ -90,6 +92,7 @@ impl<T: Packed> WordFlow<T> {
         ensures unchanged { seat.new ≡ seat.old }
         // It is a history of the flow, from its first state on.
         ensures history { IsHistory shared_flow self.now.first seat.new.knows.seen }
+        ensures in_real_time { InRealTime seat.new.knows.seen }
         ensures delivered { (u : ℕ) → Delivers u self.now.first.config seat.new.knows.seen }
         ensures no_idle_queue { NoIdleQueue
             (state_after self.now.first.config seat.new.knows.seen) }
@@ -105,6 +108,7 @@ impl<T: Packed> WordFlow<T> {
         requires { subscription.old.token.table_id ≡ self.now.table_id }
         ensures unchanged { subscription.new ≡ subscription.old }
         ensures history { IsHistory shared_flow self.now.first subscription.new.token.knows.seen }
+        ensures in_real_time { InRealTime subscription.new.token.knows.seen }
         ensures delivered { (u : ℕ) →
             Delivers u self.now.first.config subscription.new.token.knows.seen }
         ensures no_idle_queue { NoIdleQueue

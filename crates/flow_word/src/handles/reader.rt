@@ -4,6 +4,7 @@ ghost use Rattle.flow_law.specs.Conflation.{Conflates};
 ghost use Rattle.flow_law.specs.Current.{Converges};
 ghost use Rattle.flow_law.specs.Handles.{read_by, next_of};
 ghost use Rattle.flow_law.specs.StateFlow.{IsStateHistory, state_flow};
+ghost use Rattle.flow_law.specs.RealTime.{InRealTime};
 ghost use Rattle.flow_law.specs.Tokens.{NextsIn, UnsubscribesIn};
 ghost use Rattle.flow_word.specs.Handles.{IsThereAfter};
 
@@ -93,6 +94,7 @@ impl<'a, T: Packed> WordReader<'a, T> {
         ensures unchanged { self.new ≡ self.old }
         ensures history { IsStateHistory
             self.new.flow.first self.new.subscription.token.knows.seen }
+        ensures in_real_time { InRealTime self.new.subscription.token.knows.seen }
         ensures conflated { Conflates self.new.flow.first.value
             self.new.subscription.token.knows.seen }
         ensures current { (u : ℕ) →

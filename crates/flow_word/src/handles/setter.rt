@@ -8,6 +8,7 @@ ghost use Rattle.flow_law.specs.Handles.{called_by, SubscribesBound};
 ghost use Rattle.flow_law.specs.StateFlow.{IsStateHistory, state_flow};
 ghost use Rattle.flow_law.specs.Tokens.{MeetsIn, knowing};
 ghost use Rattle.flow_law.specs.Promise.{CallsAtOnceIn};
+ghost use Rattle.flow_law.specs.RealTime.{InRealTime};
 ghost use Rattle.flow_law.specs.declared.call.StateCall.TheVariants as call;
 ghost use Rattle.flow_law.specs.declared.call.StateReply.TheVariants as reply;
 
@@ -159,6 +160,7 @@ impl<'a, T: Packed> WordSetter<'a, T> {
     pub fn seen(&mut self)
         ensures unchanged { self.new ≡ self.old }
         ensures history { IsStateHistory self.new.flow.first self.new.token.knows.seen }
+        ensures in_real_time { InRealTime self.new.token.knows.seen }
         ensures conflated { Conflates self.new.flow.first.value self.new.token.knows.seen }
         ensures current { (u : ℕ) → Converges u self.new.flow.first self.new.token.knows.seen }
     {

@@ -10,6 +10,7 @@ ghost use Rattle.flow_law.specs.History.{IsHistory, replied, fault_alone};
 ghost use Rattle.flow_law.specs.Lagging.{EachLags};
 ghost use Rattle.flow_law.specs.Laws.{Delivers, NoIdleQueue};
 ghost use Rattle.flow_law.specs.Promise.{CallsIn, CallsAtOnceIn};
+ghost use Rattle.flow_law.specs.RealTime.{InRealTime};
 ghost use Rattle.flow_law.specs.Replaying.{EachReplays};
 ghost use Rattle.flow_law.specs.SharedHistory.{shared_flow, state_after};
 ghost use Rattle.flow_law.specs.Tokens.{MeetsIn, knowing};
@@ -225,6 +226,7 @@ impl<'a, T: Packed> WordEmitter<'a, T> {
     pub fn seen(&mut self)
         ensures unchanged { self.new ≡ self.old }
         ensures history { IsHistory shared_flow self.new.flow.first self.new.token.knows.seen }
+        ensures in_real_time { InRealTime self.new.token.knows.seen }
         ensures delivered { (u : ℕ) →
             Delivers u self.new.flow.first.config self.new.token.knows.seen }
         ensures no_idle_queue { NoIdleQueue

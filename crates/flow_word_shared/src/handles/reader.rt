@@ -10,6 +10,7 @@ ghost use Rattle.flow_law.specs.Handles.{read_by, next_of, next_in};
 ghost use Rattle.flow_law.specs.History.{IsHistory};
 ghost use Rattle.flow_law.specs.Lagging.{EachLags};
 ghost use Rattle.flow_law.specs.Laws.{Delivers, NoIdleQueue};
+ghost use Rattle.flow_law.specs.RealTime.{InRealTime};
 ghost use Rattle.flow_law.specs.Replaying.{EachReplays};
 ghost use Rattle.flow_law.specs.SharedFlow.{position_of};
 ghost use Rattle.flow_law.specs.SharedHistory.{shared_flow, state_after};
@@ -169,6 +170,7 @@ impl<'a, T: Packed> WordFlowReader<'a, T> {
         ensures unchanged { self.new ≡ self.old }
         ensures history { IsHistory shared_flow
             self.new.flow.first self.new.subscription.token.knows.seen }
+        ensures in_real_time { InRealTime self.new.subscription.token.knows.seen }
         ensures delivered { (u : ℕ) →
             Delivers u self.new.flow.first.config self.new.subscription.token.knows.seen }
         ensures no_idle_queue { NoIdleQueue

@@ -1,4 +1,4 @@
-use Rattle.std.proofs.Common.{◌++◌, ◌∷◌, [], refl, sym, ap, subst}
+use Rattle.std.proofs.Common.{◌++◌, ◌∷◌, [], length, refl, sym, ap, subst}
 use Rattle.flow_law.specs.Growth.{event}
 use Rattle.flow_law.specs.Promise.{said}
 use Rattle.flow_law.specs.Standing.{StandsForHistory}
@@ -13,7 +13,7 @@ leave-requires-clause-stands g c =
     let call = g.C.CoreCall.call c.of-made.result.value (subscription_name t.knows) in (
       c.call_among_sleepers-answer.new.self,
       refl,
-      subst (λ first. StandsForHistory g.S.FlowCore.kind (AttendedAs g.S.FlowCore.sleeping g.S.FlowCore.stands_as) first c.call_among_sleepers-answer.new.self (t.knows.seen ++ event t.knows.name (said call (g.C.CoreCall.reply c.call_among_sleepers-answer.result)) ∷ []))
+      subst (λ first. StandsForHistory g.S.FlowCore.kind (AttendedAs g.S.FlowCore.sleeping g.S.FlowCore.stands_as) first c.call_among_sleepers-answer.new.self (t.knows.seen ++ event t.knows.name (length t.knows.seen) (said call (g.C.CoreCall.reply c.call_among_sleepers-answer.result)) ∷ []))
           (sym (ap (λ o. o.first) c.self.view_is))
           (may_leave g.S.FlowCore.kind (AttendedAs g.S.FlowCore.sleeping g.S.FlowCore.stands_as) c.args.self.now.first c.args.seat.now.token c.state-state.result.now c.call_among_sleepers-answer.new.self
           (g.C.CoreCall.call c.args.call (subscription_name c.args.seat.now.token.knows)) _ (g.C.CoreCall.reply c.call_among_sleepers-answer.result)

@@ -39,16 +39,17 @@ load-requires g c = (search rules, search rules, observing _ _ _ _ _ _ _ _ _ (jo
 pub split_seat-requires : goal.split_seat-requires
 split_seat-requires g c =
     let told = c.load.ensures.2 in let is = joined_is g (goal.at.split_seat-requires g c).After-join_seat in
-    (search rules, search rules, parts _ _ _ _ _ _ _ _ (ap (λ (m : Me Unit (List (Known g.row.T.Denot))). m.0) told.3 ∙ ap (map (with_knows (sees told.0))) is))
+    (search rules, search rules, parts _ _ _ _ _ _ _ _ (ap (λ (m : Me Unit (List (Known g.row.T.Denot))). m.0) told.4 ∙ ap (map (with_knows (sees told.0))) is))
 
 pub returns-clause-met : goal.returns-clause-met
 returns-clause-met g c =
     let value_of = g.T.Packed.value_of in let told = c.load.ensures.2 in let h = told.0 in let a = only_in_view c.args.one.now.me.0 in let b = only_in_view c.args.other.now.me.0 in
-    let is = joined_is g (goal.at.returns-clause-met g c).After-join_seat in let seen = ap (λ (m : Me Unit (List (Known g.row.T.Denot))). m.0) told.3 ∙ ap (map (with_knows (sees h))) is in
+    let is = joined_is g (goal.at.returns-clause-met g c).After-join_seat in let seen = ap (λ (m : Me Unit (List (Known g.row.T.Denot))). m.0) told.4 ∙ ap (map (with_knows (sees h))) is in
     let table = c.load.ensures.0 ∙ (c.join_seat.ensures.0 ∙ c.split_seat-blank.ensures.0) in
-    let fit = subst (AllByRecursion (λ (x : Known g.row.T.Denot). Fits h x.knows)) is told.2 in
+    let fit = subst (AllByRecursion (λ (x : Known g.row.T.Denot). Fits h x.knows)) is told.3 in
     let first = ap (λ l. begun value_of (only_in_view l).start) is ∙ (ap (λ z. begun value_of z.start) c.requires.flow.0 ∙ (ap (λ z. begun value_of z.table_id.start) (sym c.self.view_is) ∙ ap (λ z. z.first) c.self.view_is)) in record {
       history = h;
+      timed = told.2;
       is_history = subst (λ (z : StateFlowState g.row.T.Denot). IsStateHistory z h) first told.1;
       fits_one = fit.0;
       fits_other = fit.1.0;
@@ -60,15 +61,15 @@ returns-clause-met g c =
 
 pub returns-clause-idle : goal.returns-clause-idle
 returns-clause-idle g c =
-    let told = c.load.ensures.2 in let h = told.0 in let seen = ap (λ (m : Me Unit (List (Known g.row.T.Denot))). m.0) told.3 ∙ ap (map (with_knows (sees h))) (joined_is g (goal.at.returns-clause-idle g c).After-join_seat) in
-    let slots = ap (λ (m : Me Unit (List (Known g.row.T.Denot))). m.1) told.3 ∙ (ap (λ (m : Me Unit (List (Known g.row.T.Denot))). m.1) c.join_seat.ensures.2 ∙ (ap (λ (m : Me Unit (List (Known g.row.T.Denot))). m.1) c.split_seat-blank.ensures.2 ∙ ap (λ (m : Me Unit (List (Known g.row.T.Denot))). m.1) c.requires.idle.0)) in (
+    let told = c.load.ensures.2 in let h = told.0 in let seen = ap (λ (m : Me Unit (List (Known g.row.T.Denot))). m.0) told.4 ∙ ap (map (with_knows (sees h))) (joined_is g (goal.at.returns-clause-idle g c).After-join_seat) in
+    let slots = ap (λ (m : Me Unit (List (Known g.row.T.Denot))). m.1) told.4 ∙ (ap (λ (m : Me Unit (List (Known g.row.T.Denot))). m.1) c.join_seat.ensures.2 ∙ (ap (λ (m : Me Unit (List (Known g.row.T.Denot))). m.1) c.split_seat-blank.ensures.2 ∙ ap (λ (m : Me Unit (List (Known g.row.T.Denot))). m.1) c.requires.idle.0)) in (
       c.split_seat.ensures.2 ∙ ((λ i. (first_in_view (seen i), slots i)) ∙ sym ((λ i. (only_in_view (c.split_seat.ensures.2 i).0 ∷ [], [])) ∙ (λ i. (only_in_view (first_in_view (seen i)) ∷ [], [])))),
       c.split_seat.ensures.4 ∙ ((λ i. (others_in_view (seen i), [])) ∙ sym ((λ i. (only_in_view (c.split_seat.ensures.4 i).0 ∷ [], [])) ∙ (λ i. (only_in_view (others_in_view (seen i)) ∷ [], [])))),
     )
 
 pub returns-clause-subscriber : goal.returns-clause-subscriber
 returns-clause-subscriber g c =
-    let told = c.load.ensures.2 in let seen = ap (λ (m : Me Unit (List (Known g.row.T.Denot))). m.0) told.3 ∙ ap (map (with_knows (sees told.0))) (joined_is g (goal.at.returns-clause-subscriber g c).After-join_seat) in
+    let told = c.load.ensures.2 in let seen = ap (λ (m : Me Unit (List (Known g.row.T.Denot))). m.0) told.4 ∙ ap (map (with_knows (sees told.0))) (joined_is g (goal.at.returns-clause-subscriber g c).After-join_seat) in
     ap (λ m. (only_in_view m.0).subscriber) c.split_seat.ensures.2 ∙ ap (λ v. (only_in_view (first_in_view v)).subscriber) seen
 
 pub returns-clause-began : goal.returns-clause-began

@@ -6,6 +6,7 @@ use Rattle.flow_law.specs.StateFlow.{state_after_all}
 use Rattle.flow_law.specs.Current.{IsThere}
 use Rattle.flow_word.specs.declared.view.Known.{Known}
 use Rattle.flow_word.specs.View.{begun, only_in_view}
+use Rattle.flow_law.proofs.RealTimeLemmas.{in_real_time}
 use Rattle.flow_law.proofs.SeenLemmas.{history_conflates, history_converges}
 use Rattle.flow_word.proofs.token.WordState.seen_by_subscription.Goals as goal
 
@@ -20,3 +21,6 @@ returns-clause-subscribed g c =
     let value_of = g.T.Packed.value_of in let s = c.subscription.inside in
     let there : IsThere s.number (state_after_all (begun value_of (only_in_view s.seat.me.0).start) (only_in_view s.seat.me.0).knows.seen) = subst (λ o. IsSome o) (sym c.subscription.invariant.2.got) refl in
     subst (λ (z : StateFlowState g.row.T.Denot × Me Unit (List (Known g.row.T.Denot))). IsThere s.number (state_after_all z.0 (only_in_view z.1.0).knows.seen)) (λ i. (c.look.ensures.began i, sym c.look.ensures.same.0 i)) there
+
+pub returns-clause-in_real_time : goal.returns-clause-in_real_time
+returns-clause-in_real_time g c = in_real_time _ c.look.ensures.timed

@@ -1,4 +1,4 @@
-use Rattle.std.proofs.Common.{rules, Some, None, ◌≡◌, ◌+◌, ◌/◌, ◌∷◌, [], map, sym, ap, subst, ◌∙◌, arith}
+use Rattle.std.proofs.Common.{rules, Some, None, ◌≡◌, ◌+◌, ◌/◌, ◌∷◌, [], map, refl, sym, ap, subst, ◌∙◌, arith}
 use Rattle.flow_law.specs.declared.call.StateCall.TheVariants.{Subscribe}
 use Rattle.flow_law.specs.declared.call.StateReply.TheVariants.{Subscribed}
 use Rattle.flow_law.specs.declared.states.StateFlowState.{StateFlowState}
@@ -23,8 +23,8 @@ pub compare_exchange-found-requires : goal.compare_exchange-found-requires
 compare_exchange-found-requires g c =
     let limit : (only_in_view c.seat.inside.seat.me.0).start.limit ≡ c.self.inside.limit = ap (λ z. z.table_id.start.limit) c.seat.view_is ∙ (ap (λ z. z.start.limit) c.requires ∙ (ap (λ z. z.table_id.start.limit) (sym c.self.view_is) ∙ c.self.invariant.1)) in
     let told = c.load-word.ensures.2.1 (omega arith) in
-    let same : (only_in_view c.load-word.new.seat.me.0).start.limit ≡ (only_in_view c.seat.inside.seat.me.0).start.limit = ap (λ m. (only_in_view m.0).start.limit) told.0 in
-    (search rules, search rules, entering _ _ _ _ _ _ _ _ _ (subst (λ m. m.0 ≡ only_in_view m.0 ∷ []) (sym told.0) (ap (λ m. m.0) c.seat.invariant)) (omega arith) (omega arith))
+    let same : (only_in_view c.load-word.new.seat.me.0).start.limit ≡ (only_in_view c.seat.inside.seat.me.0).start.limit = ap (λ m. (only_in_view m.0).start.limit) told.1 in
+    (search rules, search rules, entering _ _ _ _ _ _ _ _ _ (subst (λ m. m.0 ≡ only_in_view m.0 ∷ []) (sym told.1) refl) (omega arith) (omega arith))
 
 pub split_seat-requires : goal.split_seat-requires
 split_seat-requires g c =
@@ -36,7 +36,7 @@ returns-clause-subscribed g c =
     let value_of = g.T.Packed.value_of in let e = c.compare_exchange-found in let l = c.load-word.new.seat in let p = c.split_seat in
     let limit : (only_in_view c.seat.inside.seat.me.0).start.limit ≡ c.self.inside.limit = ap (λ z. z.table_id.start.limit) c.seat.view_is ∙ (ap (λ z. z.start.limit) c.requires ∙ (ap (λ z. z.table_id.start.limit) (sym c.self.view_is) ∙ c.self.invariant.1)) in
     let told = c.load-word.ensures.2.1 (omega arith) in let won = e.ensures.2.0 c.if-found-word.false in let alone = ap (λ m. m.0) won.0.2 in
-    let before : token_of l ≡ c.args.seat.now = (λ i. token (word_id (c.load-word.ensures.0 i) (only_in_view (told.0 i).0).start) (only_in_view (told.0 i).0).knows) ∙ c.seat.view_is in
+    let before : token_of l ≡ c.args.seat.now = (λ i. token (word_id (c.load-word.ensures.0 i) (only_in_view (told.1 i).0).start) (only_in_view (told.1 i).0).knows) ∙ c.seat.view_is in
     let first : begun value_of (only_in_view l.me.0).start ≡ c.args.self.now.first =
     ap (λ z. begun value_of z.table_id.start) before ∙ (ap (λ z. begun value_of z.start) c.requires ∙ (ap (λ z. begun value_of z.table_id.start) (sym c.self.view_is) ∙ ap (λ z. z.first) c.self.view_is)) in
     let now = token_of e.new.seat in (

@@ -1,4 +1,4 @@
-use Rattle.std.proofs.Common.{sym, subst}
+use Rattle.std.proofs.Common.{subst}
 use Rattle.flow_law.specs.StateFlow.{state_flow}
 use Rattle.flow_word.specs.Receiving.{ReceivesInTime}
 use Rattle.flow_word.proofs.values.WordValues.look_or_leave_waker.Goals as goal

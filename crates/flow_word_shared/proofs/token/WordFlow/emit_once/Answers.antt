@@ -1,10 +1,23 @@
 use Rattle.std.proofs.Common.{rules, ◌≡◌, ◌+◌, ◌/◌, ◌%◌, [], ◌∷◌, Some, refl, sym, ap, subst, ◌∙◌, arith}
 use Rattle.std.proofs.Math.Nat.{mod-lt}
-use Rattle.flow_word_shared.specs.View.{only, holding}
+use Rattle.flow_law.specs.declared.call.SharedCall.{SharedCall}
+use Rattle.flow_law.specs.declared.call.SharedReply.{SharedReply}
+use Rattle.flow_law.specs.declared.states.SharedFlowState.{SharedFlowState}
+use Rattle.flow_law.specs.History.{IsHistory}
+use Rattle.flow_law.specs.Promise.{AddsOne}
+use Rattle.flow_law.specs.SharedHistory.{shared_flow}
+use Rattle.flow_law.specs.Tokens.{token}
+use Rattle.flow_word_shared.specs.Tokens.{word_flow_id, ring_token}
+use Rattle.flow_word_shared.specs.View.{SharedKnowledge, began_as, only, holding}
 use Rattle.flow_word_shared.proofs.EmitSteps.{taking, counting, filling, refusing, releasing, publishing}
 use Rattle.flow_word_shared.proofs.Masks.{mask_is}
 use Rattle.flow_word_shared.proofs.token.WordFlow.emit_once.Goals as goal
 use Rattle.flow_word_shared.proofs.token.WordFlow.emit_once.Goals.{After-compare_exchange-found, After-load-made}
+
+-- the same event of the same flow and token
+adds_at : {T : Type 0} {first first' : SharedFlowState T} {k k' after : SharedKnowledge T} {c : SharedCall T} {r : SharedReply T} → first ≡ first' → k ≡ k' → AddsOne (IsHistory shared_flow first) k c r after
+    → AddsOne (IsHistory shared_flow first') k' c r after
+adds_at {T = T} {after = after} {c = c} {r = r} f e a = subst (λ (z : SharedFlowState T × SharedKnowledge T). AddsOne (IsHistory shared_flow z.0) z.1 c r after) (λ i. (f i, e i)) a
 
 pub compare_exchange-found-requires : goal.compare_exchange-found-requires
 compare_exchange-found-requires g c =
@@ -43,3 +56,32 @@ store-requires-3 g c =
     let counted = c.load-made.ensures.2 (holding n) (ap (λ m. (only m.0).hold) told) refl in let limit = c.self.invariant.5 in let less = c.if-made-length.false in
     let filled = c.store-2.ensures.2 (record (holding n) { issued = Some (made + n) }) (ap (λ m. (only m.0).hold) counted.0) in let even = c.seat.invariant.1 in
     (search rules, search rules, publishing _ _ _ _ _ _ _ _ (record (holding n) { issued = Some (made + n); cell = Some c.args.word }) c.args.word (made + n) _ (subst (λ m. m.0 ≡ only m.0 ∷ []) (sym filled) refl) (ap (λ m. (only m.0).hold) filled) refl refl refl (omega arith) c.requires.packs (omega arith))
+
+pub invariant_of-seat-2 : goal.invariant_of-seat-2
+invariant_of-seat-2 g c =
+    let n = c.seat.inside.expected / 2 in let made = c.load-made.result in let told = c.compare_exchange-found.ensures.2.0 c.if-found-expected.false in
+    let counted = c.load-made.ensures.2 (holding n) (ap (λ m. (only m.0).hold) told) refl in
+    let filled = c.store-2.ensures.2 (record (holding n) { issued = Some (made + n) }) (ap (λ m. (only m.0).hold) counted.0) in let even = c.seat.invariant.1 in
+    let published = c.store-3.ensures.2 (record (holding n) { issued = Some (made + n); cell = Some c.args.word }) c.args.word (ap (λ m. (only m.0).hold) filled) refl in
+    let slots : c.store-2.new.seat.me.1 ≡ [] = ap (λ m. m.1) filled ∙ (ap (λ m. m.1) counted.0 ∙ (ap (λ m. m.1) told ∙ ap (λ m. m.1) c.seat.invariant.0.0)) in
+    ((published.0.2 ∙ ap (λ l. (only c.store-3.new.seat.me.0 ∷ [], l)) slots, published.1), omega (arith, even))
+
+pub returns-clause-emitted : goal.returns-clause-emitted
+returns-clause-emitted g c =
+    let n = c.seat.inside.expected / 2 in let made = c.load-made.result in let told = c.compare_exchange-found.ensures.2.0 c.if-found-expected.false in
+    let counted = c.load-made.ensures.2 (holding n) (ap (λ m. (only m.0).hold) told) refl in
+    let filled = c.store-2.ensures.2 (record (holding n) { issued = Some (made + n) }) (ap (λ m. (only m.0).hold) counted.0) in
+    let published = c.store-3.ensures.2 (record (holding n) { issued = Some (made + n); cell = Some c.args.word }) c.args.word (ap (λ m. (only m.0).hold) filled) refl in
+    let before : ring_token c.store-2.new.seat ≡ c.args.seat.now =
+    (λ i. token (word_flow_id (c.store-2.ensures.0 i) (only (filled i).0).start) (only (filled i).0).knows)
+    ∙ ((λ i. token (word_flow_id (c.load-made.ensures.0 i) (only (counted.0 i).0).start) (only (counted.0 i).0).knows)
+    ∙ ((λ i. token (word_flow_id (c.compare_exchange-found.ensures.0 i) (only (told i).0).start) (only (told i).0).knows) ∙ c.seat.view_is)) in
+    let first : began_as (only c.store-2.new.seat.me.0).start ≡ c.args.self.now.first =
+    ap (λ z. began_as z.table_id.start) before ∙ (ap (λ z. began_as z.start) c.requires.flow ∙ (ap (λ z. began_as z.table_id.start) (sym c.self.view_is) ∙ ap (λ z. z.first) c.self.view_is)) in
+    λ _. (
+      (
+        (λ i. word_flow_id (c.store-3.ensures.0 i) (published.0.1 i)) ∙ ap (λ z. z.table_id) before,
+        adds_at first (ap (λ z. z.knows) before) published.0.0,
+      ),
+      published.0.3 ∙ ap (λ z. z.knows.lost) before,
+    )

@@ -42,16 +42,17 @@ load-requires g c = (search rules, search rules, observing _ _ _ _ _ _ _ _ _ (jo
 pub split_seat-requires : goal.split_seat-requires
 split_seat-requires g c =
     let told = c.load.ensures.2 in let is = joined_is g (goal.at.split_seat-requires g c).After-join_seat in
-    (search rules, search rules, parts _ _ _ _ _ _ _ _ (ap (λ (m : Me Unit (List (RingKnown g.row.T.Denot))). m.0) told.3 ∙ ap (map (ring_with_knows (sees told.0))) is))
+    (search rules, search rules, parts _ _ _ _ _ _ _ _ (ap (λ (m : Me Unit (List (RingKnown g.row.T.Denot))). m.0) told.4 ∙ ap (map (ring_with_knows (sees told.0))) is))
 
 pub returns-clause-met : goal.returns-clause-met
 returns-clause-met g c =
     let told = c.load.ensures.2 in let h = told.0 in let a = only c.args.one.now.me.0 in let b = only c.args.other.now.me.0 in
-    let is = joined_is g (goal.at.returns-clause-met g c).After-join_seat in let seen = ap (λ (m : Me Unit (List (RingKnown g.row.T.Denot))). m.0) told.3 ∙ ap (map (ring_with_knows (sees h))) is in
+    let is = joined_is g (goal.at.returns-clause-met g c).After-join_seat in let seen = ap (λ (m : Me Unit (List (RingKnown g.row.T.Denot))). m.0) told.4 ∙ ap (map (ring_with_knows (sees h))) is in
     let table = c.load.ensures.0 ∙ (c.join_seat.ensures.0 ∙ c.split_seat-blank.ensures.0) in
-    let fit = subst (AllByRecursion (λ (x : RingKnown g.row.T.Denot). Fits h x.knows)) is told.2 in
+    let fit = subst (AllByRecursion (λ (x : RingKnown g.row.T.Denot). Fits h x.knows)) is told.3 in
     let first = ap (λ l. began_as (only l).start) is ∙ (ap (λ z. began_as z.start) c.requires.flow.0 ∙ (ap (λ z. began_as z.table_id.start) (sym c.self.view_is) ∙ ap (λ z. z.first) c.self.view_is)) in record {
       history = h;
+      timed = told.2;
       is_history = subst (λ (z : SharedFlowState g.row.T.Denot). IsHistory shared_flow z h) first told.1;
       fits_one = fit.0;
       fits_other = fit.1.0;
@@ -63,15 +64,15 @@ returns-clause-met g c =
 
 pub returns-clause-idle : goal.returns-clause-idle
 returns-clause-idle g c =
-    let told = c.load.ensures.2 in let h = told.0 in let seen = ap (λ (m : Me Unit (List (RingKnown g.row.T.Denot))). m.0) told.3 ∙ ap (map (ring_with_knows (sees h))) (joined_is g (goal.at.returns-clause-idle g c).After-join_seat) in
-    let slots = ap (λ (m : Me Unit (List (RingKnown g.row.T.Denot))). m.1) told.3 ∙ (ap (λ (m : Me Unit (List (RingKnown g.row.T.Denot))). m.1) c.join_seat.ensures.2 ∙ (ap (λ (m : Me Unit (List (RingKnown g.row.T.Denot))). m.1) c.split_seat-blank.ensures.2 ∙ ap (λ (m : Me Unit (List (RingKnown g.row.T.Denot))). m.1) c.requires.idle.0.0)) in (
+    let told = c.load.ensures.2 in let h = told.0 in let seen = ap (λ (m : Me Unit (List (RingKnown g.row.T.Denot))). m.0) told.4 ∙ ap (map (ring_with_knows (sees h))) (joined_is g (goal.at.returns-clause-idle g c).After-join_seat) in
+    let slots = ap (λ (m : Me Unit (List (RingKnown g.row.T.Denot))). m.1) told.4 ∙ (ap (λ (m : Me Unit (List (RingKnown g.row.T.Denot))). m.1) c.join_seat.ensures.2 ∙ (ap (λ (m : Me Unit (List (RingKnown g.row.T.Denot))). m.1) c.split_seat-blank.ensures.2 ∙ ap (λ (m : Me Unit (List (RingKnown g.row.T.Denot))). m.1) c.requires.idle.0.0)) in (
       subst (λ (m : Me Unit (List (RingKnown g.row.T.Denot))). (m ≡ (only m.0 ∷ [], [])) × ((only m.0).hold ≡ None)) (sym (c.split_seat.ensures.2 ∙ (λ i. (first_of_two (seen i), slots i)))) (refl, refl),
       subst (λ (m : Me Unit (List (RingKnown g.row.T.Denot))). (m ≡ (only m.0 ∷ [], [])) × ((only m.0).hold ≡ None)) (sym (c.split_seat.ensures.4 ∙ (λ i. (rest_of_two (seen i), [])))) (refl, refl),
     )
 
 pub returns-clause-reads : goal.returns-clause-reads
 returns-clause-reads g c =
-    let told = c.load.ensures.2 in let seen = ap (λ (m : Me Unit (List (RingKnown g.row.T.Denot))). m.0) told.3 ∙ ap (map (ring_with_knows (sees told.0))) (joined_is g (goal.at.returns-clause-reads g c).After-join_seat) in
+    let told = c.load.ensures.2 in let seen = ap (λ (m : Me Unit (List (RingKnown g.row.T.Denot))). m.0) told.4 ∙ ap (map (ring_with_knows (sees told.0))) (joined_is g (goal.at.returns-clause-reads g c).After-join_seat) in
     ap (λ m. (only m.0).reads) c.split_seat.ensures.2 ∙ ap (λ v. (only (first_of_two v)).reads) seen
 
 pub returns-clause-began : goal.returns-clause-began

@@ -6,6 +6,7 @@ use Rattle.flow_law.specs.SharedFlow.{position_of}
 use Rattle.flow_law.specs.SharedHistory.{state_after}
 use Rattle.flow_word_shared.specs.declared.view.RingKnown.{RingKnown}
 use Rattle.flow_word_shared.specs.View.{only}
+use Rattle.flow_law.proofs.RealTimeLemmas.{in_real_time}
 use Rattle.flow_law.proofs.SeenLemmas.{history_admits, history_calm, history_delivers, history_lags, history_replays}
 use Rattle.flow_word_shared.proofs.token.WordFlow.seen_by_subscription.Goals as goal
 
@@ -29,3 +30,6 @@ returns-clause-subscribed g c =
     let s = c.subscription.inside in
     let there : IsSome (position_of s.number (state_after {T = g.row.T.Denot} (only s.seat.me.0).start.config (only s.seat.me.0).knows.seen).subscribers) = subst (λ o. IsSome o) (sym c.subscription.invariant.0.2.stands.place) refl in
     subst (λ (z : SharedFlowState g.row.T.Denot × Me Unit (List (RingKnown g.row.T.Denot))). IsSome (position_of s.number (state_after {T = g.row.T.Denot} z.0.config (only z.1.0).knows.seen).subscribers)) (λ i. (c.look_back.ensures.began i, sym c.look_back.ensures.same.0 i)) there
+
+pub returns-clause-in_real_time : goal.returns-clause-in_real_time
+returns-clause-in_real_time g c = in_real_time _ c.look_back.ensures.timed
