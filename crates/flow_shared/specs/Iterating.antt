@@ -1,4 +1,4 @@
--- What an iterator over a reader gives: each item is what one `receive` may give. Begin with `GivesReceived`. `kind` is the kind of flow.
+-- What an iterator over a reader gives: each item is what one `receive` may give. Begin with `GivesNextReceived`. `kind` is the kind of flow.
 use Rattle.std.specs.Prelude.{◌≡◌, ◌⊎◌, Option, Some, None, Result, Ok}
 use Rattle.atomic_table.specs.Seated.{TableId}
 use Rattle.flow_law.specs.declared.errors.OutOfMemory.{OutOfMemory as MemoryError}
@@ -15,9 +15,9 @@ module _ {T S C R : Type 0} (kind : Kind T S C R) where
   ReceivesItem old item new = (new.flow ≡ old.flow) × FlowReceives kind old.flow old.subscription (answer_by memory_fault item) new.subscription
 
   -- an item of an iterator that does not end
-  abbrev pub GivesReceived : ReaderOf TableId S (Said C R) → Option (Result T MemoryError) → ReaderOf TableId S (Said C R) → Type 0
-  GivesReceived old (Some item) new = ReceivesItem old item new
-  GivesReceived old None new = ⊥
+  abbrev pub GivesNextReceived : ReaderOf TableId S (Said C R) → Option (Result T MemoryError) → ReaderOf TableId S (Said C R) → Type 0
+  GivesNextReceived old (Some item) new = ReceivesItem old item new
+  GivesNextReceived old None new = ⊥
 
   -- An item of an iterator that ends when its time is up: it has then called `next` some times, which found nothing, or not at all.
   abbrev pub GivesInTime : ReaderOf TableId S (Said C R) → Option (Result T MemoryError) → ReaderOf TableId S (Said C R) → Type 0

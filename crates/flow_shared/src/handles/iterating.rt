@@ -2,7 +2,7 @@
 ghost use Rattle.std.specs.Prelude.{◌≡◌};
 ghost use Rattle.std.specs.Iterator.{at_most};
 ghost use Rattle.std.specs.Sync.Forever.{forever_left};
-ghost use Rattle.flow_shared.specs.Iterating.{GivesReceived, GivesInTime};
+ghost use Rattle.flow_shared.specs.Iterating.{GivesNextReceived, GivesInTime};
 
 use super::reader::FlowReader;
 use flow_core::ReaderCalls;
@@ -71,7 +71,7 @@ impl<'r, 'a, S: ReaderCalls + Drop, R: Wait, A: Allocator + Copy> Iterator
     for Values<'r, 'a, S, R, A> {
     type Item = Result<S::Item, OutOfMemory>;
 
-    ghost next_gives = { λ s item t. GivesReceived S.kind s.reader.now item t.reader.now };
+    ghost next_gives = { λ s item t. GivesNextReceived S.kind s.reader.now item t.reader.now };
 
     ghost remaining = { λ s. at_most (forever_left s.turns) };
 
