@@ -10,4 +10,3 @@ pub mod TellingLemmas
 pub mod TextLemmas
 pub mod WorkedScripts
 pub mod CaseLemmas
-pub mod TraceLemmas

@@ -14,7 +14,7 @@ use Rattle.flow_script.specs.declared.case.Case.{Case}
 use Rattle.flow_script.specs.declared.case.Case.TheVariants.{Plain}
 use Rattle.script_format.specs.declared.script.FlowStep.{FlowStep}
 use Rattle.flow_script.specs.Answers.{Answer, as_answer, no_flow}
-use Rattle.flow_script.specs.Cases.{cases_from, place_case, row_from, step_case, with_place}
+use Rattle.flow_script.specs.Cases.{cases_from, place_case, step_case, with_place}
 use Rattle.flow_script.specs.Traces.{seen_case}
 use Rattle.flow_script.specs.Refusals.{IsTold, refused_answer}
 use Rattle.flow_script.specs.Players.{MakesPlayer, ShowsPlayer}

@@ -22,11 +22,11 @@ pub loop-step-preserved : goal.loop-step-preserved
 loop-step-preserved c = λ first shows.
     let before = c.loop-step.invariant first shows in
     let step = c.in-Some.step in
-    let done = c.in_ok-watched_step.ensures.plays before.0 before.1 in (
+    let done = c.in_ok-answer.ensures.plays before.0 before.1 in (
       (turn (action_of step) before.0).state,
       done.0,
       next_answers before.0 step _ _ _ _ _ _ c.in-Some.ensures.steps.0 c.in_ok-push.ensures.items done.1 before.2,
-      next_cases before.0 step _ _ _ _ _ _ c.in-Some.ensures.steps.0 c.in_ok-push-2.ensures.items (c.in_ok-watched_step.ensures.case before.0 before.1) before.3,
+      next_cases before.0 step _ _ _ _ _ _ c.in-Some.ensures.steps.0 c.in_ok-push-2.ensures.items (c.in_ok-answer.ensures.case before.0 before.1) before.3,
     )
 
 pub returns-clause-plays : goal.returns-clause-plays
