@@ -12,7 +12,7 @@ from hypothesis import given
 from refusing import is_told, prints, refuse_each
 from running import difference, ended, expect, program, run, tries
 from scripts_strategy import scripts
-from ways import LACKING, NO_CALL, WAYS, lines_over, lines_over_all, plays
+from ways import LACKING, NO_CALL, NO_KEY, WAYS, lines_over, lines_over_all, plays
 from worked_scripts import PLAYED, REFUSED, worked_scripts
 
 WORKED = worked_scripts()
@@ -62,4 +62,6 @@ def test_random_scripts(flow_play_over, version, request):
         assert came == wanted, f"{text}\n{difference(came, wanted)}"
 
     play()
-    assert (statuses, lacking) == ({PLAYED, REFUSED}, {"", *LACKING})
+    # Version 1 has no first values of a subscriber.
+    lacked = {"", *LACKING} - ({NO_KEY} if version == 1 else set())
+    assert (statuses, lacking) == ({PLAYED, REFUSED}, lacked)
