@@ -71,8 +71,8 @@ def test_options_that_do_not_go_together(words):
 
 
 def test_limit_of_time():
-    """A process does not begin in a thousandth of a second."""
-    assert judge("--seconds", "0.001", LEGAL) == (3, "gave up\n", "hint: stopped after 0.001 seconds; --seconds sets the limit\n")
+    """No process ends within a millionth of a second."""
+    assert judge("--seconds", "0.000001", LEGAL) == (3, "gave up\n", "hint: stopped after 1e-06 seconds; --seconds sets the limit\n")
     assert judge("--seconds", "50", LEGAL) == (0, "legal\n", "")
 
 
