@@ -79,6 +79,10 @@ impl<'r, 'a, S: ReaderCalls + Drop, R: Wait, A: Allocator + Copy> Iterator
         self.turns.next();
         Some(self.reader.await_next(self.rt))
     }
+
+    fn size_hint(&self) -> (usize, Option<usize>) {
+        (0, None)
+    }
 }
 
 impl<'r, 'a, S: ReaderCalls + Drop, R: Wait + Clock, A: Allocator + Copy> Iterator
@@ -95,5 +99,9 @@ impl<'r, 'a, S: ReaderCalls + Drop, R: Wait + Clock, A: Allocator + Copy> Iterat
         self.reader
             .await_next_within(self.rt, &self.limit)
             .transpose()
+    }
+
+    fn size_hint(&self) -> (usize, Option<usize>) {
+        (0, None)
     }
 }
