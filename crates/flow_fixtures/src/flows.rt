@@ -1,7 +1,7 @@
 //! New flows of whole numbers, and new readers of them. A test ends if one of them is refused.
 ghost use Rattle.std.specs.Prelude.{◌≡◌};
 
-use crate::compare::compare;
+use crate::comparing::compare;
 use flow_law::Config;
 use flow_shared::{
     Emitter, Reader, Seat, Setter, SharedFlow, StateFlow, StateReader, StateSeat, Subscription,
