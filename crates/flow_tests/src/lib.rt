@@ -17,7 +17,11 @@ mod awaiting;
 #[cfg(test)]
 mod checker;
 #[cfg(test)]
+mod compare;
+#[cfg(test)]
 mod examples;
+#[cfg(test)]
+mod flows;
 #[cfg(test)]
 mod handle_calls;
 #[cfg(test)]

@@ -1,7 +1,8 @@
 //! Threads that sleep by watchers: two watchers of one emission, and watchers of two flows with one number.
 ghost use Rattle.std.specs.Prelude.{◌≡◌};
 
-use flow_fixtures::{compare, new_flow};
+use crate::compare::compare;
+use crate::flows::new_flow;
 use flow_law::Config;
 use flow_shared::{Emission, Emitted, PolledNow, Seat, SharedFlow, Subscription, Watcher};
 use std::process::Abort;

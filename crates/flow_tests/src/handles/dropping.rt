@@ -1,7 +1,8 @@
 //! A flow that is dropped while a task sleeps.
 ghost use Rattle.std.specs.Prelude.{◌≡◌};
 
-use flow_fixtures::{compare, new_flow, new_reader};
+use crate::compare::compare;
+use crate::flows::{new_flow, new_reader};
 use flow_law::Config;
 use flow_shared::{ReceiveFuture, Seat, SharedFlow};
 use futures::test::MockTask;

@@ -1,7 +1,8 @@
 //! An emission that is taken out of its handle and bound again.
 ghost use Rattle.std.specs.Prelude.{◌≡◌};
 
-use flow_fixtures::{compare, new_flow};
+use crate::compare::compare;
+use crate::flows::new_flow;
 use flow_law::Config;
 use flow_shared::{EmitAnswer, Seat, SharedFlow};
 use std::sync::Wait;

@@ -1,5 +1,6 @@
 //! Two threads set the value of a word state while threads and tasks sleep until it changes.
-use flow_fixtures::{compare, new_word_reader, new_word_state};
+use crate::compare::compare;
+use crate::flows::{new_word_reader, new_word_state};
 use flow_word::{ChangedFuture, WordReader, WordSetter};
 use futures::task::Poll;
 use futures::test::MockTask;

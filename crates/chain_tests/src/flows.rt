@@ -1,0 +1,85 @@
+//! New flows of whole numbers, and new readers of them. A test ends if one of them is refused.
+ghost use Rattle.std.specs.Prelude.{◌≡◌};
+
+use crate::compare::compare;
+use flow_law::Config;
+use flow_shared::{Emitter, Reader, Seat, Setter, SharedFlow, StateFlow, StateReader, StateSeat};
+use flow_word::{WordReader, WordSeat, WordSetter, WordState};
+use std::alloc::{Allocator, Global};
+use std::process::Abort;
+use std::sync::Wait;
+
+/// Returns a new shared flow and its first seat.
+pub fn new_flow(rt: &impl Abort, alloc: Global, config: Config) -> (SharedFlow<i64>, Seat<i64>)
+    ensures { result.1.table_id ≡ result.0.table_id }
+{
+    SharedFlow::new(alloc, config).expect(rt, "a flow")
+}
+
+/// Returns a new state flow that begins with this value and issues at most this many numbers, and its first seat.
+pub fn new_state_flow(
+    rt: &impl Abort,
+    alloc: Global,
+    value: i64,
+    limit: u64,
+) -> (StateFlow<i64>, StateSeat<i64>)
+    ensures { result.1.table_id ≡ result.0.table_id }
+{
+    StateFlow::new(alloc, value, limit).expect(rt, "a flow")
+}
+
+/// Returns a new word state that begins with this value and issues at most this many numbers, and its first seat.
+pub fn new_word_state(
+    rt: &impl Abort,
+    alloc: Global,
+    value: i64,
+    limit: u32,
+) -> (WordState<i64>, WordSeat<i64>)
+    ensures { result.1.table_id ≡ result.0.table_id }
+{
+    WordState::new(alloc, value, limit).expect(rt, "a flow")
+}
+
+/// Subscribes to a shared flow.
+pub fn new_reader<'a, R: Wait + Abort, A: Allocator + Copy>(
+    rt: &R,
+    emitter: &mut Emitter<'a, i64, A>,
+) -> Reader<'a, i64, A>
+    ensures flow { emitter.new.flow ≡ emitter.old.flow }
+    ensures made { result.flow ≡ emitter.old.flow }
+{
+    emitter.subscribe(rt).expect(rt, "a reader")
+}
+
+/// Subscribes to a state flow.
+pub fn new_state_reader<'a, R: Wait + Abort, A: Allocator + Copy>(
+    rt: &R,
+    setter: &mut Setter<'a, i64, A>,
+) -> StateReader<'a, i64, A> {
+    setter.subscribe(rt).expect(rt, "a reader")
+}
+
+/// Subscribes to a word state.
+pub fn new_word_reader<'a, R: Wait + Abort>(
+    rt: &R,
+    setter: &mut WordSetter<'a, i64>,
+) -> WordReader<'a, i64>
+    ensures flow { setter.new.flow ≡ setter.old.flow }
+    ensures made { result.flow ≡ setter.old.flow }
+{
+    setter.subscribe(rt).expect(rt, "a reader")
+}
+
+/// Compares the replay cache that a caller reads.
+pub fn reads_cache<R: Wait + Abort>(
+    rt: &R,
+    flow: &SharedFlow<i64>,
+    seat: &mut Seat<i64>,
+    wanted: &[i64],
+)
+    requires { seat.old.table_id ≡ flow.now.table_id }
+    ensures { seat.new.table_id ≡ flow.entry.now.table_id }
+{
+    let cache = flow.replay_cache(rt, seat).expect(rt, "memory");
+    compare(rt, "the replay cache", cache.as_slice(), wanted);
+}
