@@ -191,7 +191,8 @@ impl<'a> GrowingPicture<'a> {
     ) {
         let lane = self.named_lane(step);
         let emission = self.picture.open_value(lane);
-        let Marks(on_flow, on_named, words) = marks_of(seen, answer, line, emission);
+        let Marks(on_flow, on_named, content) = marks_of(seen, answer, emission);
+        let words = content.words(line);
         self.mark_named(flow, lane, on_named, words, seen.changes.lag.unwrap_or(0));
         let admitted = self.admit(flow, &seen.changes);
         match (on_flow, admitted.words()) {
@@ -218,7 +219,8 @@ impl<'a> GrowingPicture<'a> {
         match (seen.act, answer) {
             (Act::OnFlow(flow, FlowStep::Emit(_)), Answer::Done) => self.add_emission(flow, None),
             (Act::OnFlow(flow, FlowStep::Emit(value)), _) => {
-                self.add_emission(flow, Some(self.picture.lanes.len()));
+                let lane = self.picture.lanes.len();
+                self.add_emission(flow, Some(lane));
                 self.add_name(step, Some(value));
             }
             (Act::OnFlow(_, FlowStep::Subscribe) | Act::SubscribesWith(_, _), _) => {
