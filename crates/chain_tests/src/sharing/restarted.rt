@@ -56,6 +56,9 @@ fn a_restart_collects_the_chain_anew(rt: HostRuntime) {
     }
     receives(&rt, &mut sharing, id, Next::Empty);
     let (_chain, mut hub) = sharing.into_parts();
-    compare(&rt, "put", hub.put(9).is_ok(), true);
+    let waits = hub.poll().expect(&rt, "an answer");
+    if !waits {
+        compare(&rt, "put", hub.put(9).is_ok(), true);
+    }
     compare(&rt, "next", hub.core_mut().next(id), Ok(Next::Value(9)));
 }

@@ -33,7 +33,9 @@ pub fn show(rt: &HostRuntime) -> Result<()> {
     let core = SharedCore::new(alloc, Config::new().replay(8))?;
     let sharing = Sharing::new(Scripted::new(source), Started::Eagerly, CoreHub::new(core));
     let mut hub = retry(sharing, 1)?;
-    hub.put(0)?;
+    if !hub.poll()? {
+        hub.put(0)?;
+    }
     println!(rt; "{:?}", hub.core().replay_cache()?.as_slice())?;
     Ok(())
 }
