@@ -22,7 +22,8 @@
 //!
 //! # Traces
 //! `trace_of` plays a script and also watches its flows: for each step it returns the case of the documented flow that
-//! the step took, and what it left. The head of `trace` says how a trace is read. A player that asks for no trace does not pay for one.
+//! the step took, and what it left. The head of `trace` says how a trace is read. A player that asks for no trace does not
+//! pay for one.
 #![tactic(auto)]
 
 mod answer;
