@@ -1,8 +1,9 @@
 //! `mapLatest` of a hot flow: the work for a value is dropped when a newer value comes.
 use crate::threads::send;
 use anyhow::Result;
+use flow_core::SharedCore;
 use flow_law::Config;
-use flow_shared::{Reader, SharedFlow};
+use flow_shared::{FlowValues, Reader, SharedFlow};
 use futures::TryStreamExt;
 use futures::executor::block_on;
 use futures::future::{Either, poll_fn, select};
@@ -38,6 +39,20 @@ impl Work {
     }
 }
 
+/// Returns the result of the work for `value`, or the value that comes before it is done.
+fn result_or_newer<R: Wait + RandomSource + AllocGlobal>(
+    rt: &R,
+    value: i64,
+    values: &mut FlowValues<'_, SharedCore<i64>>,
+) -> Result<Either<i64, Option<i64>>> {
+    let mut work = Work::new(value);
+    let done = poll_fn(move |cx| work.advance(cx));
+    Ok(match block_on(rt, select(done, values.try_next()))? {
+        Either::Left((result, _values)) => Either::Left(result),
+        Either::Right((newer, _work)) => Either::Right(newer?),
+    })
+}
+
 /// Returns the result of the first work that no newer value interrupts.
 fn first_result<R: Wait + RandomSource + AllocGlobal>(
     rt: &R,
@@ -47,11 +62,9 @@ fn first_result<R: Wait + RandomSource + AllocGlobal>(
     let mut next = block_on(rt, values.try_next())??;
     for _ in rt.forever() {
         let Some(value) = next else { break };
-        let mut work = Work::new(value);
-        let done = poll_fn(move |cx| work.advance(cx));
-        match block_on(rt, select(done, values.try_next()))? {
-            Either::Left((result, _values)) => return Ok(Some(result)),
-            Either::Right((newer, _work)) => next = newer?,
+        match result_or_newer(rt, value, &mut values)? {
+            Either::Left(result) => return Ok(Some(result)),
+            Either::Right(newer) => next = newer,
         }
     }
     Ok(None)

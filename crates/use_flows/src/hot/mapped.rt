@@ -1,4 +1,4 @@
-//! `map`, `filter` and `distinctUntilChanged` of a hot flow: adapters over the stream of a reader.
+//! `filter`, `map` and `distinctUntilChanged` of a hot flow: one adapter over the stream of a reader.
 use crate::threads::send;
 use anyhow::{Error, Result};
 use flow_law::Config;
@@ -10,6 +10,26 @@ use std::alloc::{AllocGlobal, Global};
 use std::random::RandomSource;
 use std::sync::Wait;
 
+/// The ten that was given last, if there is one.
+#[derive(Drop)]
+struct LastTen {
+    ten: Option<i64>,
+}
+
+impl LastTen {
+    /// Returns the ten of an even value, unless it is equal to the one before.
+    fn next(&mut self, x: i64) -> Option<i64> {
+        if x % 2 != 0 {
+            return None;
+        }
+        let ten = x / 10;
+        match self.ten.replace(ten) {
+            Some(last) if last == ten => None,
+            _ => Some(ten),
+        }
+    }
+}
+
 /// Returns the first `count` tens of the even values, without those that are equal to the one before.
 fn tens<R: Wait + RandomSource + AllocGlobal>(
     rt: &R,
@@ -17,14 +37,13 @@ fn tens<R: Wait + RandomSource + AllocGlobal>(
     reader: Reader<'_, i64>,
     count: usize,
 ) -> Result<Vec<i64>> {
-    let mut last = None;
+    let mut last = LastTen { ten: None };
     let tens = reader
         .into_stream()
-        .try_filter(|x| ready(*x % 2 == 0))
-        .map_ok(|x| x / 10)
-        .try_filter(move |x| ready(last.replace(*x) != Some(*x)))
+        .map_err(Error::from)
+        .try_filter_map(move |x| ready(Ok(last.next(x))))
         .take(count);
-    block_on(rt, tens.map_err(Error::from).try_collect(alloc))?
+    block_on(rt, tens.try_collect(alloc))?
 }
 
 /// Returns the tens of the numbers from 15 to 44.
