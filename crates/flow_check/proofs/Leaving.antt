@@ -1,4 +1,4 @@
--- A look that ended can be left out of an order. Begin with `leave_out`.
+-- A private call that ended can be made before all others of an order. Begin with `make_first`.
 use Rattle.std.proofs.Common.{◌≡◌, ◌≢◌, ℕ, suc, zero, ◌+◌, ◌<◌, ◌≤◌, Bool, true, false, List, [], ◌∷◌, length, set, get_or, Option, Some, None, refl, sym, ap, ◌∙◌, subst, inl, inr, arith}
 use Rattle.std.specs.Prelude.{slice_get, is_some, IsSome}
 use Rattle.std.proofs.lemmas.Bool.{false≢true}
@@ -9,14 +9,15 @@ use Rattle.flow_law.proofs.Rows.{split}
 use Rattle.flow_check.specs.declared.timed.Timed.{Timed}
 use Rattle.flow_check.specs.Records.{CallsByCaller, recorded, is_over_before, IsWellTimed}
 use Rattle.flow_check.specs.Remaining.{placing, next_at, next_call_of, MayComeNext, IsStep, GoesThrough}
-use Rattle.flow_check.specs.Looks.{IsKept, OnlyLooks}
+use Rattle.flow_check.specs.Looks.{IsKept}
+use Rattle.flow_check.specs.PrivateCalls.{ArePrivate}
 use Rattle.flow_check.proofs.Parts.{placed_at}
 use Rattle.flow_check.proofs.Places.{get-set_same}
 use Rattle.flow_check.proofs.Timing.{earlier}
 
 -- ---- places
 
-get-set_else : (xs : List ℕ) (i j x : ℕ) → i ≢ j → slice_get (set xs i x) j ≡ slice_get xs j
+pub get-set_else : {A : Type 0} (xs : List A) (i j : ℕ) (x : A) → i ≢ j → slice_get (set xs i x) j ≡ slice_get xs j
 get-set_else [] i j x apart = refl
 get-set_else (y ∷ xs) zero zero x apart = absurd (apart refl)
 get-set_else (y ∷ xs) zero (suc j) x apart = refl
@@ -56,36 +57,36 @@ module _ {C : Type 0} (callers : CallsByCaller C) where
 
 -- ---- orders
 
-module _ {S C : Type 0} (stepped : S → ℕ → C → Option S) (may_skip is_look : C → Bool) (IsSound : S → Type 0) (kept : IsKept stepped IsSound) (looks : OnlyLooks stepped IsSound is_look) where
+module _ {S C : Type 0} (stepped : S → ℕ → C → Option S) (may_skip is_private : C → Bool) (IsSound : S → Type 0) (kept : IsKept stepped IsSound) (Ahead : ℕ → C → S → S → Type 0)
+    (private_calls : ArePrivate stepped may_skip IsSound is_private Ahead) where
   pub sound_after : (s after : S) (caller : ℕ) (c : C) → IsSound s → IsStep stepped may_skip s caller c after → IsSound after
   sound_after s after caller c sound (inl step) = kept s after caller c sound step
   sound_after s after caller c sound (inr skip) = subst IsSound (sym skip.1) sound
 
   module _ (callers : CallsByCaller C) (well : IsWellTimed callers) where
-    -- an order that is one turn shorter goes through what is left after this caller's next call
-    abbrev pub GoesWithout : ℕ → S → List ℕ → List ℕ → Type 0
-    GoesWithout i s placed order = (rest : List ℕ) × (length order ≡ length rest + 1) × GoesThrough stepped may_skip callers s (placing i placed) rest
+    -- from this state an order that is one turn shorter goes through what is left after this caller's next call
+    abbrev pub GoesAfter : ℕ → S → List ℕ → List ℕ → Type 0
+    GoesAfter i t placed order = (rest : List ℕ) × (length order ≡ length rest + 1) × GoesThrough stepped may_skip callers t (placing i placed) rest
 
-    own_turn : (i : ℕ) (c : Timed C) (order placed : List ℕ) (s : S) → is_look c.call ≡ true → IsSound s → next_call_of callers placed i ≡ Some c
-        → GoesThrough stepped may_skip callers s placed (i ∷ order) → GoesWithout i s placed (i ∷ order)
-    own_turn i c order placed s look sound next h =
+    own_turn : (i : ℕ) (c : Timed C) (order placed : List ℕ) (s t : S) → is_private c.call ≡ true → IsSound s → Ahead i c.call s t → next_call_of callers placed i ≡ Some c
+        → GoesThrough stepped may_skip callers s placed (i ∷ order) → GoesAfter i t placed (i ∷ order)
+    own_turn i c order placed s t own sound ahead next h =
         let is : c ≡ h.0 = same_Some c h.0 (sym next ∙ h.1) in
-        let same : h.3.0 ≡ s = elim h.3.1 [
-          | inl step ↦ looks s h.3.0 i h.0.call sound (subst (λ (x : Timed C). is_look x.call ≡ true) is look) step
-          | inr skip ↦ skip.1
-        ] in
-        (order, omega arith, subst (λ (t : S). GoesThrough stepped may_skip callers t (placing i placed) order) same h.3.2)
+        let same : h.3.0 ≡ t = private_calls.ends s t h.3.0 i c.call sound own ahead (subst (λ (x : Timed C). IsStep stepped may_skip s i x.call h.3.0) (sym is) h.3.1) in
+        (order, omega arith, subst (λ (u : S). GoesThrough stepped may_skip callers u (placing i placed) order) same h.3.2)
 
-    pub leave_out : (i : ℕ) (c : Timed C) (order placed : List ℕ) (s : S) → is_look c.call ≡ true → IsSome c.end → IsSound s → next_call_of callers placed i ≡ Some c
-        → GoesThrough stepped may_skip callers s placed order → GoesWithout i s placed order
-    leave_out i c [] placed s look ended sound next h = absurd (false≢true (subst (λ (o : Option ℕ). is_some o ≡ true) (h i c next) ended))
-    leave_out i c (caller ∷ order) placed s look ended sound next h = elim (eqb_tells i caller) [
+    -- t is the state in which the private call has happened already
+    pub make_first : (i : ℕ) (c : Timed C) (order placed : List ℕ) (s t : S) → is_private c.call ≡ true → IsSome c.end → IsSound s → Ahead i c.call s t → next_call_of callers placed i ≡ Some c
+        → GoesThrough stepped may_skip callers s placed order → GoesAfter i t placed order
+    make_first i c [] placed s t own ended sound ahead next h = absurd (false≢true (subst (λ (o : Option ℕ). is_some o ≡ true) (h i c next) ended))
+    make_first i c (caller ∷ order) placed s t own ended sound ahead next h = elim (eqb_tells i caller) [
       | inl same ↦
-          subst (λ (j : ℕ). GoesThrough stepped may_skip callers s placed (j ∷ order) → GoesWithout i s placed (j ∷ order)) same.1
-          (own_turn i c order placed s look sound next) h
+          subst (λ (j : ℕ). GoesThrough stepped may_skip callers s placed (j ∷ order) → GoesAfter i t placed (j ∷ order)) same.1
+          (own_turn i c order placed s t own sound ahead next) h
       | inr e ↦
           let apart : caller ≢ i = λ z. e.1 (sym z) in
-          let less = leave_out i c order (placing caller placed) h.3.0 look ended (sound_after s h.3.0 caller h.0.call sound h.3.1) (next_else callers placed caller i apart ∙ next) h.3.2 in
+          let kept_ahead = private_calls.keeps s t h.3.0 i caller c.call h.0.call e.1 sound own ahead h.3.1 in
+          let less = make_first i c order (placing caller placed) h.3.0 kept_ahead.0 own ended (sound_after s h.3.0 caller h.0.call sound h.3.1) kept_ahead.2 (next_else callers placed caller i apart ∙ next) h.3.2 in
           let count = less.1 in (
             caller ∷ less.0,
             omega arith,
@@ -93,7 +94,7 @@ module _ {S C : Type 0} (stepped : S → ℕ → C → Option S) (may_skip is_lo
               h.0,
               next_else callers placed i caller e.1 ∙ h.1,
               may_still callers well placed i c h.0 next h.2,
-              (h.3.0, h.3.1, subst (λ (p : List ℕ). GoesThrough stepped may_skip callers h.3.0 p less.0) (placing_comm i caller placed e.1) less.2),
+              (kept_ahead.0, kept_ahead.1, subst (λ (p : List ℕ). GoesThrough stepped may_skip callers kept_ahead.0 p less.0) (placing_comm i caller placed e.1) less.2),
             ),
           )
     ]

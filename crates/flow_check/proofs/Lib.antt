@@ -2,6 +2,7 @@ pub mod Packing
 pub mod Parts
 pub mod Turns
 pub mod Timing
+pub mod Privately
 pub mod Leaving
 pub mod Closing
 pub mod Ordering
@@ -15,6 +16,7 @@ pub mod StateSeats
 pub mod StateSteps
 pub mod StateJudging
 pub mod StateLooking
+pub mod StatePrivately
 pub mod LagLemmas
 pub mod QueueLemmas
 pub mod SharedSeats

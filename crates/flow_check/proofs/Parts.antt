@@ -37,36 +37,36 @@ module _ {C : Type 0} (callers : CallsByCaller C) where
   abbrev pub OwesNothingBelow : ℕ → List ℕ → Type 0
   OwesNothingBelow bound placed = (caller : ℕ) (d : Timed C) → caller < bound → next_call_of callers placed caller ≡ Some d → d.end ≡ None
 
-module _ {S C : Type 0} (stepped : S → ℕ → C → Option S) (may_skip is_look : C → Bool) (callers : CallsByCaller C) (nodes : List (Reached S)) where
+module _ {S C : Type 0} (stepped : S → ℕ → C → Option S) (may_skip is_private : C → Bool) (callers : CallsByCaller C) (nodes : List (Reached S)) where
   abbrev pub IsFollowedBelow : ℕ → Reached S → Type 0
-  IsFollowedBelow bound n = (caller : ℕ) → caller < bound → IsFollowedAt stepped may_skip is_look callers nodes n caller
+  IsFollowedBelow bound n = (caller : ℕ) → caller < bound → IsFollowedAt stepped may_skip is_private callers nodes n caller
 
   abbrev pub IsClosedBelow : ℕ → Type 0
-  IsClosedBelow bound = (k : ℕ) → k < bound → (n : Reached S) → slice_get nodes k ≡ Some n → IsFollowed stepped may_skip is_look callers nodes n × (OwesNothing callers n.placed → ⊥)
+  IsClosedBelow bound = (k : ℕ) → k < bound → (n : Reached S) → slice_get nodes k ≡ Some n → IsFollowed stepped may_skip is_private callers nodes n × (OwesNothing callers n.placed → ⊥)
 
   -- the table has what follows if the caller's next call is made, and if it is skipped
   pub followed_at : (n : Reached S) (caller : ℕ) (c : Timed C) → next_call_of callers n.placed caller ≡ Some c
       → ((after : S) → stepped n.state caller c.call ≡ Some after → IsInTable nodes after (placing caller n.placed))
-      → (may_skip c.call ≡ true → IsInTable nodes n.state (placing caller n.placed)) → IsFollowedAt stepped may_skip is_look callers nodes n caller
+      → (may_skip c.call ≡ true → IsInTable nodes n.state (placing caller n.placed)) → IsFollowedAt stepped may_skip is_private callers nodes n caller
   followed_at n caller c e made skipped = λ d t e' m step.
       let is = same_Some c d (sym e ∙ e') in elim step [
         | inl f ↦ made t (ap (λ (x : Timed C). stepped n.state caller x.call) is ∙ f)
         | inr f ↦ subst (λ (x : S). IsInTable nodes x (placing caller n.placed)) (sym f.1) (skipped (ap (λ (x : Timed C). may_skip x.call) is ∙ f.0))
       ]
 
-  pub all_followed : (n : Reached S) (bound : ℕ) → length callers ≤ bound → IsFollowedBelow bound n → (caller : ℕ) → IsFollowedAt stepped may_skip is_look callers nodes n caller
+  pub all_followed : (n : Reached S) (bound : ℕ) → length callers ≤ bound → IsFollowedBelow bound n → (caller : ℕ) → IsFollowedAt stepped may_skip is_private callers nodes n caller
   all_followed n bound upto below = λ caller c after e m f.
       let near = next_within callers n.placed caller c e in
       let low : caller < bound = omega arith in below caller low c after e m f
 
-  pub all_closed : (bound : ℕ) → length nodes ≤ bound → IsClosedBelow bound → IsClosedTable stepped may_skip is_look callers nodes
+  pub all_closed : (bound : ℕ) → length nodes ≤ bound → IsClosedBelow bound → IsClosedTable stepped may_skip is_private callers nodes
   all_closed bound upto below = λ k n e.
       let near = slice_get_within nodes k n e in
       let low : k < bound = omega arith in below k low n e
 
-  pub closed_more : (k : ℕ) (n : Reached S) → IsClosedBelow k → slice_get nodes k ≡ Some n → IsFollowed stepped may_skip is_look callers nodes n × (OwesNothing callers n.placed → ⊥) → IsClosedBelow (k + 1)
+  pub closed_more : (k : ℕ) (n : Reached S) → IsClosedBelow k → slice_get nodes k ≡ Some n → IsFollowed stepped may_skip is_private callers nodes n × (OwesNothing callers n.placed → ⊥) → IsClosedBelow (k + 1)
   closed_more k n below e here = below_more _ _ below (λ m e'.
-      subst (λ (x : Reached S). IsFollowed stepped may_skip is_look callers nodes x × (OwesNothing callers x.placed → ⊥)) (same_Some n m (sym e ∙ e')) here)
+      subst (λ (x : Reached S). IsFollowed stepped may_skip is_private callers nodes x × (OwesNothing callers x.placed → ⊥)) (same_Some n m (sym e ∙ e')) here)
 
 module _ {S C : Type 0} (stepped : S → ℕ → C → Option S) (may_skip : C → Bool) (callers : CallsByCaller C) where
   pub explain_more : (s after : S) (placed later order rest : List ℕ) (caller : ℕ) (c : Timed C) → order ≡ caller ∷ rest

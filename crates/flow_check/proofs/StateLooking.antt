@@ -40,7 +40,7 @@ found_nothing v (Some None) told = absurd (false≢true told)
 found_nothing v (Some (Some last)) told = split (last == v) (λ t. (last == v) ≡ t → state_agrees (Some (cond t answer.Empty (answer.Value v))) (Some answer.Empty) ≡ true → Some (Some last) ≡ Some (Some v))
     (λ _ is _. ap (λ (n : ℕ). Some (Some n)) ((Decides-eqb last v).0 is)) (λ _ _ h. absurd (false≢true h)) refl told
 
-same : (s : StateKept) (caller : ℕ) (op : StateOperation) (written : Option StateAnswer) → state_looks_by op written ≡ true → state_agrees (state_own_answer caller op s) written ≡ true → state_moved caller op s ≡ s
+pub same : (s : StateKept) (caller : ℕ) (op : StateOperation) (written : Option StateAnswer) → state_looks_by op written ≡ true → state_agrees (state_own_answer caller op s) written ≡ true → state_moved caller op s ≡ s
 same s caller operation.Value written look told = refl
 same s caller operation.SubscriptionCount written look told = refl
 same s caller operation.ReplayCache written look told = refl

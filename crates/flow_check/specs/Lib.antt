@@ -2,6 +2,7 @@ pub mod Records
 pub mod Orders
 pub mod Remaining
 pub mod Looks
+pub mod PrivateCalls
 pub mod Tables
 pub mod Words
 pub mod Verdicts
@@ -10,6 +11,7 @@ pub mod Subscribed
 pub mod StateRecords
 pub mod StateMachine
 pub mod StateLooks
+pub mod StatePrivate
 pub mod SharedRecords
 pub mod SharedMachine
 pub mod SharedLooks

@@ -10,7 +10,3 @@ module _ {S C : Type 0} (stepped : S → ℕ → C → Option S) where
   -- a look changes nothing, if the flow may give the recorded answer
   abbrev pub OnlyLooks : (S → Type 0) → (C → Bool) → Type 0
   OnlyLooks IsSound is_look = (s after : S) (caller : ℕ) (c : C) → IsSound s → is_look c ≡ true → stepped s caller c ≡ Some after → after ≡ s
-
-  -- a search that begins in this state may take looks first
-  abbrev pub MayTakeLooks : (S → Type 0) → (C → Bool) → S → Type 0
-  MayTakeLooks IsSound is_look first = IsSound first × IsKept IsSound × OnlyLooks IsSound is_look

@@ -36,20 +36,20 @@ module _ {S : Type 0} (read : S → List ℕ → S) where
 abbrev pub IsInTable : {S : Type 0} → List (Reached S) → S → List ℕ → Type 0
 IsInTable {S} nodes s placed = (k : ℕ) × ((n : Reached S) × (slice_get nodes k ≡ Some n) × (n.state ≡ s) × (n.placed ≡ placed))
 
-module _ {S C : Type 0} (stepped : S → ℕ → C → Option S) (may_skip is_look : C → Bool) (callers : CallsByCaller C) (nodes : List (Reached S)) where
+module _ {S C : Type 0} (stepped : S → ℕ → C → Option S) (may_skip is_private : C → Bool) (callers : CallsByCaller C) (nodes : List (Reached S)) where
   -- if this caller's next call may happen, the table has the nodes that follow
   abbrev pub IsFollowedAt : Reached S → ℕ → Type 0
   IsFollowedAt n caller = (c : Timed C) (after : S) → next_call_of callers n.placed caller ≡ Some c → MayComeNext callers n.placed c
       → IsStep stepped may_skip n.state caller c.call after → IsInTable nodes after (placing caller n.placed)
 
-  -- this caller's next call is a look that ended, and the table has the node that follows
-  abbrev pub IsLookFollowed : Reached S → ℕ → Type 0
-  IsLookFollowed n caller = (c : Timed C) × (next_call_of callers n.placed caller ≡ Some c) × IsSome c.end × (is_look c.call ≡ true)
-      × IsInTable nodes n.state (placing caller n.placed)
+  -- this caller's next call is a private one that ended, and the table has the node that follows if it is made
+  abbrev pub IsPrivateFollowed : Reached S → ℕ → Type 0
+  IsPrivateFollowed n caller = (c : Timed C) × (next_call_of callers n.placed caller ≡ Some c) × IsSome c.end × (is_private c.call ≡ true)
+      × ((after : S) × (stepped n.state caller c.call ≡ Some after) × IsInTable nodes after (placing caller n.placed))
 
-  -- some look leads to a node of the table, or each step that may come next does
+  -- some private call leads to a node of the table, or each step that may come next does
   abbrev pub IsFollowed : Reached S → Type 0
-  IsFollowed n = ((caller : ℕ) × IsLookFollowed n caller) ⊎ ((caller : ℕ) → IsFollowedAt n caller)
+  IsFollowed n = ((caller : ℕ) × IsPrivateFollowed n caller) ⊎ ((caller : ℕ) → IsFollowedAt n caller)
 
   -- the table has the nodes that follow each of its nodes, and none of them is an end
   abbrev pub IsClosedTable : Type 0

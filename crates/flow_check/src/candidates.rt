@@ -101,9 +101,9 @@ pub fn turn_after<C: Copy, M: Machine<C>>(
     first
 }
 
-/// Returns the turn of a caller whose next call is a look that ended and may come next, if the flow may give its
+/// Returns the turn of a caller whose next call is a private one that ended and may come next, if the flow may give its
 /// answer.
-fn look_of<C: Copy, M: Machine<C>>(
+fn private_of<C: Copy, M: Machine<C>>(
     callers: &[Vec<Timed<C>>],
     node: &Node<M>,
     caller: usize,
@@ -111,7 +111,7 @@ fn look_of<C: Copy, M: Machine<C>>(
 ) -> Option<Candidate> {
     let call = next_call(callers, &node.placed, caller)?;
     let end = call.end?;
-    let may_come = call.begin <= deadline && node.state.is_look(&call.call);
+    let may_come = call.begin <= deadline && node.state.is_private(&call.call);
     let turn = Move {
         caller,
         skips: false,
@@ -119,17 +119,17 @@ fn look_of<C: Copy, M: Machine<C>>(
     (may_come && node.state.may_answer(caller, &call.call)).then_some(Candidate { turn, end })
 }
 
-/// Returns the first look at a node that may come next. If any order continues from the node, one that begins with the
-/// look does, so no other turn has to be tried.
-pub fn first_look<C: Copy, M: Machine<C>>(
+/// Returns the first private call at a node that may come next. If any order continues from the node, one that begins
+/// with that call does, so no other turn has to be tried.
+pub fn first_private<C: Copy, M: Machine<C>>(
     callers: &[Vec<Timed<C>>],
     node: &Node<M>,
 ) -> Option<Candidate> {
     let deadline = deadline_of(callers, &node.placed);
     for caller in 0..callers.len() {
-        let look = look_of(callers, node, caller, deadline);
-        if look.is_some() {
-            return look;
+        let private = private_of(callers, node, caller, deadline);
+        if private.is_some() {
+            return private;
         }
     }
     None

@@ -1,7 +1,7 @@
 //! Checks records of any flow.
 ghost use Rattle.std.specs.Prelude.{◌≡◌, ℕ, List, IfOk};
 ghost use Rattle.flow_check.specs.Records.{IsWellTimed};
-ghost use Rattle.flow_check.specs.Looks.{MayTakeLooks};
+ghost use Rattle.flow_check.specs.PrivateCalls.{MayMakePrivate};
 ghost use Rattle.flow_check.specs.Remaining.{GoesThroughAll};
 ghost use Rattle.flow_check.specs.Verdicts.{Judges};
 
@@ -22,7 +22,8 @@ pub fn check<C: Copy, M: Machine<C>>(
     budget: u64,
 ) -> Result<Verdict, AllocError>
     requires well { IsWellTimed callers.now }
-    requires looks { MayTakeLooks M.stepped M.IsSound M.is_look first.now }
+    requires early { MayMakePrivate
+        M.stepped M.may_skip M.IsSound M.is_private M.Ahead first.now }
     ensures { IfOk result (λ verdict.
         Judges (GoesThroughAll M.stepped M.may_skip callers.now first.now) verdict) }
 {

@@ -17,6 +17,7 @@
 
 mod candidates;
 mod checking;
+mod looking_ahead;
 mod machine;
 mod marks;
 mod moments;
@@ -49,8 +50,8 @@ mod wrong_moment;
 pub use moments::{Cut, known_record};
 pub use record::{Fault, FaultKind, Record};
 pub use shared_calls::{SharedAnswer, SharedEntry, SharedOperation};
-pub use shared_checking::{check_shared, shared_goes_wrong};
+pub use shared_checking::{check_shared, shared_goes_wrong, shared_seems_illegal};
 pub use state_calls::{StateAnswer, StateEntry, StateOperation};
-pub use state_checking::{check_state, state_goes_wrong};
+pub use state_checking::{check_state, state_goes_wrong, state_seems_illegal};
 pub use timed::Timed;
 pub use verdict::Verdict;

@@ -1,6 +1,7 @@
 //! A flow as the checker sees it.
 ghost use Rattle.std.specs.Prelude.{◌≡◌, ℕ, Bool, List, Option, IfOk, IsTrue};
 
+use crate::timed::Timed;
 use std::alloc::{AllocError, Global};
 
 /// The states of a flow, and what calls of type `C` do to them.
@@ -11,8 +12,11 @@ pub trait Machine<C>: Drop {
     /// Whether a call may have done nothing, whatever was recorded of it.
     ghost may_skip: { C → Bool };
 
-    /// Whether a call changes nothing if it is answered as recorded.
-    ghost is_look: { C → Bool };
+    /// Whether no other caller can see when a call happens, if it is answered as recorded.
+    ghost is_private: { C → Bool };
+
+    /// Whether one state is another one, in which a caller's private call has happened already.
+    ghost Ahead: { ℕ → C → Self → Self → Type 0 };
 
     /// What holds of each state that the flow reaches.
     ghost IsSound: { Self → Type 0 };
@@ -28,12 +32,16 @@ pub trait Machine<C>: Drop {
     fn may_skip(&self, call: &C) -> bool
         ensures { result ≡ may_skip call.now };
 
-    /// Returns whether a call changes nothing if it is answered as recorded.
-    fn is_look(&self, call: &C) -> bool
-        ensures { result ≡ is_look call.now };
+    /// Returns whether no other caller can see when a call happens, if it is answered as recorded.
+    fn is_private(&self, call: &C) -> bool
+        ensures { result ≡ is_private call.now };
 
     /// Returns whether the flow may give the recorded answer. This is not proved.
     fn may_answer(&self, caller: usize, call: &C) -> bool;
+
+    /// Returns whether the calls that have not happened contradict the state, so that no order goes through them. This
+    /// is not proved.
+    fn is_contradicted(&self, callers: &[Vec<Timed<C>>], placed: &Vec<u32>) -> bool;
 
     /// Copies the state.
     fn try_copy(&self, alloc: Global) -> Result<Self, AllocError>

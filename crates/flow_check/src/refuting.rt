@@ -1,10 +1,10 @@
 //! Checks whether a table shows that no order goes through a record.
 ghost use Rattle.std.specs.Prelude.{◌≡◌, ℕ, List, true, Some, IsTrue, IfOk};
 ghost use Rattle.flow_check.specs.Records.{IsWellTimed};
-ghost use Rattle.flow_check.specs.Looks.{MayTakeLooks};
+ghost use Rattle.flow_check.specs.PrivateCalls.{MayMakePrivate};
 ghost use Rattle.flow_check.specs.Remaining.{GoesThroughAll, none_placed, placing, OwesNothing};
 ghost use Rattle.flow_check.specs.Tables.{nodes_of, reached, IsInTable};
-ghost use Rattle.flow_check.specs.Tables.{IsFollowedAt, IsLookFollowed, IsFollowed, IsClosedTable};
+ghost use Rattle.flow_check.specs.Tables.{IsFollowedAt, IsPrivateFollowed, IsFollowed, IsClosedTable};
 
 use crate::machine::Machine;
 use crate::node::Node;
@@ -86,7 +86,7 @@ impl<'a, C: Copy, M: Machine<C>> Claim<'a, C, M> {
     /// Returns whether the table has the nodes that follow if this caller's next call happens.
     fn is_followed_at(&self, node: &Node<M>, caller: usize) -> Result<bool, AllocError>
         ensures { IfOk result (λ yes. IsTrue yes →
-            IsFollowedAt M.stepped M.may_skip M.is_look self.now.callers.now
+            IsFollowedAt M.stepped M.may_skip M.is_private self.now.callers.now
             (nodes_of M.read self.now.table.now) (reached node.now) caller) }
     {
         let Some(call) = next_call(self.callers, &node.placed, caller) else {
@@ -106,7 +106,7 @@ impl<'a, C: Copy, M: Machine<C>> Claim<'a, C, M> {
     /// Returns whether the table has the nodes that follow if any caller's next call happens.
     fn is_each_followed(&self, node: &Node<M>) -> Result<bool, AllocError>
         ensures { IfOk result (λ yes. IsTrue yes → (caller : ℕ) →
-            IsFollowedAt M.stepped M.may_skip M.is_look self.now.callers.now
+            IsFollowedAt M.stepped M.may_skip M.is_private self.now.callers.now
             (nodes_of M.read self.now.table.now) (reached node.now) caller) }
     {
         for caller in 0..self.callers.len() {
@@ -118,10 +118,25 @@ impl<'a, C: Copy, M: Machine<C>> Claim<'a, C, M> {
         Ok(true)
     }
 
-    /// Returns whether this caller's next call is a look that ended, and the table has the node that follows.
-    fn is_look_followed(&self, node: &Node<M>, caller: usize) -> Result<bool, AllocError>
+    /// Returns whether this call may be made, and the table has the node that follows.
+    fn is_step_in_table(&self, node: &Node<M>, caller: usize, call: &C) -> Result<bool, AllocError>
         ensures { IfOk result (λ yes. IsTrue yes →
-            IsLookFollowed M.stepped M.may_skip M.is_look self.now.callers.now
+            (after : M) × (M.stepped node.now.state caller call.now ≡ Some after)
+            × IsInTable (nodes_of M.read self.now.table.now) after
+            (placing caller node.now.placed.items)) }
+    {
+        let stepped = node.state.step(self.alloc, caller, call)?;
+        let Some(after) = stepped else {
+            return Ok(false);
+        };
+        let yes = self.is_placed(node, caller, &after)?;
+        Ok(yes)
+    }
+
+    /// Returns whether this caller's next call is a private one that ended, and the table has the node that follows.
+    fn is_private_followed(&self, node: &Node<M>, caller: usize) -> Result<bool, AllocError>
+        ensures { IfOk result (λ yes. IsTrue yes →
+            IsPrivateFollowed M.stepped M.may_skip M.is_private self.now.callers.now
             (nodes_of M.read self.now.table.now) (reached node.now) caller) }
     {
         let Some(call) = next_call(self.callers, &node.placed, caller) else {
@@ -130,21 +145,21 @@ impl<'a, C: Copy, M: Machine<C>> Claim<'a, C, M> {
         if call.end.is_none() {
             return Ok(false);
         }
-        if !node.state.is_look(&call.call) {
+        if !node.state.is_private(&call.call) {
             return Ok(false);
         }
-        let yes = self.is_placed(node, caller, &node.state)?;
+        let yes = self.is_step_in_table(node, caller, &call.call)?;
         Ok(yes)
     }
 
-    /// Returns whether the table has the node that follows some look that ended.
-    fn is_some_look_followed(&self, node: &Node<M>) -> Result<bool, AllocError>
+    /// Returns whether the table has the node that follows some private call that ended.
+    fn is_some_private_followed(&self, node: &Node<M>) -> Result<bool, AllocError>
         ensures { IfOk result (λ yes. IsTrue yes → (caller : ℕ) ×
-            IsLookFollowed M.stepped M.may_skip M.is_look self.now.callers.now
+            IsPrivateFollowed M.stepped M.may_skip M.is_private self.now.callers.now
             (nodes_of M.read self.now.table.now) (reached node.now) caller) }
     {
         for caller in 0..self.callers.len() {
-            let yes = self.is_look_followed(node, caller)?;
+            let yes = self.is_private_followed(node, caller)?;
             if yes {
                 return Ok(true);
             }
@@ -152,19 +167,19 @@ impl<'a, C: Copy, M: Machine<C>> Claim<'a, C, M> {
         Ok(false)
     }
 
-    /// Returns whether the table has the nodes that follow this one, and this one is not an end. The node after a look
-    /// is enough: a look changes nothing, so if an order goes through the rest, one that begins with the look does.
+    /// Returns whether the table has the nodes that follow this one, and this one is not an end. The node after a private
+    /// call is enough: if an order goes through the rest, one that begins with the private call does.
     fn is_followed(&self, node: &Node<M>) -> Result<bool, AllocError>
         ensures { IfOk result (λ yes. IsTrue yes →
-            IsFollowed M.stepped M.may_skip M.is_look self.now.callers.now
+            IsFollowed M.stepped M.may_skip M.is_private self.now.callers.now
             (nodes_of M.read self.now.table.now) (reached node.now)
             × (OwesNothing self.now.callers.now node.now.placed.items → ⊥)) }
     {
         if owes_nothing(self.callers, &node.placed) {
             return Ok(false);
         }
-        let looks = self.is_some_look_followed(node)?;
-        if looks {
+        let early = self.is_some_private_followed(node)?;
+        if early {
             return Ok(true);
         }
         let each = self.is_each_followed(node)?;
@@ -174,7 +189,7 @@ impl<'a, C: Copy, M: Machine<C>> Claim<'a, C, M> {
     /// Returns whether the table is closed.
     fn is_closed(&self) -> Result<bool, AllocError>
         ensures { IfOk result (λ yes. IsTrue yes →
-            IsClosedTable M.stepped M.may_skip M.is_look self.now.callers.now
+            IsClosedTable M.stepped M.may_skip M.is_private self.now.callers.now
             (nodes_of M.read self.now.table.now)) }
     {
         for place in 0..self.table.len() {
@@ -210,7 +225,8 @@ pub fn refutes<C: Copy, M: Machine<C>>(
     table: &Table<M>,
 ) -> Result<bool, AllocError>
     requires well { IsWellTimed callers.now }
-    requires looks { MayTakeLooks M.stepped M.IsSound M.is_look first.now }
+    requires early { MayMakePrivate
+        M.stepped M.may_skip M.IsSound M.is_private M.Ahead first.now }
     ensures { IfOk result (λ yes. IsTrue yes →
         (order : List ℕ) → GoesThroughAll M.stepped M.may_skip callers.now first.now order → ⊥) }
 {

@@ -1,7 +1,7 @@
 //! Searches for an order. What it finds is not proved, so its caller checks that.
 ghost use Rattle.std.specs.Prelude.{◌≡◌};
 
-use crate::candidates::{Candidate, first_look, turn_after};
+use crate::candidates::{Candidate, first_private, turn_after};
 use crate::machine::Machine;
 use crate::node::{Move, Node};
 use crate::remaining::{next_call, none_placed, owes_nothing, place};
@@ -18,13 +18,23 @@ pub enum Found<M> {
     GaveUp,
 }
 
+/// Which nodes a search goes through.
+#[derive(Clone, Copy, PartialEq, Eq)]
+enum Pace {
+    /// All that may lead to an order, but none that the calls to come contradict. If it finds no order, its table need
+    /// not be complete.
+    Hasty,
+    /// All that may lead to an order.
+    Whole,
+}
+
 /// A node of the path, and the turn that was tried last there.
 #[derive(Clone, Copy)]
 struct Frame {
     node: usize,
     tried: Option<Candidate>,
-    /// The turn is a look, so no other one is tried.
-    looks: bool,
+    /// The turn is a private call, so no other one is tried.
+    is_private: bool,
 }
 
 /// Takes the next turn at a node, which is the last one of the path.
@@ -34,14 +44,14 @@ fn take_turn<C: Copy, M: Machine<C>>(
     path: &mut Vec<Frame>,
 ) -> Option<Move> {
     let frame = path.last_mut()?;
-    if frame.looks {
+    if frame.is_private {
         return None;
     }
     if frame.tried.is_none() {
-        if let Some(look) = first_look(callers, node) {
-            frame.tried = Some(look);
-            frame.looks = true;
-            return Some(look.turn);
+        if let Some(private) = first_private(callers, node) {
+            frame.tried = Some(private);
+            frame.is_private = true;
+            return Some(private.turn);
         }
     }
     let candidate = turn_after(callers, node, frame.tried)?;
@@ -101,11 +111,14 @@ struct Walk<M> {
     table: Table<M>,
     path: Vec<Frame>,
     node: Node<M>,
+    pace: Pace,
+    /// A node was left out.
+    has_left_out: bool,
 }
 
 impl<M> Walk<M> {
     /// Begins in this state, before any call.
-    fn new<C>(alloc: Global, first: &M, placed: Vec<u32>) -> Result<Walk<M>, AllocError>
+    fn new<C>(alloc: Global, first: &M, placed: Vec<u32>, pace: Pace) -> Result<Walk<M>, AllocError>
     where
         M: Machine<C>,
     {
@@ -115,6 +128,8 @@ impl<M> Walk<M> {
             table,
             path: Vec::new(alloc),
             node: Node { state, placed },
+            pace,
+            has_left_out: false,
         };
         walk.keep_node()?;
         Ok(walk)
@@ -129,7 +144,7 @@ impl<M> Walk<M> {
         self.path.push(Frame {
             node: place,
             tried: None,
-            looks: false,
+            is_private: false,
         })?;
         Ok(())
     }
@@ -152,7 +167,15 @@ impl<M> Walk<M> {
         }
     }
 
-    /// Goes to the next node, if it is a new one.
+    /// Returns whether the search leaves out this node.
+    fn leaves_out<C: Copy>(&self, callers: &[Vec<Timed<C>>], next: &Node<M>) -> bool
+    where
+        M: Machine<C>,
+    {
+        self.pace == Pace::Hasty && next.state.is_contradicted(callers, &next.placed)
+    }
+
+    /// Goes to the next node, if it is a new one that is not left out.
     fn go_to<C: Copy>(
         &mut self,
         callers: &[Vec<Timed<C>>],
@@ -166,6 +189,10 @@ impl<M> Walk<M> {
         }
         if owes_nothing(callers, &next.placed) {
             return Ok(Turned::Ordered);
+        }
+        if self.leaves_out(callers, &next) {
+            self.has_left_out = true;
+            return Ok(Turned::GoesOn);
         }
         self.node = next;
         self.keep_node()?;
@@ -210,8 +237,31 @@ impl<M> Walk<M> {
     }
 }
 
-/// Goes through nodes, each once, until it finds an order, no node is left, or `budget` turns are
-/// taken.
+/// Returns a walk that has taken at most `budget` turns, and what its last turn was.
+fn walk_of<C: Copy, M: Machine<C>>(
+    alloc: Global,
+    first: &M,
+    callers: &[Vec<Timed<C>>],
+    budget: u64,
+    pace: Pace,
+) -> Result<(Walk<M>, Turned), AllocError> {
+    let placed = none_placed(alloc, callers)?;
+    let mut walk = Walk::new(alloc, first, placed, pace)?;
+    let turned = walk.turns(alloc, callers, budget)?;
+    Ok((walk, turned))
+}
+
+/// Returns what a walk found.
+fn found_by<M: Drop>(alloc: Global, walk: Walk<M>, turned: Turned) -> Result<Found<M>, AllocError> {
+    match turned {
+        Turned::GoesOn => Ok(Found::GaveUp),
+        Turned::Ordered => Ok(Found::Order(turns_of(alloc, walk.path.as_slice())?)),
+        Turned::Exhausted => Ok(Found::Table(walk.table)),
+    }
+}
+
+/// Goes through nodes, each once, until it finds an order, no node is left, or `budget` turns are taken. It first leaves
+/// out the nodes that the calls to come contradict, and then goes through those, too, unless it has found an order.
 pub fn search<C: Copy, M: Machine<C>>(
     alloc: Global,
     first: &M,
@@ -222,10 +272,25 @@ pub fn search<C: Copy, M: Machine<C>>(
     if owes_nothing(callers, &placed) {
         return Ok(Found::Order(Vec::new(alloc)));
     }
-    let mut walk = Walk::new(alloc, first, placed)?;
-    match walk.turns(alloc, callers, budget)? {
-        Turned::GoesOn => Ok(Found::GaveUp),
-        Turned::Ordered => Ok(Found::Order(turns_of(alloc, walk.path.as_slice())?)),
-        Turned::Exhausted => Ok(Found::Table(walk.table)),
+    let (walk, turned) = walk_of(alloc, first, callers, budget, Pace::Hasty)?;
+    if walk.has_left_out && !matches!(turned, Turned::Ordered) {
+        let (walk, turned) = walk_of(alloc, first, callers, budget, Pace::Whole)?;
+        return found_by(alloc, walk, turned);
     }
+    found_by(alloc, walk, turned)
+}
+
+/// Returns whether a search finds no order. It is not proved that there is none.
+pub fn finds_none<C: Copy, M: Machine<C>>(
+    alloc: Global,
+    first: &M,
+    callers: &[Vec<Timed<C>>],
+    budget: u64,
+) -> Result<bool, AllocError> {
+    let placed = none_placed(alloc, callers)?;
+    if owes_nothing(callers, &placed) {
+        return Ok(false);
+    }
+    let (_walk, turned) = walk_of(alloc, first, callers, budget, Pace::Hasty)?;
+    Ok(matches!(turned, Turned::Exhausted))
 }

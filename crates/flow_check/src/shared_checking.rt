@@ -7,6 +7,7 @@ ghost use Rattle.flow_check.specs.Moments.{GoesWrong, IsCutOff};
 
 use crate::checking::check;
 use crate::record::Record;
+use crate::search::finds_none;
 use crate::shared_calls::SharedEntry;
 use crate::shared_machine::SharedMachine;
 use crate::timed::Timed;
@@ -92,4 +93,17 @@ pub fn shared_goes_wrong<'a>(
     let checker = SharedChecker { config };
     let moment = wrong_moment(alloc, &checker, calls, budget)?;
     Ok(moment)
+}
+
+/// Returns whether a search of at most `budget` turns finds no order in which a shared flow of this configuration explains
+/// the calls, as `state_seems_illegal` does for a state flow.
+pub fn shared_seems_illegal<'a>(
+    alloc: Global,
+    config: Config,
+    calls: &Record<SharedEntry<'a>>,
+    budget: u64,
+) -> Result<bool, AllocError> {
+    let callers = calls.callers();
+    let machine = SharedMachine::new(alloc, config, callers)?;
+    finds_none(alloc, &machine, callers, budget)
 }

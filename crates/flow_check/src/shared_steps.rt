@@ -8,6 +8,7 @@ use crate::same::{Same, are_same};
 use crate::shared_calls::{SharedAnswer, SharedEntry, SharedOperation};
 use crate::shared_machine::{Held, Own, SharedMachine};
 use crate::shared_same::{are_same_owns, are_same_values, is_same_config};
+use crate::timed::Timed;
 use std::alloc::{AllocError, Global};
 
 /// Mixes the lag of each caller into a hash.
@@ -39,6 +40,7 @@ fn mix_queue(mark: u64, queue: &[Held]) -> u64 {
 }
 
 impl<'a> Machine<SharedEntry<'a>> for SharedMachine {
+    ghost use Rattle.std.specs.Prelude.{◌≡◌};
     ghost use Rattle.flow_check.specs.SharedMachine.{stepped, may_skip, read_kept};
     ghost use Rattle.flow_check.specs.SharedLooks.{is_look, KeepsWhatIsNeeded};
 
@@ -64,11 +66,13 @@ impl<'a> Machine<SharedEntry<'a>> for SharedMachine {
         matches!(call.operation, SharedOperation::EmitOrNot(_))
     }
 
-    ghost is_look = { is_look };
+    ghost is_private = { is_look };
+
+    ghost Ahead = { λ caller call state ahead. ahead ≡ state };
 
     ghost IsSound = { KeepsWhatIsNeeded };
 
-    fn is_look(&self, call: &SharedEntry<'a>) -> bool {
+    fn is_private(&self, call: &SharedEntry<'a>) -> bool {
         match (call.operation, call.answer) {
             (SharedOperation::EmitReturned, _)
             | (SharedOperation::ReplayCache, _)
@@ -81,6 +85,10 @@ impl<'a> Machine<SharedEntry<'a>> for SharedMachine {
 
     fn may_answer(&self, caller: usize, call: &SharedEntry<'a>) -> bool {
         self.is_answer(caller, call.operation, call.answer)
+    }
+
+    fn is_contradicted(&self, callers: &[Vec<Timed<SharedEntry<'a>>>], placed: &Vec<u32>) -> bool {
+        self.has_wrong_due(callers, placed)
     }
 
     fn try_copy(&self, alloc: Global) -> Result<Self, AllocError>

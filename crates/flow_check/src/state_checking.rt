@@ -6,6 +6,7 @@ ghost use Rattle.flow_check.specs.Moments.{GoesWrong};
 
 use crate::checking::check;
 use crate::record::Record;
+use crate::search::finds_none;
 use crate::state_calls::StateEntry;
 use crate::state_machine::StateMachine;
 use crate::timed::Timed;
@@ -77,4 +78,17 @@ pub fn state_goes_wrong(
     let checker = StateChecker { initial };
     let moment = wrong_moment(alloc, &checker, calls, budget)?;
     Ok(moment)
+}
+
+/// Returns whether a search of at most `budget` turns finds no order in which a state flow with this initial value
+/// explains the calls. It is quicker than `check_state`, and not proved to be right.
+pub fn state_seems_illegal(
+    alloc: Global,
+    initial: u64,
+    calls: &Record<StateEntry>,
+    budget: u64,
+) -> Result<bool, AllocError> {
+    let callers = calls.callers();
+    let machine = StateMachine::new(alloc, initial, callers)?;
+    finds_none(alloc, &machine, callers, budget)
 }

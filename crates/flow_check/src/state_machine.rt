@@ -10,6 +10,7 @@ use crate::same::{Same, are_same};
 use crate::state_answers::{agrees, next_answer, subscribe_answer, unsubscribe_answer};
 use crate::state_calls::{StateAnswer, StateEntry, StateOperation};
 use crate::subscribed::present;
+use crate::timed::Timed;
 use crate::words::{Part, number_of, read_parts, word_at, words_from, write_number, write_parts};
 use std::alloc::{AllocError, Global};
 use std::marker::Model;
@@ -170,7 +171,8 @@ impl Part for Option<Option<u64>> {
 
 impl Machine<StateEntry> for StateMachine {
     ghost use Rattle.flow_check.specs.StateMachine.{state_stepped, state_may_skip, read_state_kept};
-    ghost use Rattle.flow_check.specs.StateLooks.{is_state_look, IsAlwaysSound};
+    ghost use Rattle.flow_check.specs.StateLooks.{IsAlwaysSound};
+    ghost use Rattle.flow_check.specs.StatePrivate.{is_state_private, IsStateAhead};
 
     ghost stepped = { state_stepped };
 
@@ -194,24 +196,30 @@ impl Machine<StateEntry> for StateMachine {
         false
     }
 
-    ghost is_look = { is_state_look };
+    ghost is_private = { is_state_private };
+
+    ghost Ahead = { IsStateAhead };
 
     ghost IsSound = { IsAlwaysSound };
 
-    fn is_look(&self, call: &StateEntry) -> bool {
+    fn is_private(&self, call: &StateEntry) -> bool {
         match (call.operation, call.answer) {
             (StateOperation::Value, _)
             | (StateOperation::SubscriptionCount, _)
             | (StateOperation::ReplayCache, _) => true,
             (StateOperation::CompareAndSet(_, _), Some(StateAnswer::Truth(succeeded))) =>
                 !succeeded,
-            (StateOperation::Next, Some(StateAnswer::Empty)) => true,
+            (StateOperation::Next, Some(StateAnswer::Empty | StateAnswer::Value(_))) => true,
             _ => false,
         }
     }
 
     fn may_answer(&self, caller: usize, call: &StateEntry) -> bool {
         agrees(self.own_answer(caller, call.operation), call.answer)
+    }
+
+    fn is_contradicted(&self, _callers: &[Vec<Timed<StateEntry>>], _placed: &Vec<u32>) -> bool {
+        false
     }
 
     fn try_copy(&self, alloc: Global) -> Result<Self, AllocError> {

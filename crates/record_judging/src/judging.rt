@@ -9,7 +9,8 @@ use crate::state_rows::state_callers;
 use crate::words::CallWord;
 use crate::written::{Sheet, WrittenCall, WrittenFlow};
 use flow_check::{
-    Fault, Record, Verdict, check_shared, check_state, shared_goes_wrong, state_goes_wrong,
+    Fault, Record, Verdict, check_shared, check_state, shared_goes_wrong, shared_seems_illegal,
+    state_goes_wrong, state_seems_illegal,
 };
 use flow_law::Config;
 use std::alloc::{AllocError, Global};
@@ -109,37 +110,53 @@ fn judge_shared(
     }
 }
 
-/// Judges these calls of the callers of a record. Gives up after `budget` turns of the search.
-fn judge_within(
-    alloc: Global,
-    sheet: &Sheet,
-    rows: &[Vec<WrittenCall>],
-    budget: u64,
-) -> Result<Outcome, AllocError>
+/// Judges these calls of the callers of a record.
+pub fn judge(alloc: Global, sheet: &Sheet, rows: &[Vec<WrittenCall>]) -> Result<Outcome, AllocError>
     ensures { IfOk result (JudgesRows sheet.now.flow sheet.now.lists.items rows.now) }
 {
+    let budget = turns(sheet.count);
     match sheet.flow {
         WrittenFlow::State { initial } => judge_state(alloc, sheet, rows, initial, budget),
         WrittenFlow::Shared(config) => judge_shared(alloc, sheet, rows, config, budget),
     }
 }
 
-/// Judges these calls of the callers of a record.
-pub fn judge(alloc: Global, sheet: &Sheet, rows: &[Vec<WrittenCall>]) -> Result<Outcome, AllocError>
-    ensures { IfOk result (JudgesRows sheet.now.flow sheet.now.lists.items rows.now) }
-{
-    judge_within(alloc, sheet, rows, turns(sheet.count))
-}
-
-/// Judges these calls of the callers of a record as `judge` does, but soon gives up.
-pub fn judge_soon(
+fn seems_illegal_state(
     alloc: Global,
     sheet: &Sheet,
     rows: &[Vec<WrittenCall>],
-) -> Result<Outcome, AllocError>
-    ensures { IfOk result (JudgesRows sheet.now.flow sheet.now.lists.items rows.now) }
-{
-    judge_within(alloc, sheet, rows, few_turns(sheet.count))
+    initial: u64,
+) -> Result<bool, AllocError> {
+    let callers = state_callers(alloc, rows, sheet.lists.as_slice())?;
+    match Record::new(callers) {
+        Ok(record) => state_seems_illegal(alloc, initial, &record, few_turns(sheet.count)),
+        Err(_) => Ok(false),
+    }
+}
+
+fn seems_illegal_shared(
+    alloc: Global,
+    sheet: &Sheet,
+    rows: &[Vec<WrittenCall>],
+    config: Config,
+) -> Result<bool, AllocError> {
+    let callers = shared_callers(alloc, rows, sheet.lists.as_slice())?;
+    match Record::new(callers) {
+        Ok(record) => shared_seems_illegal(alloc, config, &record, few_turns(sheet.count)),
+        Err(_) => Ok(false),
+    }
+}
+
+/// Returns whether a short search finds no order of these calls. Its answer is not proved to be right.
+pub fn seems_illegal(
+    alloc: Global,
+    sheet: &Sheet,
+    rows: &[Vec<WrittenCall>],
+) -> Result<bool, AllocError> {
+    match sheet.flow {
+        WrittenFlow::State { initial } => seems_illegal_state(alloc, sheet, rows, initial),
+        WrittenFlow::Shared(config) => seems_illegal_shared(alloc, sheet, rows, config),
+    }
 }
 
 fn wrong_state(alloc: Global, sheet: &Sheet, initial: u64) -> Result<Option<u64>, AllocError>

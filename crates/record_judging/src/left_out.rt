@@ -6,10 +6,9 @@
 //! Other callers may have seen a *change*. But an order that explains calls also explains them if a change may have
 //! happened at any moment after it began, or not at all. So if the calls are illegal with that, the change is not
 //! needed.
-use crate::judging::{Outcome, judge_soon};
+use crate::judging::seems_illegal;
 use crate::looks::{Tried, numbers_of};
 use crate::written::{Sheet, WrittenCall};
-use flow_check::Verdict;
 use std::alloc::{AllocError, Global};
 
 /// The number of needed looks after which all later ones are taken to be needed, except the last ones.
@@ -123,8 +122,7 @@ impl Roles {
     /// Returns whether the calls are illegal; false if the search gave up.
     fn are_illegal(&self, alloc: Global, sheet: &Sheet) -> Result<bool, AllocError> {
         let rows = self.asked_rows(alloc, sheet)?;
-        let outcome = judge_soon(alloc, sheet, rows.as_slice())?;
-        Ok(matches!(outcome, Outcome::Judged(Verdict::Illegal)))
+        seems_illegal(alloc, sheet, rows.as_slice())
     }
 
     /// Gives these calls a role, if the calls are illegal with it. Returns whether they are.

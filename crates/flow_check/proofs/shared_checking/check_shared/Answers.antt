@@ -7,7 +7,8 @@ use Rattle.flow_check.specs.Records.{CallsByCaller, IsWellTimed}
 use Rattle.flow_check.specs.Remaining.{GoesThroughAll}
 use Rattle.flow_check.specs.SharedMachine.{Kept, stepped, may_skip}
 use Rattle.flow_check.specs.Verdicts.{Judges}
-use Rattle.flow_check.specs.SharedLooks.{KeepsWhatIsNeeded}
+use Rattle.flow_check.specs.SharedLooks.{KeepsWhatIsNeeded, is_look}
+use Rattle.flow_check.proofs.Privately.{of_looks}
 use Rattle.flow_check.proofs.SharedJudging.{begun, fault_free, judged}
 use Rattle.flow_check.proofs.SharedLooking.{begun_sound, kept, looks}
 use Rattle.flow_check.proofs.shared_checking.check_shared.Goals as goal
@@ -18,8 +19,8 @@ returns-then-has_fault c = λ order x. absurd (false≢true (sym (ap is_some x.1
 pub check-requires-clause-well : goal.check-requires-clause-well
 check-requires-clause-well c = subst IsWellTimed (sym c.callers-callers.ensures.same) c.callers-callers.ensures.well
 
-pub check-requires-clause-looks : goal.check-requires-clause-looks
-check-requires-clause-looks c = (subst KeepsWhatIsNeeded (sym c.in_ok-machine.ensures) (begun_sound c.callers-callers.result.now c.args.config), kept, looks)
+pub check-requires-clause-early : goal.check-requires-clause-early
+check-requires-clause-early c = (subst KeepsWhatIsNeeded (sym c.in_ok-machine.ensures) (begun_sound c.callers-callers.result.now c.args.config), kept, of_looks stepped may_skip KeepsWhatIsNeeded is_look looks)
 
 pub returns : goal.returns
 returns c = judged c.args.calls.now c.args.config c.in_ok-verdict.verdict (fault_free (config_fault c.args.config) (sym c.has_fault.ensures ∙ c.if-has_fault.false)) c.callers-callers.ensures.well (

@@ -6,14 +6,15 @@ use Rattle.flow_check.specs.Subscribed.{none_subscribed}
 use Rattle.flow_check.specs.StateMachine.{StateKept, state_stepped, state_may_skip}
 use Rattle.flow_check.specs.Verdicts.{Judges}
 use Rattle.flow_check.proofs.StateJudging.{judged}
-use Rattle.flow_check.proofs.StateLooking.{kept, looks}
+use Rattle.flow_check.proofs.StateLooking.{kept}
+use Rattle.flow_check.proofs.StatePrivately.{private_calls}
 use Rattle.flow_check.proofs.state_checking.check_state.Goals as goal
 
 pub check-requires-clause-well : goal.check-requires-clause-well
 check-requires-clause-well c = subst IsWellTimed (sym c.callers-callers.ensures.same) c.callers-callers.ensures.well
 
-pub check-requires-clause-looks : goal.check-requires-clause-looks
-check-requires-clause-looks c = (tt, kept, looks)
+pub check-requires-clause-early : goal.check-requires-clause-early
+check-requires-clause-early c = (tt, kept, private_calls)
 
 pub returns : goal.returns
 returns c = judged c.args.calls.now c.args.initial c.in_ok-verdict.verdict c.callers-callers.ensures.well (
