@@ -19,19 +19,6 @@ fn is_cancelled(callers: &[Vec<Timed<SharedEntry<'_>>>], placed: &Vec<u32>, call
     }
 }
 
-/// Returns a caller's calls that have not happened.
-fn rest_of<'c, 'a>(
-    callers: &'c [Vec<Timed<SharedEntry<'a>>>],
-    placed: &Vec<u32>,
-    caller: usize,
-) -> &'c [Timed<SharedEntry<'a>>] {
-    let from = placed.as_slice().get(caller).copied().unwrap_or(0) as usize;
-    match callers.get(caller) {
-        None => &[],
-        Some(calls) => calls.as_slice().get(from..).unwrap_or(&[]),
-    }
-}
-
 impl SharedMachine {
     /// Returns the value of this index that a subscriber with this lag receives, if it is known: first its own values,
     /// then those emitted, then those queued.
@@ -52,10 +39,18 @@ impl SharedMachine {
         Some(held.value)
     }
 
-    /// Returns whether these next calls of a subscriber with this lag receive another value than the one that is due.
-    fn is_contradicted(&self, caller: usize, lag: usize, calls: &[Timed<SharedEntry<'_>>]) -> bool {
+    /// Returns whether the next of these calls of a subscriber with this lag receive another value than the one that is
+    /// due. The first `placed` calls have happened.
+    fn is_contradicted(
+        &self,
+        caller: usize,
+        lag: usize,
+        calls: &[Timed<SharedEntry<'_>>],
+        placed: usize,
+    ) -> bool {
+        let rest = calls.get(placed..).unwrap_or(&[]);
         let mut index: usize = 0;
-        for call in calls.get(..MOST_CALLS).unwrap_or(calls) {
+        for call in rest.iter().take(MOST_CALLS) {
             if call.end.is_none() {
                 return false;
             }
@@ -97,9 +92,11 @@ impl SharedMachine {
         if self.config.overflow == Overflow::DropOldest || self.may_withdraw(callers, placed) {
             return false;
         }
-        for (caller, lag) in self.lags.iter().enumerate() {
+        for (caller, calls) in callers.iter().enumerate() {
+            let lag = self.lags.as_slice().get(caller).copied().flatten();
+            let placed = placed.as_slice().get(caller).copied().unwrap_or(0);
             if let Some(lag) = lag {
-                if self.is_contradicted(caller, *lag, rest_of(callers, placed, caller)) {
+                if self.is_contradicted(caller, lag, calls.as_slice(), placed as usize) {
                     return true;
                 }
             }
