@@ -1,12 +1,10 @@
 -- From no node of a closed table does an order go through the rest. Begin with `none_goes`.
-use Rattle.std.proofs.Common.{◌≡◌, ℕ, suc, zero, ◌+◌, ◌≤◌, Bool, List, [], ◌∷◌, length, Option, Some, refl, sym, subst, inl, inr, arith}
-use Rattle.std.specs.Prelude.{slice_get}
-use Rattle.flow_check.specs.declared.timed.Timed.{Timed}
+use Rattle.std.proofs.Common.{◌≡◌, ℕ, suc, zero, ◌≤◌, Bool, List, [], ◌∷◌, length, Option, Some, sym, subst, inl, inr, arith}
 use Rattle.flow_check.specs.Records.{CallsByCaller, IsWellTimed}
 use Rattle.flow_check.specs.Remaining.{placing, next_call_of, MayComeNext, OwesNothing, IsStep, GoesThrough}
 use Rattle.flow_check.specs.Looks.{IsKept}
 use Rattle.flow_check.specs.PrivateCalls.{ArePrivate}
-use Rattle.flow_check.specs.Tables.{Reached, IsInTable, IsFollowedAt, IsPrivateFollowed, IsClosedTable}
+use Rattle.flow_check.specs.Tables.{Reached, IsInTable, IsFollowedAt, IsClosedTable}
 use Rattle.flow_check.proofs.Leaving.{make_first, sound_after}
 
 module _ {S C : Type 0} (stepped : S → ℕ → C → Option S) (may_skip is_private : C → Bool) (IsSound : S → Type 0) (kept : IsKept stepped IsSound) (Ahead : ℕ → C → S → S → Type 0)

@@ -1,5 +1,5 @@
 -- What loops over callers and over nodes keep.
-use Rattle.std.specs.Prelude.{◌≡◌, ℕ, ◌+◌, ◌<◌, ◌≤◌, Bool, true, false, not, is_some, IsSome, List, [], ◌∷◌, length, map, slice_get, Option, Some, None, IfSome, ⊤, Vec}
+use Rattle.std.specs.Prelude.{◌≡◌, ℕ, ◌+◌, ◌<◌, ◌≤◌, Bool, true, false, not, is_some, IsSome, List, ◌∷◌, length, map, slice_get, Option, Some, None, IfSome, ⊤, Vec}
 use Rattle.std.specs.declared.alloc.Global.{Global}
 use Rattle.std.proofs.Common.{refl, sym, ap, ◌∙◌, subst, inl, inr, drop, get_or, drop-cons, add-one, below_more, arith}
 use Rattle.std.proofs.lemmas.Bool.{false≢true}

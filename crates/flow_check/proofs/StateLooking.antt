@@ -1,5 +1,5 @@
 -- Looks at a state flow change nothing. Begin with `looks`.
-use Rattle.std.proofs.Common.{◌≡◌, ℕ, suc, zero, Bool, true, false, not, ◌==◌, cond, List, [], ◌∷◌, set, Option, Some, None, refl, sym, ap, ◌∙◌, subst}
+use Rattle.std.proofs.Common.{◌≡◌, ℕ, suc, zero, Bool, true, false, not, ◌==◌, cond, List, [], ◌∷◌, set, Option, Some, None, refl, sym, ap, ◌∙◌}
 use Rattle.std.proofs.lemmas.Bool.{false≢true, cond-false}
 use Rattle.std.proofs.lemmas.Bool.Decides.{Decides-eqb}
 use Rattle.std.proofs.lemmas.Option.{cond_some}
@@ -10,7 +10,7 @@ use Rattle.flow_check.specs.declared.state_calls.StateAnswer.{StateAnswer}
 use Rattle.flow_check.specs.declared.state_calls.StateAnswer.TheVariants as answer
 use Rattle.flow_check.specs.Looks.{IsKept, OnlyLooks}
 use Rattle.flow_check.specs.Subscribed.{kept_of}
-use Rattle.flow_check.specs.StateMachine.{StateKept, reader_of, state_next_answer, state_own_answer, state_agrees, with_reader, state_moved, state_stepped}
+use Rattle.flow_check.specs.StateMachine.{StateKept, reader_of, state_next_answer, state_own_answer, state_agrees, state_moved, state_stepped}
 use Rattle.flow_check.specs.StateLooks.{state_looks_by, is_state_look, IsAlwaysSound}
 
 pub kept : IsKept state_stepped IsAlwaysSound
