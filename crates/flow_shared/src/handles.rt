@@ -9,8 +9,8 @@
 //! `receive`, `changed` and `send` wait for a value and for room: the thread sleeps until another call wakes it.
 //!
 //! # Lent and owned
-//! `BoundSeat` and `BoundSubscription` hold their flow as a `&Flow` or as an `Arc<Flow>` (`HoldsFlow`), and most calls are
-//! written once for both. `another` is written twice: one more owner may be refused.
+//! `BoundSeat` and `BoundSubscription` hold their flow as a `&Flow` or as an `Arc<Flow>` (`HoldsFlow`), and most calls
+//! are written once for both. `another` is written twice: one more owner may be refused.
 ghost use Rattle.std.specs.Prelude.{◌≡◌, ◌⊎◌};
 ghost use Rattle.flow_law.specs.HandleFaults.{number_fault, emit_now_fault, try_next_fault};
 ghost use Rattle.flow_shared.specs.SharedReplies.{IsEmitFault};

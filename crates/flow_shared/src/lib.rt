@@ -8,8 +8,9 @@
 //! more, one for each thread. A call takes its token and returns it, so two calls through one token never overlap. A
 //! token is used with the flow that made it; each call requires that by the flow's `table_id`. A handle (`Emitter`,
 //! `Setter`, `Reader`, `StateReader`) is a token with its flow, and requires nothing: begin with `flow.emitter(seat)`
-//! or `flow.setter(seat)`. These lend the flow. `flow.into_emitter(alloc, seat)` and `flow.into_setter(alloc, seat)` give
-//! handles that own it together (`OwnedEmitter` and so on), for threads that outlive the function that made the flow.
+//! or `flow.setter(seat)`. These lend the flow. `flow.into_emitter(alloc, seat)` and `flow.into_setter(alloc, seat)`
+//! give handles that own it together (`OwnedEmitter` and so on), for threads that outlive the function that made the
+//! flow.
 //!
 //! # What each call promises
 //! A call that is one event has a clause with the word `SharedCalls` (of a state flow `StateCalls`), or with one like

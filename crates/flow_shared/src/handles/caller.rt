@@ -19,8 +19,8 @@ use std::alloc::{Allocator, Global};
 use std::marker::Model;
 use std::sync::{Arc, Wait};
 
-/// A seat and its flow: an emitter of a shared flow, or a setter of a state flow. Contracts see both, and do not see how
-/// the flow is held.
+/// A seat and its flow: an emitter of a shared flow, or a setter of a state flow. Contracts see both, and not how the
+/// flow is held.
 ///
 /// # Dropping
 /// Dropping it drops its seat: no call is made under its name any more, and the flow does not change. If it owns the
@@ -34,7 +34,8 @@ pub struct BoundSeat<S: FlowCore, A: Allocator + Copy, H: HoldsFlow<S, A>> {
 pub type FlowCaller<'a, S, A = Global> = BoundSeat<S, A, &'a Flow<S, A>>;
 
 /// A seat that owns its flow together with other handles: an `OwnedEmitter` of a shared flow, or an `OwnedSetter` of a
-/// state flow. Its readers own the flow, too. A thread that has it may outlive the function that made the flow.
+/// state flow. Its readers own the flow, too. A thread that has it may outlive the function that made the flow. It has
+/// the calls of a `FlowCaller`, except `others`, `view`, `count_and_wake_watchers` and the meetings of several.
 pub type OwnedCaller<S, A = Global> = BoundSeat<S, A, Arc<Flow<S, A>, A>>;
 
 // Not derived, as for `Flow`.

@@ -44,8 +44,8 @@ impl<T: FlowValue, A: Allocator + Copy> Flow<SharedCore<T, A>, A> {
         BoundSeat::new(self, seat)
     }
 
-    /// Binds a seat to its flow, and puts the flow into memory that its handles own together: dropping the last one ends
-    /// the flow. `another` and `subscribe` make more of them.
+    /// Binds a seat to its flow, and puts the flow into memory that its handles own together: dropping the last one
+    /// ends the flow. `another` and `subscribe` make more of them.
     ///
     /// # Errors
     /// `OutOfMemory`. The flow and the seat are dropped.

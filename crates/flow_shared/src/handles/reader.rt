@@ -37,14 +37,15 @@ pub struct BoundSubscription<S: ReaderCalls, A: Allocator + Copy, H: HoldsFlow<S
 /// A subscription and its flow, which is lent.
 pub type FlowReader<'a, S, A = Global> = BoundSubscription<S, A, &'a Flow<S, A>>;
 
-/// A subscription that owns its flow together with other handles.
+/// A subscription that owns its flow together with other handles. It has the calls of a `FlowReader`, except
+/// `into_stream`.
 pub type OwnedFlowReader<S, A = Global> = BoundSubscription<S, A, Arc<Flow<S, A>, A>>;
 
 /// A subscription to a shared flow.
 pub type Reader<'a, T, A = Global> = FlowReader<'a, SharedCore<T, A>, A>;
 
-/// A subscription to a shared flow that owns the flow together with other handles. It has the calls of a `Reader`, except
-/// `into_stream` and `into_receive`.
+/// A subscription to a shared flow that owns the flow together with other handles. It has the calls of a `Reader`,
+/// except `into_stream` and `into_receive`.
 pub type OwnedReader<T, A = Global> = OwnedFlowReader<SharedCore<T, A>, A>;
 
 /// A subscription to a state flow.
