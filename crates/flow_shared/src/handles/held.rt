@@ -26,7 +26,7 @@ pub trait SharesFlow<S: FlowCore, A: Allocator + Copy>: HoldsFlow<S, A> {
     /// # Errors
     /// `AllocError` if the flow has 2^63 owners.
     fn again(&self) -> Result<Self, AllocError>
-        ensures { IfOk result (λ again. held again ≡ held self.now) };
+        ensures { IfOk result (λ again. Self.held again ≡ Self.held self.now) };
 }
 
 impl<'a, S: FlowCore, A: Allocator + Copy> HoldsFlow<S, A> for &'a Flow<S, A> {
