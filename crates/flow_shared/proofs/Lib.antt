@@ -13,4 +13,4 @@ pub mod Sleeping
 pub mod Waits
 pub mod Tries
 pub mod PollRuns
-pub mod Values
+pub mod ValueLemmas

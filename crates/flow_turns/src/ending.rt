@@ -52,8 +52,8 @@ impl<C: Cold, H> Sharing<C, H> {
     /// Takes the sharing apart: returns its chain, as the last turn left it, and its hub. An item that the flow has not
     /// accepted is dropped. An emission that waits stays in the flow.
     pub fn into_parts(self) -> (C, H)
-        ensures chain { result.0 ≡ sharing_chain self.entry }
-        ensures hub { result.1 ≡ hub_of self.entry }
+        ensures chain { result.0 ≡ sharing_chain self }
+        ensures hub { result.1 ≡ hub_of self }
     {
         let Sharing { chain, hub, .. } = self;
         (chain, hub)

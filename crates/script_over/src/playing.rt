@@ -29,7 +29,7 @@ fn collected(alloc: Global, build: Build) -> Result<Answer, AllocError> {
         return Err(AllocError);
     };
     match answers.steps.pop() {
-        Some(told) => Ok(told.answer),
+        Some(answer) => Ok(answer),
         None => Ok(Answer::NoFlow),
     }
 }

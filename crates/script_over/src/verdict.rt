@@ -154,12 +154,12 @@ pub fn verdict_of(alloc: Global, wanted: &Answers, told: &Told) -> Result<Verdic
         difference: None,
     };
     verdict.compare_heads(alloc, wanted.not_made.as_slice(), told.heads.as_slice())?;
-    for (place, step) in wanted.steps.iter().enumerate() {
+    for (place, answer) in wanted.steps.iter().enumerate() {
         if verdict.difference.is_some() {
             break;
         }
         let line = heads.saturating_add(place).saturating_add(1);
-        verdict.compare_step(alloc, line, &step.answer, told.steps.get(place))?;
+        verdict.compare_step(alloc, line, answer, told.steps.get(place))?;
     }
     Ok(verdict)
 }

@@ -4,7 +4,7 @@ use crate::compare::compare;
 use crate::program::Host;
 use flow_law::{ChainFault, Config, Overflow};
 use flow_script::{
-    Act, Answer, Answers, Case, FlowHead, FlowStep, FlowTrace, ScriptFault, Seen, Trace,
+    Act, Answer, Answers, Case, Changes, FlowHead, FlowStep, FlowTrace, ScriptFault, Seen, Trace,
     TracedScript, chain_fault_words,
 };
 use script_explain::{explain_refusal, rules_of};
@@ -71,14 +71,16 @@ fn seen<H: Host>(rt: &H, step: FlowStep, case: Case) -> Seen {
     Seen {
         act: Act::OnFlow(0, step),
         case,
-        name: None,
-        emitted: Some(1),
-        lag: None,
-        item: None,
-        loss: None,
-        moved: Vec::new(rt.alloc()),
-        ended: Vec::new(rt.alloc()),
-        after: None,
+        changes: Changes {
+            name: None,
+            emitted: Some(1),
+            lag: None,
+            item: None,
+            loss: None,
+            moved: Vec::new(rt.alloc()),
+            ended: Vec::new(rt.alloc()),
+            after: None,
+        },
     }
 }
 

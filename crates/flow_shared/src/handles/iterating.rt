@@ -80,6 +80,10 @@ impl<'r, S: ReaderCalls + Drop, R: Wait, A: Allocator + Copy, H: HoldsFlow<S, A>
         self.turns.next();
         Some(self.reader.await_next(self.rt))
     }
+
+    fn size_hint(&self) -> (usize, Option<usize>) {
+        (0, None)
+    }
 }
 
 impl<'r, S: ReaderCalls + Drop, R: Wait + Clock, A: Allocator + Copy, H: HoldsFlow<S, A>> Iterator
@@ -96,5 +100,9 @@ impl<'r, S: ReaderCalls + Drop, R: Wait + Clock, A: Allocator + Copy, H: HoldsFl
         self.reader
             .await_next_within(self.rt, &self.limit)
             .transpose()
+    }
+
+    fn size_hint(&self) -> (usize, Option<usize>) {
+        (0, None)
     }
 }

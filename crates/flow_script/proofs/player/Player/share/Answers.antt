@@ -6,7 +6,7 @@ use Rattle.flow_law.specs.declared.states.EmittingFlow.{EmittingFlow}
 use Rattle.flow_cold.specs.ScriptChain.{node_rest}
 use Rattle.flow_law.specs.declared.report.ShareFault.TheVariants.{Flow}
 use Rattle.flow_turns.specs.ShareIn.{share_config}
-use Rattle.flow_turns.specs.CoreHub.{emission_of}
+use Rattle.flow_turns.specs.CoreHub.{hub_emission}
 use Rattle.flow_turns.specs.OverCores.{StandsForEmitting}
 use Rattle.script_format.specs.Heads.{shared_chain}
 use Rattle.flow_script.specs.Answers.{turn_refused}
@@ -24,7 +24,7 @@ returns c =
     let made = c.in_ok-sharing.ensures in
     let is = made.chain tt ∙ ap (λ r. chained r (node_rest c.in_ok-chain.chain.node) sharing.hub) c.in_ok-chain.ensures.2 ∙ ap (λ r. chained built.run r sharing.hub) c.in_ok-chain.ensures.3 in
     let play = first_sharing built.run started flow in
-    let waits = none-waits (emission_of sharing.hub) (made.quiet tt (ap (λ (z : SharingState _). z.runs) made.state) (ap (λ (z : SharingState _). z.cancel_due) made.state)) in (
+    let waits = none-waits (hub_emission sharing.hub) (made.quiet tt (ap (λ (z : SharingState _). z.runs) made.state) (ap (λ (z : SharingState _). z.cancel_due) made.state)) in (
       share play,
       ap (λ b. player_of (shared_chain b started c.args.replay c.args.limit)) c.in_ok-chain.ensures.1
           ∙ ap (λ o. option_map_or (λ fault. Err (turn_refused (Flow fault))) o (Ok (share play))) made.flow.0,

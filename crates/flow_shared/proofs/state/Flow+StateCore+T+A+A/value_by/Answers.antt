@@ -1,5 +1,5 @@
 use Rattle.flow_core.specs.SubId.{number_of}
-use Rattle.flow_shared.proofs.Values.{subscription_after_value}
+use Rattle.flow_shared.proofs.ValueLemmas.{subscription_after_value}
 use Rattle.flow_shared.proofs.state.Flow+StateCore+T+A+A.value_by.Goals as goal
 
 pub invariant_of-subscription : goal.invariant_of-subscription
