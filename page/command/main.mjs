@@ -21,7 +21,7 @@ Options of judge:
   --stream       reads any number of records from standard input, each after a line with its number of bytes, and prints for each
                  a line with the status and the number of bytes of the words, and the words
 
-Without a file each reads standard input. The statuses are those of ./judge, ./play and ./draw (docs/RECORDS.md): 0 for a legal record
+Without a file each reads standard input. The statuses are those of ./judge, ./play and ./draw (docs/SECURITY.md): 0 for a legal record
 or a script that was played, 1 for an illegal record, 2 if a text or an option is refused, 3 if the search gave up, or a read or a
 write of play or draw failed, 4 if it is out of memory, or a read or a write of judge failed, and 6 if a file is not there or cannot
 be read. The status of several records is 1 if one is illegal, else the greatest.

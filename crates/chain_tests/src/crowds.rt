@@ -1,5 +1,5 @@
 //! Crowds and pairs of threads.
-use crate::compare::{compare, compare_step};
+use flow_fixtures::{compare, compare_step};
 use flow_program::{CrowdSize, run_crowd, run_pair};
 use std::process::Abort;
 

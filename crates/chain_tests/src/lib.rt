@@ -7,11 +7,7 @@
 #[cfg(test)]
 mod chains;
 #[cfg(test)]
-mod compare;
-#[cfg(test)]
 mod crowds;
-#[cfg(test)]
-mod flows;
 #[cfg(test)]
 mod program;
 #[cfg(test)]

@@ -1,7 +1,7 @@
 //! Whole runs of the program on readers and writers in memory, which give or take little, or fail. `test_cases.py` and
 //! `test_hostile_scripts.py` of `tests/programs` run the built program on the cases of `tests/cases/`, on arguments, on texts
 //! that are no script, and on scripts at each limit and above it.
-use crate::compare::compare;
+use flow_fixtures::compare;
 use flow_program::run;
 use flow_script::Watched;
 use std::alloc::AllocGlobal;

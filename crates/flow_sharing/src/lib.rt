@@ -29,7 +29,7 @@
 //! that, take a turn that stops the sharing first, or call `cancel` through `hub_mut`.
 #![tactic(auto)]
 
-mod deriving;
+mod derived;
 mod flow_stop;
 mod laws;
 mod sender;
@@ -39,7 +39,7 @@ mod word_flow_hub;
 mod word_hub;
 mod word_stop;
 
-pub use deriving::{derive_from, derive_state};
+pub use derived::{derive_from, derive_state};
 pub use flow_stop::FlowStop;
 pub use flow_turns::{
     Asked, Backwards, ChainFault, Cold, Command, CoreHub, End, Event, Hub, NEVER, NotEnded, Policy,

@@ -17,11 +17,7 @@ mod awaiting;
 #[cfg(test)]
 mod checker;
 #[cfg(test)]
-mod compare;
-#[cfg(test)]
 mod examples;
-#[cfg(test)]
-mod flows;
 #[cfg(test)]
 mod handle_calls;
 #[cfg(test)]

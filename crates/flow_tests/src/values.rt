@@ -1,5 +1,5 @@
 //! Values that stand for numbers: boxed numbers, whose copies take memory.
-use crate::compare::{compare, compare_step};
+use flow_fixtures::{compare, compare_step};
 use flow_law::{Boxed, FlowValue, Next};
 use std::alloc::Allocator;
 use std::fmt::Debug;

@@ -4,8 +4,8 @@ ghost use Rattle.flow_operators.specs.Bound.{upstream_bound};
 
 use crate::chains::gives::{COLLECTIONS, begins_with};
 use crate::chains::inner::sum;
-use crate::compare::{compare, compare_step};
 use flow_cold::{Asked, Chain, ChainFault, Cold, OfRange, Terminal, law_asks_left};
+use flow_fixtures::{compare, compare_step};
 use std::cell::Cell;
 use std::process::Abort;
 

@@ -1,6 +1,6 @@
 //! Compares what a chain gives with what it should give.
-use crate::compare::compare;
 use flow_cold::{Chain, Cold, End, Entry, OfList, ScriptChain, Scripted, Source, collect_all};
+use flow_fixtures::compare;
 use std::alloc::Global;
 use std::process::Abort;
 

@@ -2,8 +2,8 @@
 
 use crate::chains::gives::{FAILS_AFTER_TWO, begins_with, gives, list, script};
 use crate::chains::inner::sum;
-use crate::compare::compare;
 use flow_cold::{Chain, ChainFault, End, OfRange, Terminal};
+use flow_fixtures::compare;
 
 const OVERFLOW: End = End::Failed(ChainFault::Overflow);
 

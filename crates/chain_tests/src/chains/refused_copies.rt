@@ -1,7 +1,7 @@
 //! Out of memory inside a chain: the chain ends with a fault, and the collection itself does not fail.
 
-use crate::compare::compare;
 use flow_cold::{Chain, ChainFault, Cold, End, OfList, collect_all};
+use flow_fixtures::compare;
 use flow_refusals::CopyLimited;
 use std::alloc::Global;
 use std::cell::Cell;

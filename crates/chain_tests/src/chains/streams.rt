@@ -1,8 +1,8 @@
 //! A chain as a stream gives the items that a collection gives.
 
 use crate::chains::gives::{FAILS_AFTER_TWO, gives, script};
-use crate::compare::compare;
 use flow_cold::{ChainFault, End, Streamed};
+use flow_fixtures::compare;
 use futures::StreamExt;
 use futures::executor::block_on;
 

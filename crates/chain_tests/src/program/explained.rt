@@ -1,7 +1,7 @@
 //! Explanations of scripts: of the faults and answers that no script leads to, and of one of each kind that a script
 //! does lead to.
-use crate::compare::compare;
 use crate::program::Host;
+use flow_fixtures::compare;
 use flow_law::{ChainFault, Config, Overflow};
 use flow_script::{
     Act, Answer, Answers, Case, Changes, FlowHead, FlowStep, FlowTrace, ScriptFault, Seen, Trace,

@@ -1,6 +1,6 @@
 //! Readers and writers that give or take little, or fail.
-use crate::compare::{compare, compare_step};
 use crate::program::{Host, compare_bytes, expect};
+use flow_fixtures::{compare, compare_step};
 use flow_program::run;
 use flow_script::{Watched, played, read_script, text_of};
 use std::io;

@@ -1,7 +1,7 @@
 //! Plays a script, and one that is refused, and compares what they print, byte for byte.
-use crate::compare::compare;
 use crate::program::streams::{LINES, SCRIPT};
 use crate::program::{Host, compare_bytes, played};
+use flow_fixtures::compare;
 use flow_script::{ScriptFault, Watched, play};
 
 /// A script that uses the name of an emission for a subscriber.

@@ -1,7 +1,7 @@
 //! A chain that is collected into a list to which memory is refused.
-use crate::compare::compare;
 use crate::refusals::MANY;
 use flow_cold::{ChainFault, End, OfRange, collect_all};
+use flow_fixtures::compare;
 use flow_refusals::Refusing;
 use std::alloc::{Allocator, Global};
 use std::process::Abort;

@@ -1,9 +1,9 @@
 //! A sharing that is refused memory. For a subscriber that reads nothing 64 values are buffered. The next value waits,
 //! and for that the flow takes memory.
-use crate::compare::compare;
 use crate::refusals::MANY;
 use crate::sharing::{PUTS, STARTS, count_to};
 use flow_cold::Scripted;
+use flow_fixtures::compare;
 use flow_law::{Command, Event, FlowFault, Next, Report, ShareFault, Started};
 use flow_refusals::Refusing;
 use flow_sharing::{CoreHub, Sharing, share_in};

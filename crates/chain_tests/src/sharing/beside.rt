@@ -1,7 +1,7 @@
 //! Sharings that run on one thread while another thread calls their flow.
-use crate::compare::compare;
 use flow_cold::Scripted;
 use flow_core::ReaderCalls;
+use flow_fixtures::compare;
 use flow_law::{NEVER, Started};
 use flow_shared::FlowCaller;
 use flow_sharing::{FlowStop, Sharing, StopSignal, WatchedHub};

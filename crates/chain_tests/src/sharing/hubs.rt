@@ -1,8 +1,8 @@
 //! Hubs of flows for one thread without a sharing, and the laws of turns.
 ghost use Rattle.std.specs.Prelude.{◌≡◌, false};
 
-use crate::compare::compare;
 use flow_core::{SharedCore, StateCore};
+use flow_fixtures::compare;
 use flow_law::{Config, Next};
 use flow_sharing::{
     CoreHub, Hub, StateHub, law_turn_over_core, law_turn_over_shared_flow,

@@ -1,7 +1,7 @@
 //! A sharing over a state flow, a reset and a chain that are refused with `OutOfMemory`.
-use crate::compare::compare;
 use crate::sharing::shared::STARTS;
 use flow_cold::OfList;
+use flow_fixtures::compare;
 use flow_law::{ChainFault, Command, Event, FlowFault, Report, ShareFault, Started};
 use flow_refusals::CopyLimited;
 use flow_sharing::{Sharing, StateHub, state_in};

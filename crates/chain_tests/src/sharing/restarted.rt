@@ -1,8 +1,8 @@
 //! A sharing that goes on after a fault of its chain (`retry`), and one that is taken apart (`catch`).
-use crate::compare::compare;
 use crate::sharing::shared::{PUTS, STARTS};
 use flow_cold::{Entry, Scripted};
 use flow_core::SubId;
+use flow_fixtures::compare;
 use flow_law::{ChainFault, Event, Next, Report, ShareFault, Started};
 use flow_sharing::{CoreHub, Hub, NotEnded, Sharing, share_in};
 use std::alloc::Global;

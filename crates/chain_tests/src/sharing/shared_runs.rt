@@ -1,11 +1,10 @@
 //! Sharings over shared flows that are run by one call.
 ghost use Rattle.std.specs.Prelude.{◌≡◌};
 
-use crate::compare::compare;
-use crate::flows::{new_flow, new_reader, reads_cache};
 use crate::sharing::beside::{AT_ONCE, Caller, Follows, SHORTLY, run_beside};
 use crate::sharing::shared::{chain_of, share_into};
 use flow_cold::Scripted;
+use flow_fixtures::{compare, new_flow, new_reader, reads_cache};
 use flow_law::{Config, Started};
 use flow_shared::{Emitter, Reader, Seat, SharedFlow};
 use flow_sharing::{FlowStop, SharedFlowHub, Sharing, StopSignal};

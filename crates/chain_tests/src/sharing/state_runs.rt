@@ -1,10 +1,10 @@
 //! Sharings over state flows that are run by one call, on a thread of their own.
 ghost use Rattle.std.specs.Prelude.{◌≡◌};
 
-use crate::flows::{new_state_flow, new_state_reader};
 use crate::sharing::beside::{AT_ONCE, Caller, Follows, SHORTLY, run_beside};
 use crate::sharing::shared::{chain_of, share_into_state};
 use flow_cold::Scripted;
+use flow_fixtures::{new_state_flow, new_state_reader};
 use flow_law::Started;
 use flow_shared::{Setter, StateFlow, StateReader, StateSeat};
 use flow_sharing::{FlowStop, Sharing, StateFlowHub, StopSignal};

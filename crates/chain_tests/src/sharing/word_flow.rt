@@ -1,9 +1,9 @@
 //! A chain that is shared into a flow that is read without a lock.
 ghost use Rattle.std.specs.Prelude.{◌≡◌};
 
-use crate::compare::compare;
 use crate::sharing::shared::{PUTS, STARTS, count_to};
 use flow_cold::Scripted;
+use flow_fixtures::compare;
 use flow_law::{Command, Config, Event, Overflow, Report, Started};
 use flow_sharing::{Sharing, WordFlowHub};
 use flow_word_shared::{WordEmitter, WordFlow, WordFlowReader, WordFlowSeat};

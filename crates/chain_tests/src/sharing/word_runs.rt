@@ -1,7 +1,7 @@
 //! Sharings over a word state that are run by one call, on a thread of their own.
-use crate::flows::{new_word_reader, new_word_state};
 use crate::sharing::beside::{Caller, Follows, SHORTLY, receives_twice, run_beside};
 use crate::sharing::shared::{chain_of, share_into_word};
+use flow_fixtures::{new_word_reader, new_word_state};
 use flow_sharing::WordStop;
 use flow_word::{WordReader, WordSetter};
 use std::process::Abort;

@@ -1,9 +1,9 @@
 //! Short ways to write records of state flows, and their outcomes.
-use crate::compare::compare_step;
 use flow_check::{
     FaultKind, Record, StateAnswer, StateEntry, StateOperation, Timed, Verdict, check_state,
     state_goes_wrong,
 };
+use flow_fixtures::compare_step;
 use std::alloc::{AllocError, Global};
 use std::fmt::Debug;
 use std::process::Abort;

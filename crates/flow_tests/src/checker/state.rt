@@ -1,9 +1,9 @@
 //! Records of state flows. The comments say why a record is legal or illegal.
 use crate::checker::records::Outcome::{BeginsEarly, EndsEarly, GaveUp, Illegal, Legal};
 use crate::checker::records::{Outcome, call, expect, judge, order_of, pending};
-use crate::compare::compare;
 use flow_check::StateAnswer::{Done, Value};
 use flow_check::StateOperation::{Set, Value as Read};
+use flow_fixtures::compare;
 
 const TURNS: u64 = 10_000;
 

@@ -1,10 +1,10 @@
 //! The first moments at which records become illegal, and the part of a record that was known before a moment.
 use crate::checker::records::{call, callers_of, wrong_moment};
 use crate::checker::shared_records;
-use crate::compare::compare;
 use flow_check::StateAnswer::{Done, Value};
 use flow_check::StateOperation::{Set, Value as Read};
 use flow_check::{Cut, Record, SharedAnswer, SharedOperation, StateEntry, Timed, known_record};
+use flow_fixtures::compare;
 use flow_law::Config;
 use std::alloc::Global;
 use std::process::Abort;

@@ -1,5 +1,5 @@
 //! Rounds of calls by one thread at flows that no other thread calls: no call is busy, and none is refused memory.
-use crate::compare::compare;
+use flow_fixtures::compare;
 use flow_law::{Config, FlowValue, Text};
 use flow_shared::{EmitAnswer, Emitter, Reader, Setter, SharedFlow, StateFlow, StateReader};
 use std::alloc::{AllocGlobal, Global};

@@ -1,7 +1,6 @@
 //! Tasks that sleep until a flow has a value or room for them, polled by hand.
-use crate::compare::compare;
-use crate::flows::{new_flow, new_reader};
 use crate::handle_calls::next;
+use flow_fixtures::{compare, new_flow, new_reader};
 use flow_law::{Config, FlowFault};
 use flow_shared::{Emitter, Reader, ReceiveFuture, SendFuture, Sent};
 use futures::task::Poll;

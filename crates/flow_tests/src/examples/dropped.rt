@@ -1,6 +1,5 @@
 //! Tokens that are dropped: what they stand for stays in the flow.
-use crate::compare::compare;
-use crate::flows::{new_flow, new_subscription};
+use flow_fixtures::{compare, new_flow, new_subscription};
 use flow_law::Config;
 use flow_law::Next::{Empty, Value};
 use flow_shared::Emitted;

@@ -2,7 +2,7 @@
 ghost use Rattle.std.specs.Prelude.{◌≡◌, ◌%◌, ◌^◌, [], ◌∷◌, length, Some};
 ghost use Rattle.flow_gate.specs.Tokens.{IsIdle, BeginsIdle};
 
-use crate::compare::compare;
+use flow_fixtures::compare;
 use flow_gate::{Gate, NamesEvents, Seat};
 use flow_law::Guarded;
 use std::alloc::Global;

@@ -1,7 +1,6 @@
 //! Three threads whose emissions wait for room while the only subscriber unsubscribes: all three emissions end.
-use crate::compare::compare;
-use crate::flows::{new_flow, new_reader};
 use crate::handle_calls::{pause, send, try_emit};
+use flow_fixtures::{compare, new_flow, new_reader};
 use flow_law::Config;
 use flow_shared::{Emitter, Reader};
 use std::alloc::Global;

@@ -1,7 +1,6 @@
 //! Compares the values that callers of a borrowed flow get.
-use crate::compare::compare;
-use crate::flows::{new_flow, new_subscription, new_word_state};
 use crate::lent::{emit_one, next_in_order, read_newest};
+use flow_fixtures::{compare, new_flow, new_subscription, new_word_state};
 use flow_law::Config;
 use flow_law::Next::{Empty, Value};
 

@@ -2,8 +2,7 @@
 ghost use Rattle.std.specs.Prelude.{◌≡◌};
 
 use crate::awaiting::send;
-use crate::compare::compare;
-use crate::flows::{new_flow, new_subscription};
+use flow_fixtures::{compare, new_flow, new_subscription};
 use flow_law::Config;
 use flow_shared::{EmitFuture, NextFuture, Seat, Sent, SharedFlow, Subscription};
 use futures::Future;

@@ -1,9 +1,8 @@
 //! Two threads that set a state flow at once, or emit one after the other.
 ghost use Rattle.std.specs.Prelude.{◌≡◌};
 
-use crate::compare::compare;
-use crate::flows::{new_flow, new_state_flow, new_subscription};
 use crate::reading::set_and_read;
+use flow_fixtures::{compare, new_flow, new_state_flow, new_subscription};
 use flow_law::Next::{Empty, Value};
 use flow_law::{Config, Next};
 use flow_shared::{Seat, SharedFlow, StateFlow, StateSeat, Subscription};

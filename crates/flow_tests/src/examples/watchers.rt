@@ -1,8 +1,7 @@
 //! Threads that sleep by watchers: two watchers of one emission, and watchers of two flows with one number.
 ghost use Rattle.std.specs.Prelude.{◌≡◌};
 
-use crate::compare::compare;
-use crate::flows::new_flow;
+use flow_fixtures::{compare, new_flow};
 use flow_law::Config;
 use flow_shared::{Emission, Emitted, PolledNow, Seat, SharedFlow, Subscription, Watcher};
 use std::process::Abort;

@@ -1,8 +1,7 @@
 //! A flow that is dropped while a task sleeps.
 ghost use Rattle.std.specs.Prelude.{◌≡◌};
 
-use crate::compare::compare;
-use crate::flows::{new_flow, new_reader};
+use flow_fixtures::{compare, new_flow, new_reader};
 use flow_law::Config;
 use flow_shared::{ReceiveFuture, Seat, SharedFlow};
 use futures::test::MockTask;

@@ -1,5 +1,5 @@
 //! The errors of handles as faults, and as text.
-use crate::compare::compare;
+use flow_fixtures::compare;
 use flow_law::{
     Busy, EmitNowError, Exhausted, FlowFault, NumberError, OutOfMemory, Rejected, TryNextError,
     Unsupported,

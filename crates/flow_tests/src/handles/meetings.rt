@@ -1,10 +1,9 @@
 //! An emitter and a reader of a shared flow, each on a thread of its own. A wait has a limit of an hour, which no test
 //! takes: a sleeper that is not woken fails.
-use crate::compare::compare;
-use crate::flows::{new_flow, new_reader};
 use crate::handle_calls::{next_of, pause, receive, send};
 use crate::handles::emissions::{cancel_late, emission_of};
 use crate::handles::shared::meet;
+use flow_fixtures::{compare, new_flow, new_reader};
 use flow_law::{Config, OutOfMemory};
 use flow_shared::{Emitter, Reader, SendEnd};
 use std::alloc::AllocGlobal;

@@ -1,7 +1,6 @@
 //! Waits whose requests for memory are refused, each in turn. A thread without memory for its waker yields and tries
 //! again, so the wait returns the same as with memory.
-use crate::compare::compare;
-use crate::flows::{new_reader, new_state_reader};
+use flow_fixtures::{compare, new_reader, new_state_reader};
 use flow_law::{Config, Rejected};
 use flow_refusals::Refusing;
 use flow_shared::{Emitter, Reader, SendEnd, Setter, SharedFlow, StateFlow, StateReader};

@@ -1,10 +1,9 @@
 //! Handles of shared flows on one thread.
 ghost use Rattle.std.specs.Prelude.{◌≡◌};
 
-use crate::compare::compare;
-use crate::flows::{new_flow, new_reader};
 use crate::handle_calls::{next, receive, send, try_emit};
 use crate::handles::emissions::{cancel, emission_of, poll, queued, try_cancel, try_poll};
+use flow_fixtures::{compare, new_flow, new_reader};
 use flow_law::{Config, Exhausted, NumberError, Rejected};
 use flow_shared::{DrainEnd, Emitter, Reader, SharedFlow};
 use std::alloc::AllocGlobal;

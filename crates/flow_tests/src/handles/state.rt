@@ -1,8 +1,7 @@
 //! Handles of state flows.
-use crate::compare::compare;
-use crate::flows::{new_state_flow, new_state_reader};
 use crate::handle_calls::next_of;
 use crate::handles::states::{Reads, Sets};
+use flow_fixtures::{compare, new_state_flow, new_state_reader};
 use flow_law::{OutOfMemory, Unsupported};
 use flow_shared::{DrainEnd, Setter, StateReader};
 use futures::executor::block_on;

@@ -1,7 +1,6 @@
 //! What holds of the handles of state flows and of word states alike. Each state begins with the value 7.
-use crate::compare::compare;
-use crate::flows::{new_state_flow, new_word_state};
 use crate::handle_calls::pause;
+use flow_fixtures::{compare, new_state_flow, new_word_state};
 use std::alloc::AllocGlobal;
 use std::process::Abort;
 use std::random::RandomSource;

@@ -1,7 +1,6 @@
 //! Futures of an emitter and of readers of one shared flow, on one thread.
-use crate::compare::compare;
-use crate::flows::{new_flow, new_reader};
 use crate::handle_calls::next;
+use flow_fixtures::{compare, new_flow, new_reader};
 use flow_law::Config;
 use flow_shared::{Emitter, ReceiveFuture, Received};
 use futures::Future;

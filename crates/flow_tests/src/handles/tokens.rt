@@ -1,8 +1,7 @@
 //! An emission that is taken out of its handle and bound again.
 ghost use Rattle.std.specs.Prelude.{◌≡◌};
 
-use crate::compare::compare;
-use crate::flows::new_flow;
+use flow_fixtures::{compare, new_flow};
 use flow_law::Config;
 use flow_shared::{EmitAnswer, Seat, SharedFlow};
 use std::sync::Wait;

@@ -1,7 +1,6 @@
 //! Views that only read, and iterators over the values of a reader.
-use crate::compare::compare;
-use crate::flows::{new_flow, new_reader, new_state_flow};
 use crate::handle_calls::try_emit;
+use flow_fixtures::{compare, new_flow, new_reader, new_state_flow};
 use flow_law::{Config, NumberError};
 use flow_shared::{Reader, SharedView, StateView};
 use std::process::Abort;

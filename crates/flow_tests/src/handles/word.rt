@@ -1,10 +1,9 @@
 //! Handles of word states.
 ghost use Rattle.std.specs.Prelude.{◌≡◌};
 
-use crate::compare::compare;
-use crate::flows::{new_word_reader, new_word_state};
 use crate::handle_calls::next_of;
 use crate::handles::states::{Reads, Sets};
+use flow_fixtures::{compare, new_word_reader, new_word_state};
 use flow_word::{WordReader, WordSetter, WordState};
 use futures::executor::block_on;
 use std::alloc::AllocGlobal;

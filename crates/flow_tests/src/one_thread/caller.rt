@@ -1,7 +1,7 @@
 //! A caller of a shared flow for one thread. Each of its calls compares what the flow answers.
-use crate::compare::{compare, compare_step};
 use crate::one_thread::limited::{are, list_of, number_of};
 use flow_core::{SharedCore, SubId};
+use flow_fixtures::{compare, compare_step};
 use flow_law::{Config, Drained, Emit, FlowFault, Next};
 use flow_refusals::CopyLimited;
 use std::alloc::Global;

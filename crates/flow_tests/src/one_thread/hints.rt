@@ -1,6 +1,6 @@
 //! A subscription has the place of its subscriber, at which a core looks first. Its `Debug` shows that place.
-use crate::compare::compare;
 use flow_core::{SharedCore, StateCore, SubId, SubscriberCalls};
+use flow_fixtures::compare;
 use flow_law::Config;
 use std::alloc::Global;
 use std::process::Abort;

@@ -1,5 +1,5 @@
 //! Compares values one copy of which is refused, by their numbers.
-use crate::compare::compare;
+use flow_fixtures::compare;
 use flow_law::{FlowFault, Next};
 use flow_refusals::CopyLimited;
 use std::alloc::Global;

@@ -1,6 +1,6 @@
 //! What a flow for threads reads of a core to find the sleepers that have something after a call.
-use crate::compare::{compare, compare_step};
 use flow_core::{ReaderCalls, SharedCore, Signs, StateCore};
+use flow_fixtures::{compare, compare_step};
 use flow_law::{Config, Emit};
 use std::process::Abort;
 

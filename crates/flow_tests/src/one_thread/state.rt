@@ -1,6 +1,6 @@
 //! Drains of a state flow, of which no script has one.
-use crate::compare::compare;
 use flow_core::{StateCore, SubId};
+use flow_fixtures::compare;
 use flow_law::{Drained, FlowFault};
 use flow_refusals::Refusing;
 use std::alloc::Allocator;

@@ -1,6 +1,6 @@
 //! The traits of values that own memory: what they print, when they are equal, and that equal values have equal hashes.
-use crate::compare::compare;
 use crate::one_thread::values::{boxed, items};
+use flow_fixtures::compare;
 use flow_law::{OutOfMemory, Text};
 use flow_refusals::Refusing;
 use std::alloc::Global;

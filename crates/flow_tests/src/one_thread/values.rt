@@ -1,7 +1,7 @@
 //! Lists and boxed values in flows. Two are the same if their contents are, as `StateFlow` compares by `equals`.
-use crate::compare::{compare, compare_step};
 use crate::one_thread::limited::list_of;
 use flow_core::{StateCore, SubId};
+use flow_fixtures::{compare, compare_step};
 use flow_law::{Boxed, FlowFault, FlowValue, Items, Next};
 use flow_refusals::CopyLimited;
 use std::alloc::Global;

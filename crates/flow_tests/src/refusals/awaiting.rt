@@ -2,9 +2,9 @@
 //! the copy of a value.
 ghost use Rattle.std.specs.Prelude.{◌≡◌};
 
-use crate::compare::compare;
 use crate::refusals::flows::SMALL;
 use crate::values::Numbered;
+use flow_fixtures::compare;
 use flow_law::{Boxed, FlowFault};
 use flow_refusals::Refusing;
 use flow_shared::{EmitFuture, Emitted, NextFuture, Seat, Sent, SharedFlow, Subscription};

@@ -1,7 +1,7 @@
 //! A gate, which takes memory when it is made, and never again.
 ghost use Rattle.std.specs.Prelude.{⊤};
 
-use crate::compare::compare;
+use flow_fixtures::compare;
 use flow_gate::Gate;
 use flow_law::Guarded;
 use flow_refusals::Refusing;

@@ -1,9 +1,9 @@
 //! A caller of a shared flow or a state flow for several threads, and its subscriber.
 ghost use Rattle.std.specs.Prelude.{◌≡◌};
 
-use crate::compare::compare_step;
 use crate::values::{Numbered, by_number};
 use flow_core::{FlowCore, SubscriberCalls};
+use flow_fixtures::compare_step;
 use flow_law::{FlowFault, Next};
 use flow_shared::{Flow, FlowSeat, FlowSubscription};
 use std::alloc::{Allocator, Global};

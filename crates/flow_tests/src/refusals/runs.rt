@@ -1,10 +1,10 @@
 //! Runs of a worked example, each with another allocation refused.
 ghost use Rattle.std.specs.Prelude.{◌≡◌};
 
-use crate::compare::{compare, compare_step};
 use crate::refusals::MANY;
 use crate::refusals::player::{FlowPlayer, Played, Step};
 use crate::values::Numbered;
+use flow_fixtures::{compare, compare_step};
 use flow_law::{Boxed, Config, FlowFault};
 use flow_refusals::Refusing;
 use flow_shared::{Flow, FlowSeat, SharedFlow, StateFlow};

@@ -1,8 +1,8 @@
 //! The steps that only shared flows have, and those of state flows.
-use crate::compare::compare_step;
 use crate::refusals::player::{FlowPlayer, Played, Reader, Step};
 use crate::values::{Numbered, are, list_of};
 use flow_core::{SharedCore, StateCore};
+use flow_fixtures::compare_step;
 use flow_law::FlowFault;
 use flow_shared::Emitted;
 use std::alloc::Allocator;

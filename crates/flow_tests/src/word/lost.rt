@@ -1,6 +1,5 @@
 //! Futures and streams of a word state that are dropped while their tasks sleep.
-use crate::compare::compare;
-use crate::flows::{new_word_reader, new_word_state};
+use flow_fixtures::{compare, new_word_reader, new_word_state};
 use flow_word::{WordReader, WordSetter};
 use futures::Stream;
 use futures::test::MockTask;

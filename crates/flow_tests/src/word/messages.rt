@@ -1,5 +1,5 @@
 //! A message that is sent and received.
-use crate::compare::compare;
+use flow_fixtures::compare;
 use flow_messages::pass_on;
 use flow_word::WordState;
 

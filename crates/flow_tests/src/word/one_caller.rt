@@ -1,7 +1,7 @@
 //! What one caller of a word state knows after two of its seats have met, and a word state that is refused memory.
 ghost use Rattle.std.specs.Prelude.{◌≡◌};
 
-use crate::compare::compare;
+use flow_fixtures::compare;
 use flow_law::{FlowFault, Next};
 use flow_word::{WordSeat, WordState};
 use std::alloc::Global;

@@ -1,6 +1,6 @@
 //! Packs of the least and the greatest values of each type.
-use crate::compare::compare;
 use crate::word::celsius::Celsius;
+use flow_fixtures::compare;
 use flow_law::Packed;
 use std::process::Abort;
 

@@ -1,7 +1,7 @@
 //! Several threads on one flow.
-use crate::compare::compare;
 use crate::word::caller::{Caller, Task};
 use crate::word::signals::Signals;
+use flow_fixtures::compare;
 use flow_law::FlowFault;
 use flow_word::WordState;
 use std::alloc::Global;

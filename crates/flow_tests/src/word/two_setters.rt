@@ -1,6 +1,5 @@
 //! Two threads set the value of a word state while threads and tasks sleep until it changes.
-use crate::compare::compare;
-use crate::flows::{new_word_reader, new_word_state};
+use flow_fixtures::{compare, new_word_reader, new_word_state};
 use flow_word::{ChangedFuture, WordReader, WordSetter};
 use futures::task::Poll;
 use futures::test::MockTask;

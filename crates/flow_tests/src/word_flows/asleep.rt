@@ -1,7 +1,7 @@
 //! Readers of a word flow that sleep until a value is emitted.
-use crate::compare::compare;
 use crate::handle_calls::{next_of, pause};
 use crate::word_flows::{dropping, new_word_flow, new_word_flow_reader};
+use flow_fixtures::compare;
 use flow_word_shared::{WordEmitter, WordFlowReader, WordReceiveFuture};
 use futures::task::Poll;
 use futures::test::MockTask;

@@ -1,9 +1,9 @@
 //! Plays the worked examples by the handles of a word flow.
 ghost use Rattle.std.specs.Prelude.{◌≡◌};
 
-use crate::compare::{compare, compare_step};
 use crate::word_flows::rows::ROWS;
 use crate::word_flows::{dropping, new_word_flow, new_word_flow_reader};
+use flow_fixtures::{compare, compare_step};
 use flow_law::{Config, Drained, Exhausted, FlowFault, Overflow, Rejected};
 use flow_word_shared::{WordEmitter, WordFlow, WordFlowFault, WordFlowReader};
 use std::alloc::Global;

@@ -1,6 +1,6 @@
 //! Calls that race on two threads at a word flow. Each race goes on until each of its outcomes was seen.
-use crate::compare::compare;
 use crate::word_flows::{dropping, new_word_flow, new_word_flow_reader};
+use flow_fixtures::compare;
 use flow_law::{Busy, FlowFault, Refused};
 use flow_word_shared::{WordEmitter, WordFlowReader};
 use std::alloc::Global;

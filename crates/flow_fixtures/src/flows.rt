@@ -1,6 +1,7 @@
 //! New flows of whole numbers, and new readers of them. A test ends if one of them is refused.
 ghost use Rattle.std.specs.Prelude.{◌≡◌};
 
+use crate::comparing::compare;
 use flow_law::Config;
 use flow_shared::{
     Emitter, Reader, Seat, Setter, SharedFlow, StateFlow, StateReader, StateSeat, Subscription,
@@ -82,4 +83,18 @@ pub fn new_subscription<R: Wait + Abort>(
     ensures made { result.token.table_id ≡ flow.entry.now.table_id }
 {
     flow.subscribe(rt, seat).expect(rt, "a subscription")
+}
+
+/// Compares the replay cache that a caller reads.
+pub fn reads_cache<R: Wait + Abort>(
+    rt: &R,
+    flow: &SharedFlow<i64>,
+    seat: &mut Seat<i64>,
+    wanted: &[i64],
+)
+    requires { seat.old.table_id ≡ flow.now.table_id }
+    ensures { seat.new.table_id ≡ flow.entry.now.table_id }
+{
+    let cache = flow.replay_cache(rt, seat).expect(rt, "memory");
+    compare(rt, "the replay cache", cache.as_slice(), wanted);
 }
