@@ -277,7 +277,7 @@ impl<'a, T: FlowValue, A: Allocator + Copy> FlowCaller<'a, SharedCore<T, A>, A> 
     pub fn into_send(self, value: T) -> SendFuture<'a, T, A>
         ensures { result ≡ emitting_at self.entry.flow (Fresh self.entry.token value) }
     {
-        let FlowCaller { flow, seat } = self;
-        SendFuture::new(flow, seat, value)
+        let flow = self.flow;
+        SendFuture::new(flow, self.into_seat(), value)
     }
 }

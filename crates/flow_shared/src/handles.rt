@@ -7,6 +7,10 @@
 //! does not wait for room. `emit_now` waits for nothing.
 //!
 //! `receive`, `changed` and `send` wait for a value and for room: the thread sleeps until another call wakes it.
+//!
+//! # Lent and owned
+//! `BoundSeat` and `BoundSubscription` hold their flow as a `&Flow` or as an `Arc<Flow>` (`HoldsFlow`), and most calls
+//! are written once for both. `another` is written twice: one more owner may be refused.
 ghost use Rattle.std.specs.Prelude.{◌≡◌, ◌⊎◌};
 ghost use Rattle.flow_law.specs.HandleFaults.{number_fault, emit_now_fault, try_next_fault};
 ghost use Rattle.flow_shared.specs.SharedReplies.{IsEmitFault};
@@ -14,6 +18,7 @@ ghost use Rattle.flow_shared.specs.SharedReplies.{IsEmitFault};
 mod bound_emission;
 mod caller;
 mod emitter;
+mod held;
 mod iterating;
 mod reader;
 mod setter;
@@ -23,12 +28,16 @@ mod view_reader;
 mod waits;
 
 pub use bound_emission::{BoundEmission, EmitAnswer, PollAnswer};
-pub use caller::FlowCaller;
-pub use emitter::Emitter;
+pub use caller::{BoundSeat, FlowCaller, OwnedCaller};
+pub use emitter::{Emitter, OwnedEmitter};
 use flow_law::{EmitNowError, FlowFault, NumberError, TryNextError};
+pub use held::{HoldsFlow, SharesFlow};
 pub use iterating::{Values, ValuesUntil};
-pub use reader::{FlowReader, Reader, StateReader};
-pub use setter::Setter;
+pub use reader::{
+    BoundSubscription, FlowReader, OwnedFlowReader, OwnedReader, OwnedStateReader, Reader,
+    StateReader,
+};
+pub use setter::{OwnedSetter, Setter};
 pub use values::{FlowValues, StateChangedFuture};
 pub use view::{FlowView, SharedView, StateView};
 pub use view_reader::ViewReader;

@@ -7,7 +7,7 @@ ghost use Rattle.flow_law.specs.StateFlow.{state_after_all};
 ghost use Rattle.flow_shared.specs.SeenLaws.{SharedLaws, StateLaws};
 
 use crate::flow::Flow;
-use crate::handles::{FlowCaller, FlowReader};
+use crate::handles::{BoundSeat, BoundSubscription, HoldsFlow};
 use crate::shared::{Seat, Subscription};
 use crate::state::{StateSeat, StateSubscription};
 use flow_core::{SharedCore, StateCore};
@@ -66,27 +66,39 @@ impl<T: FlowValue, A: Allocator + Copy> Flow<StateCore<T, A>, A> {
     }
 }
 
-impl<'a, T: FlowValue, A: Allocator + Copy> FlowCaller<'a, SharedCore<T, A>, A> {
+impl<T: FlowValue, A: Allocator + Copy, H: HoldsFlow<SharedCore<T, A>, A>> BoundSeat<
+    SharedCore<T, A>,
+    A,
+    H,
+> {
     /// Proves the laws of shared flows for what the caller has seen, as `seen` of a flow does.
     pub fn seen(&mut self)
         ensures unchanged { self.new ≡ self.old }
         ensures laws { SharedLaws self.new.flow.first self.new.token.knows.seen }
     {
-        self.flow.seen(&mut self.seat);
+        self.flow.lend().seen(&mut self.seat);
     }
 }
 
-impl<'a, T: FlowValue, A: Allocator + Copy> FlowCaller<'a, StateCore<T, A>, A> {
+impl<T: FlowValue, A: Allocator + Copy, H: HoldsFlow<StateCore<T, A>, A>> BoundSeat<
+    StateCore<T, A>,
+    A,
+    H,
+> {
     /// Proves the laws of state flows for what the caller has seen, as `seen` of a flow does.
     pub fn seen(&mut self)
         ensures unchanged { self.new ≡ self.old }
         ensures laws { StateLaws self.new.flow.first self.new.token.knows.seen }
     {
-        self.flow.seen(&mut self.seat);
+        self.flow.lend().seen(&mut self.seat);
     }
 }
 
-impl<'a, T: FlowValue, A: Allocator + Copy> FlowReader<'a, SharedCore<T, A>, A> {
+impl<T: FlowValue, A: Allocator + Copy, H: HoldsFlow<SharedCore<T, A>, A>> BoundSubscription<
+    SharedCore<T, A>,
+    A,
+    H,
+> {
     /// Proves the laws of shared flows for what the subscription has seen, as `seen` of a flow does.
     pub fn seen(&mut self)
         ensures unchanged { self.new ≡ self.old }
@@ -95,11 +107,17 @@ impl<'a, T: FlowValue, A: Allocator + Copy> FlowReader<'a, SharedCore<T, A>, A> 
             (state_after self.new.flow.first.config
             self.new.subscription.token.knows.seen).subscribers) }
     {
-        self.flow.seen_by_subscription(&mut self.subscription);
+        self.flow
+            .lend()
+            .seen_by_subscription(&mut self.subscription);
     }
 }
 
-impl<'a, T: FlowValue, A: Allocator + Copy> FlowReader<'a, StateCore<T, A>, A> {
+impl<T: FlowValue, A: Allocator + Copy, H: HoldsFlow<StateCore<T, A>, A>> BoundSubscription<
+    StateCore<T, A>,
+    A,
+    H,
+> {
     /// Proves the laws of state flows for what the subscription has seen, as `seen` of a flow does.
     pub fn seen(&mut self)
         ensures unchanged { self.new ≡ self.old }
@@ -107,6 +125,8 @@ impl<'a, T: FlowValue, A: Allocator + Copy> FlowReader<'a, StateCore<T, A>, A> {
         ensures subscribed { IsThere self.new.subscription.number
             (state_after_all self.new.flow.first self.new.subscription.token.knows.seen) }
     {
-        self.flow.seen_by_subscription(&mut self.subscription);
+        self.flow
+            .lend()
+            .seen_by_subscription(&mut self.subscription);
     }
 }

@@ -8,7 +8,9 @@
 //! more, one for each thread. A call takes its token and returns it, so two calls through one token never overlap. A
 //! token is used with the flow that made it; each call requires that by the flow's `table_id`. A handle (`Emitter`,
 //! `Setter`, `Reader`, `StateReader`) is a token with its flow, and requires nothing: begin with `flow.emitter(seat)`
-//! or `flow.setter(seat)`.
+//! or `flow.setter(seat)`. These lend the flow. `flow.into_emitter(alloc, seat)` and `flow.into_setter(alloc, seat)`
+//! give handles that own it together (`OwnedEmitter` and so on), for threads that outlive the function that made the
+//! flow.
 //!
 //! # What each call promises
 //! A call that is one event has a clause with the word `SharedCalls` (of a state flow `StateCalls`), or with one like
@@ -49,9 +51,10 @@ pub use drain::DrainEnd;
 pub use emit_future::{EmitFuture, EmitStage, SendFuture, Sent};
 pub use flow::Flow;
 pub use handles::{
-    BoundEmission, EmitAnswer, Emitter, FlowCaller, FlowReader, FlowValues, FlowView, PollAnswer,
-    Reader, Setter, SharedView, StateChangedFuture, StateReader, StateView, Values, ValuesUntil,
-    ViewReader,
+    BoundEmission, BoundSeat, BoundSubscription, EmitAnswer, Emitter, FlowCaller, FlowReader,
+    FlowValues, FlowView, HoldsFlow, OwnedCaller, OwnedEmitter, OwnedFlowReader, OwnedReader,
+    OwnedSetter, OwnedStateReader, PollAnswer, Reader, Setter, SharedView, SharesFlow,
+    StateChangedFuture, StateReader, StateView, Values, ValuesUntil, ViewReader,
 };
 pub use next_future::{NextFuture, ReceiveFuture, Received};
 pub use shared::{Seat, SendEnd, SharedFlow, Subscription};

@@ -4,6 +4,7 @@ mod dropping;
 pub mod emissions;
 mod errors;
 mod meetings;
+mod owned;
 mod refusals;
 mod shared;
 mod state;

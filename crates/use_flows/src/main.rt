@@ -4,6 +4,7 @@
 mod chains;
 mod hot;
 mod one_thread;
+mod owned;
 mod producers;
 mod readings;
 mod screen;
@@ -29,6 +30,8 @@ fn main(rt: HostRuntime) -> Result<()> {
     show_best(&rt)?;
     hot::print_streamed(&rt, &hot::stream(&rt, rt.alloc())?)?;
     hot::print_looped(&rt, &hot::read(&rt, rt.alloc())?)?;
+    let owned = owned::add_up(&rt, rt.alloc())?;
+    println!(rt; "owned: {owned}")?;
     Ok(())
 }
 

@@ -6,7 +6,7 @@ ghost use Rattle.flow_shared.specs.SharedReplies.{SharedCalls, Polls, PollsNow, 
 ghost use Rattle.flow_shared.specs.BoundEmissions.{queued_by};
 ghost use Rattle.flow_shared.specs.BoundReplies.{own_polled, polled_flow, polled_now_by, polled_now_flow, cancelled_by, cancelled_flow};
 
-use super::caller::FlowCaller;
+use super::caller::BoundSeat;
 use super::emitter::Emitter;
 use crate::dropping::TRIES;
 use crate::flow::Flow;
@@ -85,7 +85,7 @@ impl<'a, T: FlowValue, A: Allocator + Copy> BoundEmission<'a, T, A> {
     {
         let BoundEmission { flow, emission } = self;
         match flow.poll_emit(rt, emission) {
-            Polled::Done(seat) => PollAnswer::Done(FlowCaller::new(flow, seat)),
+            Polled::Done(seat) => PollAnswer::Done(BoundSeat::new(flow, seat)),
             Polled::Waiting(emission) => PollAnswer::Waiting(flow.emission(emission)),
         }
     }
@@ -97,7 +97,7 @@ impl<'a, T: FlowValue, A: Allocator + Copy> BoundEmission<'a, T, A> {
     {
         let BoundEmission { flow, emission } = self;
         match flow.poll_now(emission) {
-            PolledNow::Done(seat) => Ok(PollAnswer::Done(FlowCaller::new(flow, seat))),
+            PolledNow::Done(seat) => Ok(PollAnswer::Done(BoundSeat::new(flow, seat))),
             PolledNow::Waiting(emission) => { Ok(PollAnswer::Waiting(flow.emission(emission))) }
             PolledNow::Busy(emission) => Err(flow.emission(emission)),
         }
@@ -113,7 +113,7 @@ impl<'a, T: FlowValue, A: Allocator + Copy> BoundEmission<'a, T, A> {
     {
         let BoundEmission { flow, emission } = self;
         let (seat, was_waiting) = flow.cancel(rt, emission);
-        (FlowCaller::new(flow, seat), was_waiting)
+        (BoundSeat::new(flow, seat), was_waiting)
     }
 
     /// Ends the wait if no other caller holds the flow; otherwise returns the emission.
@@ -123,7 +123,7 @@ impl<'a, T: FlowValue, A: Allocator + Copy> BoundEmission<'a, T, A> {
     {
         let BoundEmission { flow, emission } = self;
         match flow.cancel_now(emission) {
-            Ok((seat, was_waiting)) => Ok((FlowCaller::new(flow, seat), was_waiting)),
+            Ok((seat, was_waiting)) => Ok((BoundSeat::new(flow, seat), was_waiting)),
             Err(back) => Err(flow.emission(back)),
         }
     }

@@ -1,5 +1,5 @@
 //! A seat bound to its flow, and what several callers and readers did, once their threads have ended.
-ghost use Rattle.std.specs.Prelude.{◌≡◌, ◌∷◌, ◌++◌, ℕ, ◌<◌, All, IfOk, length, map, slice_index_or, vec_len};
+ghost use Rattle.std.specs.Prelude.{◌≡◌, ◌∷◌, ◌++◌, ℕ, ◌<◌, All, IfOk, MatchResult, length, map, slice_index_or, vec_len};
 ghost use Rattle.flow_law.specs.Closed.{makes_many, nth_child};
 ghost use Rattle.flow_law.specs.Growth.{makes, child};
 ghost use Rattle.flow_law.specs.HandleFaults.{answer_by, busy_fault, number_fault};
@@ -8,27 +8,44 @@ ghost use Rattle.flow_law.specs.Rounds.{OnlyMeets, MeetsInTurn, HasClosedHistory
 ghost use Rattle.flow_law.specs.Tokens.{knowing};
 ghost use Rattle.flow_shared.specs.Calls.{Counts, CountsNow, Meets};
 
+use super::held::{HoldsFlow, SharesFlow, once_more};
 use super::number_error;
-use super::reader::FlowReader;
+use super::reader::{BoundSubscription, FlowReader};
 use crate::flow::Flow;
 use crate::token::FlowSeat;
 use flow_core::{FlowCore, ReaderCalls, SubscriberCalls};
 use flow_law::{Busy, NumberError, OutOfMemory};
 use std::alloc::{Allocator, Global};
 use std::marker::Model;
-use std::sync::Wait;
+use std::sync::{Arc, Wait};
 
-/// A seat and its flow: an `Emitter` of a shared flow, or a `Setter` of a state flow. Contracts see both.
+/// A seat and its flow: an emitter of a shared flow, or a setter of a state flow. Contracts see both, and not how the
+/// flow is held.
 ///
 /// # Dropping
-/// Dropping it drops its seat: no call is made under its name any more, and the flow does not change.
-#[derive(Drop)]
-pub struct FlowCaller<'a, S: FlowCore, A: Allocator + Copy = Global> {
-    pub(crate) flow: &'a Flow<S, A>,
+/// Dropping it drops its seat: no call is made under its name any more, and the flow does not change. If it owns the
+/// flow, the last handle ends the flow.
+pub struct BoundSeat<S: FlowCore, A: Allocator + Copy, H: HoldsFlow<S, A>> {
+    pub(crate) flow: H,
     pub(crate) seat: FlowSeat<S, A>,
 }
 
-impl<'a, S: FlowCore, A: Allocator + Copy> Model for FlowCaller<'a, S, A> {
+/// A seat and its flow, which is lent: an `Emitter` of a shared flow, or a `Setter` of a state flow.
+pub type FlowCaller<'a, S, A = Global> = BoundSeat<S, A, &'a Flow<S, A>>;
+
+/// A seat that owns its flow together with other handles: an `OwnedEmitter` of a shared flow, or an `OwnedSetter` of a
+/// state flow. Its readers own the flow, too. A thread that has it may outlive the function that made the flow. It has
+/// the calls of a `FlowCaller`, except `others`, `view`, `count_and_wake_watchers` and the meetings of several.
+pub type OwnedCaller<S, A = Global> = BoundSeat<S, A, Arc<Flow<S, A>, A>>;
+
+// Not derived, as for `Flow`.
+impl<S: FlowCore, A: Allocator + Copy, H: HoldsFlow<S, A>> Drop for BoundSeat<S, A, H> {
+    fn drop(self) {
+        let Self { flow: _, seat: _ } = self;
+    }
+}
+
+impl<S: FlowCore, A: Allocator + Copy, H: HoldsFlow<S, A>> Model for BoundSeat<S, A, H> {
     ghost use Rattle.std.specs.Prelude.{◌≡◌};
     ghost use Rattle.atomic_table.specs.Seated.{TableId};
     ghost use Rattle.flow_law.specs.declared.history.Said.{Said};
@@ -36,19 +53,96 @@ impl<'a, S: FlowCore, A: Allocator + Copy> Model for FlowCaller<'a, S, A> {
 
     ghost Value = { CallerOf TableId S.State (Said S.Call S.Reply) };
 
-    ghost view = { λ c. called_by c.flow.now c.seat };
+    ghost view = { λ c. called_by (H.held c.flow) c.seat };
 
-    ghost invariant = { λ c. c.seat.table_id ≡ c.flow.now.table_id };
+    ghost invariant = { λ c. c.seat.table_id ≡ (H.held c.flow).table_id };
+}
+
+impl<S: FlowCore + Drop, A: Allocator + Copy, H: HoldsFlow<S, A>> BoundSeat<S, A, H> {
+    pub(crate) fn new(flow: H, seat: FlowSeat<S, A>) -> BoundSeat<S, A, H>
+        requires { seat.table_id ≡ (H.held flow).table_id }
+        ensures { result ≡ called_by (H.held flow) seat }
+    {
+        BoundSeat { flow, seat }
+    }
+
+    /// Joins what two callers of one flow have seen: afterwards both have seen the same history, with all calls so far.
+    ///
+    /// Call it when one caller relies on what another did, for example after a thread has ended and returned its
+    /// handle.
+    pub fn meet<K: HoldsFlow<S, A>>(&mut self, other: &mut BoundSeat<S, A, K>)
+        requires { other.old.flow.table_id ≡ self.old.flow.table_id }
+        ensures flow { (self.new.flow ≡ self.old.flow) × (other.new.flow ≡ other.old.flow) }
+        ensures met { Meets S.kind self.old.flow
+            self.old.token other.old.token self.new.token other.new.token }
+    {
+        self.flow.lend().meet(&mut self.seat, &mut other.seat);
+    }
+
+    /// Returns the seat, for the flow's own calls.
+    pub fn into_seat(self) -> FlowSeat<S, A>
+        ensures token { result ≡ self.token }
+        ensures flow { result.table_id ≡ self.flow.table_id }
+    {
+        let BoundSeat { flow: _, seat } = self;
+        seat
+    }
+}
+
+impl<S: SubscriberCalls + Drop, A: Allocator + Copy, H: SharesFlow<S, A>> BoundSeat<S, A, H> {
+    /// Subscribes. A reader of a shared flow gets the replay cache first, or the value that is being offered; a reader
+    /// of a state flow gets the current value.
+    ///
+    /// A subscriber that does not read blocks the emitters of a shared flow or loses values, depending on `overflow`,
+    /// until `unsubscribe`.
+    pub fn subscribe<R: Wait>(&mut self, rt: &R) -> Result<BoundSubscription<S, A, H>, NumberError>
+        ensures flow { self.new.flow ≡ self.old.flow }
+        ensures subscribed { SubscribesBound S.kind S.kind.subscribe self.old
+            (answer_by number_fault result) self.new.token }
+    {
+        let flow = once_more(rt, &self.flow);
+        match self.flow.lend().subscribe(rt, &mut self.seat) {
+            Ok(subscription) => Ok(BoundSubscription::new(flow, subscription)),
+            Err(fault) => Err(number_error(fault)),
+        }
+    }
+}
+
+impl<S: ReaderCalls + Drop, A: Allocator + Copy, H: HoldsFlow<S, A>> BoundSeat<S, A, H> {
+    /// Counts the subscribers. A subscription whose token was dropped still counts; one whose handle was dropped has
+    /// ended, unless the drop found the flow taken at each of its many tries.
+    pub fn subscription_count<R: Wait>(&mut self, rt: &R) -> u64
+        ensures flow { self.new.flow ≡ self.old.flow }
+        ensures counted { Counts S.kind self.old.flow self.old.token result self.new.token }
+    {
+        self.flow.lend().subscription_count(rt, &mut self.seat)
+    }
+
+    /// Counts the subscribers if no other caller holds the flow; otherwise returns `Busy`.
+    pub fn try_subscription_count(&mut self) -> Result<u64, Busy>
+        ensures flow { self.new.flow ≡ self.old.flow }
+        ensures counted { CountsNow S.kind self.old.flow self.old.token
+            (answer_by busy_fault result) self.new.token }
+    {
+        let count = self.flow.lend().count_now(&mut self.seat);
+        count.map_err(|_busy| Busy)
+    }
+
+    /// Joins what a caller and a reader of one flow have seen, as `meet` does.
+    pub fn meet_reader<K: HoldsFlow<S, A>>(&mut self, reader: &mut BoundSubscription<S, A, K>)
+        requires { reader.old.flow.table_id ≡ self.old.flow.table_id }
+        ensures flow { (self.new.flow ≡ self.old.flow) × (reader.new.flow ≡ reader.old.flow) }
+        ensures met { Meets S.kind self.old.flow reader.old.subscription.token self.old.token
+            reader.new.subscription.token self.new.token }
+        ensures number { reader.new.subscription.number ≡ reader.old.subscription.number }
+    {
+        self.flow
+            .lend()
+            .meet_subscription(&mut reader.subscription, &mut self.seat);
+    }
 }
 
 impl<'a, S: FlowCore + Drop, A: Allocator + Copy> FlowCaller<'a, S, A> {
-    pub(crate) fn new(flow: &'a Flow<S, A>, seat: FlowSeat<S, A>) -> FlowCaller<'a, S, A>
-        requires { seat.table_id ≡ flow.now.table_id }
-        ensures { result ≡ called_by flow.now seat }
-    {
-        FlowCaller { flow, seat }
-    }
-
     /// Makes one more caller through this one. Call it for each thread, before the thread starts.
     pub fn another(&mut self) -> FlowCaller<'a, S, A>
         ensures flow { (self.new.flow ≡ self.old.flow) × (result.flow ≡ self.old.flow) }
@@ -56,20 +150,7 @@ impl<'a, S: FlowCore + Drop, A: Allocator + Copy> FlowCaller<'a, S, A> {
         ensures made { result.token ≡ knowing self.old.token (child self.old.token.knows) }
     {
         let made = self.flow.seat(&mut self.seat);
-        FlowCaller::new(self.flow, made)
-    }
-
-    /// Joins what two callers of one flow have seen: afterwards both have seen the same history, with all calls so far.
-    ///
-    /// Call it when one caller relies on what another did, for example after a thread has ended and returned its
-    /// handle.
-    pub fn meet(&mut self, other: &mut FlowCaller<'_, S, A>)
-        requires { other.old.flow.table_id ≡ self.old.flow.table_id }
-        ensures flow { (self.new.flow ≡ self.old.flow) × (other.new.flow ≡ other.old.flow) }
-        ensures met { Meets S.kind self.old.flow
-            self.old.token other.old.token self.new.token other.new.token }
-    {
-        self.flow.meet(&mut self.seat, &mut other.seat);
+        BoundSeat::new(self.flow, made)
     }
 
     /// Makes `count` more callers through this one. Call it before their threads start.
@@ -118,67 +199,30 @@ impl<'a, S: FlowCore + Drop, A: Allocator + Copy> FlowCaller<'a, S, A> {
             self.meet(other);
         }
     }
-
-    /// Returns the seat, for the flow's own calls.
-    pub fn into_seat(self) -> FlowSeat<S, A>
-        ensures token { result ≡ self.entry.token }
-        ensures flow { result.table_id ≡ self.entry.flow.table_id }
-    {
-        let FlowCaller { flow: _, seat } = self;
-        seat
-    }
 }
 
-impl<'a, S: SubscriberCalls + Drop, A: Allocator + Copy> FlowCaller<'a, S, A> {
-    /// Subscribes. A reader of a shared flow gets the replay cache first, or the value that is being offered; a reader
-    /// of a state flow gets the current value.
+impl<S: FlowCore + Drop, A: Allocator + Copy> OwnedCaller<S, A> {
+    /// Makes one more caller through this one, which owns the flow, too. Call it for each thread, before the thread
+    /// starts.
     ///
-    /// A subscriber that does not read blocks the emitters of a shared flow or loses values, depending on `overflow`,
-    /// until `unsubscribe`.
-    pub fn subscribe<R: Wait>(&mut self, rt: &R) -> Result<FlowReader<'a, S, A>, NumberError>
+    /// # Errors
+    /// `OutOfMemory` if the flow has 2^63 owners.
+    pub fn another(&mut self) -> Result<OwnedCaller<S, A>, OutOfMemory>
         ensures flow { self.new.flow ≡ self.old.flow }
-        ensures subscribed { SubscribesBound S.kind S.kind.subscribe self.old
-            (answer_by number_fault result) self.new.token }
+        ensures made { MatchResult result
+            (λ made. (self.new.token ≡ knowing self.old.token (makes self.old.token.knows)) ×
+            (made ≡ called_by self.old.flow (knowing self.old.token (child self.old.token.knows))))
+            (λ _. self.new.token ≡ self.old.token) }
     {
-        match self.flow.subscribe(rt, &mut self.seat) {
-            Ok(subscription) => Ok(FlowReader::new(self.flow, subscription)),
-            Err(fault) => Err(number_error(fault)),
-        }
+        let Ok(flow) = Arc::try_clone(&self.flow) else {
+            return Err(OutOfMemory);
+        };
+        let made = flow.seat(&mut self.seat);
+        Ok(BoundSeat::new(flow, made))
     }
 }
 
 impl<'a, S: ReaderCalls + Drop, A: Allocator + Copy> FlowCaller<'a, S, A> {
-    /// Counts the subscribers. A subscription whose token was dropped still counts; one whose handle was dropped has
-    /// ended, unless the drop found the flow taken at each of its many tries.
-    pub fn subscription_count<R: Wait>(&mut self, rt: &R) -> u64
-        ensures flow { self.new.flow ≡ self.old.flow }
-        ensures counted { Counts S.kind self.old.flow self.old.token result self.new.token }
-    {
-        self.flow.subscription_count(rt, &mut self.seat)
-    }
-
-    /// Counts the subscribers if no other caller holds the flow; otherwise returns `Busy`.
-    pub fn try_subscription_count(&mut self) -> Result<u64, Busy>
-        ensures flow { self.new.flow ≡ self.old.flow }
-        ensures counted { CountsNow S.kind self.old.flow self.old.token
-            (answer_by busy_fault result) self.new.token }
-    {
-        let count = self.flow.count_now(&mut self.seat);
-        count.map_err(|_busy| Busy)
-    }
-
-    /// Joins what a caller and a reader of one flow have seen, as `meet` does.
-    pub fn meet_reader(&mut self, reader: &mut FlowReader<'_, S, A>)
-        requires { reader.old.flow.table_id ≡ self.old.flow.table_id }
-        ensures flow { (self.new.flow ≡ self.old.flow) × (reader.new.flow ≡ reader.old.flow) }
-        ensures met { Meets S.kind self.old.flow reader.old.subscription.token self.old.token
-            reader.new.subscription.token self.new.token }
-        ensures number { reader.new.subscription.number ≡ reader.old.subscription.number }
-    {
-        self.flow
-            .meet_subscription(&mut reader.subscription, &mut self.seat);
-    }
-
     /// Meets each of the readers, one after the other, as `meet_all` does.
     pub fn meet_readers(&mut self, readers: &mut [FlowReader<'_, S, A>])
         requires { All (λ r. r.flow.table_id ≡ self.old.flow.table_id) readers.old }

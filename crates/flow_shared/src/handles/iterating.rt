@@ -4,39 +4,40 @@ ghost use Rattle.std.specs.Iterator.{at_most};
 ghost use Rattle.std.specs.Sync.Forever.{forever_left};
 ghost use Rattle.flow_shared.specs.Iterating.{GivesNextReceived, GivesInTime};
 
-use super::reader::FlowReader;
+use super::held::HoldsFlow;
+use super::reader::BoundSubscription;
 use flow_core::ReaderCalls;
 use flow_law::OutOfMemory;
 use flow_sleepers::Limit;
-use std::alloc::{Allocator, Global};
+use std::alloc::Allocator;
 use std::sync::{Forever, Wait};
 use std::time::{Clock, Duration};
 
 /// An iterator over the values of a reader. Each item is what one `receive`, or one `changed` of a state flow's reader,
 /// gives: the thread sleeps while there is no value. It does not end: leave the loop by `break`, `return` or `?`.
 #[derive(Drop)]
-pub struct Values<'r, 'a, S: ReaderCalls, R: Wait, A: Allocator + Copy = Global> {
-    reader: &'r mut FlowReader<'a, S, A>,
+pub struct Values<'r, S: ReaderCalls, R: Wait, A: Allocator + Copy, H: HoldsFlow<S, A>> {
+    reader: &'r mut BoundSubscription<S, A, H>,
     rt: &'r R,
     turns: Forever<'r, R>,
 }
 
 /// An iterator over the values of a reader that ends when its time is up, or if the clock cannot be read.
 #[derive(Drop)]
-pub struct ValuesUntil<'r, 'a, S: ReaderCalls, R: Wait, A: Allocator + Copy = Global> {
-    reader: &'r mut FlowReader<'a, S, A>,
+pub struct ValuesUntil<'r, S: ReaderCalls, R: Wait, A: Allocator + Copy, H: HoldsFlow<S, A>> {
+    reader: &'r mut BoundSubscription<S, A, H>,
     rt: &'r R,
     limit: Limit,
     turns: Forever<'r, R>,
 }
 
-impl<'a, S: ReaderCalls + Drop, A: Allocator + Copy> FlowReader<'a, S, A> {
+impl<S: ReaderCalls + Drop, A: Allocator + Copy, H: HoldsFlow<S, A>> BoundSubscription<S, A, H> {
     /// Returns an iterator over the next values. Each item is a value, or `OutOfMemory` if it could not be copied: it
     /// is then the next item.
     ///
     /// # Source
     /// `Flow.collect`.
-    pub fn values<'r, R: Wait>(&'r mut self, rt: &'r R) -> Values<'r, 'a, S, R, A>
+    pub fn values<'r, R: Wait>(&'r mut self, rt: &'r R) -> Values<'r, S, R, A, H>
         ensures { result.reader.now ≡ self.old }
     {
         Values {
@@ -55,7 +56,7 @@ impl<'a, S: ReaderCalls + Drop, A: Allocator + Copy> FlowReader<'a, S, A> {
         &'r mut self,
         rt: &'r R,
         limit: Duration,
-    ) -> ValuesUntil<'r, 'a, S, R, A>
+    ) -> ValuesUntil<'r, S, R, A, H>
         ensures { result.reader.now ≡ self.old }
     {
         ValuesUntil {
@@ -67,8 +68,8 @@ impl<'a, S: ReaderCalls + Drop, A: Allocator + Copy> FlowReader<'a, S, A> {
     }
 }
 
-impl<'r, 'a, S: ReaderCalls + Drop, R: Wait, A: Allocator + Copy> Iterator
-    for Values<'r, 'a, S, R, A> {
+impl<'r, S: ReaderCalls + Drop, R: Wait, A: Allocator + Copy, H: HoldsFlow<S, A>> Iterator
+    for Values<'r, S, R, A, H> {
     type Item = Result<S::Item, OutOfMemory>;
 
     ghost next_gives = { λ s item t. GivesNextReceived S.kind s.reader.now item t.reader.now };
@@ -85,8 +86,8 @@ impl<'r, 'a, S: ReaderCalls + Drop, R: Wait, A: Allocator + Copy> Iterator
     }
 }
 
-impl<'r, 'a, S: ReaderCalls + Drop, R: Wait + Clock, A: Allocator + Copy> Iterator
-    for ValuesUntil<'r, 'a, S, R, A> {
+impl<'r, S: ReaderCalls + Drop, R: Wait + Clock, A: Allocator + Copy, H: HoldsFlow<S, A>> Iterator
+    for ValuesUntil<'r, S, R, A, H> {
     type Item = Result<S::Item, OutOfMemory>;
 
     ghost next_gives = { λ s item t. GivesInTime S.kind s.reader.now item t.reader.now };

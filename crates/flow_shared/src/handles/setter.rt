@@ -11,17 +11,22 @@ ghost use Rattle.flow_law.specs.declared.call.StateReply.TheVariants as reply;
 ghost use Rattle.flow_core.specs.StateCore.{value_reply, state_cache_reply, reset_reply};
 ghost use Rattle.flow_shared.specs.StateReplies.{StateCalls, SetsNow};
 
-use super::caller::FlowCaller;
+use super::caller::{BoundSeat, FlowCaller, OwnedCaller};
+use super::held::HoldsFlow;
 use crate::flow::Flow;
 use crate::state::StateSeat;
 use flow_core::StateCore;
 use flow_law::{Busy, FlowValue, OutOfMemory, Refused, Rejected, Unsupported};
 use std::alloc::{Allocator, Global};
-use std::sync::Wait;
+use std::sync::{Arc, Wait};
 use std::thread;
 
 /// A caller of a state flow.
 pub type Setter<'a, T, A = Global> = FlowCaller<'a, StateCore<T, A>, A>;
+
+/// A caller of a state flow that owns the flow together with other handles. It has the calls of a `Setter`, except
+/// `view`.
+pub type OwnedSetter<T, A = Global> = OwnedCaller<StateCore<T, A>, A>;
 
 impl<T: FlowValue, A: Allocator + Copy> Flow<StateCore<T, A>, A> {
     /// Binds a seat to its flow.
@@ -29,11 +34,34 @@ impl<T: FlowValue, A: Allocator + Copy> Flow<StateCore<T, A>, A> {
         requires { seat.table_id ≡ self.now.table_id }
         ensures { result ≡ called_by self.now seat }
     {
-        FlowCaller::new(self, seat)
+        BoundSeat::new(self, seat)
+    }
+
+    /// Binds a seat to its flow, and puts the flow into memory that its handles own together: dropping the last one
+    /// ends the flow. `another` and `subscribe` make more of them.
+    ///
+    /// # Errors
+    /// `OutOfMemory`. The flow and the seat are dropped.
+    pub fn into_setter(
+        self,
+        alloc: A,
+        seat: StateSeat<T, A>,
+    ) -> Result<OwnedSetter<T, A>, OutOfMemory>
+        requires { seat.table_id ≡ self.table_id }
+        ensures { IfOk result (λ setter. setter ≡ called_by self seat) }
+    {
+        match Arc::new(alloc, self) {
+            Ok(flow) => Ok(BoundSeat::new(flow, seat)),
+            Err(_failed) => Err(OutOfMemory),
+        }
     }
 }
 
-impl<'a, T: FlowValue, A: Allocator + Copy> FlowCaller<'a, StateCore<T, A>, A> {
+impl<T: FlowValue, A: Allocator + Copy, H: HoldsFlow<StateCore<T, A>, A>> BoundSeat<
+    StateCore<T, A>,
+    A,
+    H,
+> {
     /// Returns a copy of the current value.
     ///
     /// Another caller may set the value right after. Call `update` or `compare_and_set` to set a value that depends on
@@ -47,7 +75,7 @@ impl<'a, T: FlowValue, A: Allocator + Copy> FlowCaller<'a, StateCore<T, A>, A> {
             (value_reply (answer_by memory_fault result)) self.new.token }
         ensures given { T.IsAlwaysCopied → IsOk result }
     {
-        let value = self.flow.value(rt, &mut self.seat);
+        let value = self.flow.lend().value(rt, &mut self.seat);
         value.map_err(|_fault| OutOfMemory)
     }
 
@@ -58,7 +86,7 @@ impl<'a, T: FlowValue, A: Allocator + Copy> FlowCaller<'a, StateCore<T, A>, A> {
         ensures called { StateCalls self.old.flow self.old.token
             (call.Set value) reply.Done self.new.token }
     {
-        self.flow.set(rt, &mut self.seat, value);
+        self.flow.lend().set(rt, &mut self.seat, value);
     }
 
     /// Sets the current value if no other caller holds the flow; otherwise returns it with `Busy`.
@@ -67,7 +95,7 @@ impl<'a, T: FlowValue, A: Allocator + Copy> FlowCaller<'a, StateCore<T, A>, A> {
         ensures called { SetsNow self.old.flow self.old.token value
             (handed_by busy_fault result) self.new.token }
     {
-        match self.flow.set_now(&mut self.seat, value) {
+        match self.flow.lend().set_now(&mut self.seat, value) {
             Ok(()) => Ok(()),
             Err(Refused { value, fault: _ }) => Err(Rejected { value, error: Busy }),
         }
@@ -79,7 +107,7 @@ impl<'a, T: FlowValue, A: Allocator + Copy> FlowCaller<'a, StateCore<T, A>, A> {
         ensures called { StateCalls self.old.flow self.old.token (call.TryEmit value)
             (reply.Answered result) self.new.token }
     {
-        self.flow.try_emit(rt, &mut self.seat, value)
+        self.flow.lend().try_emit(rt, &mut self.seat, value)
     }
 
     /// Sets the value to `update` if it is equal to `expect`, and returns whether it was. Both happen in one event.
@@ -94,6 +122,7 @@ impl<'a, T: FlowValue, A: Allocator + Copy> FlowCaller<'a, StateCore<T, A>, A> {
             (reply.Answered result) self.new.token }
     {
         self.flow
+            .lend()
             .compare_and_set(rt, &mut self.seat, expect, update)
     }
 
@@ -213,7 +242,7 @@ impl<'a, T: FlowValue, A: Allocator + Copy> FlowCaller<'a, StateCore<T, A>, A> {
         ensures called { StateCalls self.old.flow self.old.token call.ReplayCache
             (state_cache_reply (answer_by memory_fault result)) self.new.token }
     {
-        let values = self.flow.replay_cache(rt, &mut self.seat);
+        let values = self.flow.lend().replay_cache(rt, &mut self.seat);
         values.map_err(|_fault| OutOfMemory)
     }
 
@@ -224,7 +253,7 @@ impl<'a, T: FlowValue, A: Allocator + Copy> FlowCaller<'a, StateCore<T, A>, A> {
             (reset_reply (answer_by unsupported_fault result)) self.new.token }
         ensures refused { IsErr result }
     {
-        let reset = self.flow.reset_replay_cache(rt, &mut self.seat);
+        let reset = self.flow.lend().reset_replay_cache(rt, &mut self.seat);
         reset.map_err(|_fault| Unsupported)
     }
 }

@@ -6,7 +6,8 @@ ghost use Rattle.futures.specs.Task.{Covers, IsArmed, Keeps};
 ghost use Rattle.flow_law.specs.StateFlow.{state_flow};
 ghost use Rattle.flow_shared.specs.Polling.{GivesChanged, PollsChange, PollsItem, PollsNext, Yields, polled_by};
 
-use super::reader::{FlowReader, StateReader};
+use super::held::HoldsFlow;
+use super::reader::{BoundSubscription, FlowReader, StateReader};
 use crate::calling::AtOnce;
 use flow_core::ReaderCalls;
 use flow_law::{FlowFault, FlowValue, Next, OutOfMemory};
@@ -26,7 +27,7 @@ fn polled<T>(answer: Result<Next<T>, FlowFault>) -> Poll<Result<T, OutOfMemory>>
     }
 }
 
-impl<'a, S: ReaderCalls + Drop, A: Allocator + Copy> FlowReader<'a, S, A> {
+impl<S: ReaderCalls + Drop, A: Allocator + Copy, H: HoldsFlow<S, A>> BoundSubscription<S, A, H> {
     /// Takes the next value if no other caller holds the flow. If there is none, the polled task sleeps.
     pub(super) fn poll_next_value(
         &mut self,
@@ -38,10 +39,13 @@ impl<'a, S: ReaderCalls + Drop, A: Allocator + Copy> FlowReader<'a, S, A> {
         ensures armed { OnPending result (IsArmed cx.new) }
         ensures kept { Keeps cx.old cx.new }
     {
-        let answer = self.flow.next_by(&AtOnce, &mut self.subscription, cx);
+        let flow = self.flow.lend();
+        let answer = flow.next_by(&AtOnce, &mut self.subscription, cx);
         polled(answer)
     }
+}
 
+impl<'a, S: ReaderCalls + Drop, A: Allocator + Copy> FlowReader<'a, S, A> {
     /// Returns the values that the subscriber receives, as a stream that is woken.
     pub fn into_stream(self) -> FlowValues<'a, S, A>
         ensures stream { result ≡ self.entry }

@@ -12,6 +12,7 @@ ghost use Rattle.flow_shared.specs.WaitingFor.{ReceivesIf};
 use super::iterating::{Values, ValuesUntil};
 use super::reader::FlowReader;
 use super::view::FlowView;
+use crate::flow::Flow;
 use flow_core::{ReaderCalls, SharedCore, StateCore};
 use flow_law::{FlowValue, OutOfMemory};
 use std::alloc::{Allocator, Global};
@@ -50,7 +51,7 @@ impl<'a, S: ReaderCalls + Drop, A: Allocator + Copy> ViewReader<'a, S, A> {
     }
 
     /// Returns an iterator over the next values, as `values` of a `FlowReader` does.
-    pub fn values<'r, R: Wait>(&'r mut self, rt: &'r R) -> Values<'r, 'a, S, R, A>
+    pub fn values<'r, R: Wait>(&'r mut self, rt: &'r R) -> Values<'r, S, R, A, &'a Flow<S, A>>
         ensures { result.reader.now ≡ self.old }
     {
         self.reader.values(rt)
@@ -61,7 +62,7 @@ impl<'a, S: ReaderCalls + Drop, A: Allocator + Copy> ViewReader<'a, S, A> {
         &'r mut self,
         rt: &'r R,
         limit: Duration,
-    ) -> ValuesUntil<'r, 'a, S, R, A>
+    ) -> ValuesUntil<'r, S, R, A, &'a Flow<S, A>>
         ensures { result.reader.now ≡ self.old }
     {
         self.reader.values_until(rt, limit)

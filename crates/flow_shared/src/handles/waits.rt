@@ -10,7 +10,8 @@ ghost use Rattle.flow_shared.specs.Calls.{NextsOf};
 ghost use Rattle.flow_shared.specs.Receiving.{FlowReceives, NextsUntil};
 ghost use Rattle.flow_shared.specs.WaitingFor.{Looks, NextsIf, ReceivesIf};
 
-use super::reader::FlowReader;
+use super::held::HoldsFlow;
+use super::reader::BoundSubscription;
 use flow_core::{ReaderCalls, SharedCore, StateCore};
 use flow_law::{FlowValue, Next, OutOfMemory};
 use flow_sleepers::{Limit, ThreadWaiter, Waiter};
@@ -18,7 +19,7 @@ use std::alloc::Allocator;
 use std::sync::Wait;
 use std::time::{Clock, Duration};
 
-impl<'a, S: ReaderCalls + Drop, A: Allocator + Copy> FlowReader<'a, S, A> {
+impl<S: ReaderCalls + Drop, A: Allocator + Copy, H: HoldsFlow<S, A>> BoundSubscription<S, A, H> {
     /// Takes the next value. If there is none, the caller sleeps or asks again.
     pub(super) fn next_asleep<R: Wait, W: Waiter<A>>(
         &mut self,
@@ -31,7 +32,8 @@ impl<'a, S: ReaderCalls + Drop, A: Allocator + Copy> FlowReader<'a, S, A> {
         ensures given { S.Item.IsAlwaysCopied → IsOk result }
         ensures armed { (result ≡ Ok None) → W.is_armed waiter.new }
     {
-        match self.flow.next_asleep(rt, &mut self.subscription, waiter) {
+        let flow = self.flow.lend();
+        match flow.next_asleep(rt, &mut self.subscription, waiter) {
             Ok(Next::Value(value)) => Ok(Some(value)),
             Ok(_) => Ok(None),
             Err(_fault) => Err(OutOfMemory),
@@ -83,7 +85,11 @@ impl<'a, S: ReaderCalls + Drop, A: Allocator + Copy> FlowReader<'a, S, A> {
     }
 }
 
-impl<'a, T: FlowValue, A: Allocator + Copy> FlowReader<'a, SharedCore<T, A>, A> {
+impl<T: FlowValue, A: Allocator + Copy, H: HoldsFlow<SharedCore<T, A>, A>> BoundSubscription<
+    SharedCore<T, A>,
+    A,
+    H,
+> {
     /// Waits for the next value, and takes it. The thread asks several times, and yields in between; then it sleeps,
     /// and the call that gives the subscriber a value wakes it. If there is no memory for its waker, it asks again.
     ///
@@ -123,7 +129,11 @@ impl<'a, T: FlowValue, A: Allocator + Copy> FlowReader<'a, SharedCore<T, A>, A> 
     }
 }
 
-impl<'a, T: FlowValue, A: Allocator + Copy> FlowReader<'a, StateCore<T, A>, A> {
+impl<T: FlowValue, A: Allocator + Copy, H: HoldsFlow<StateCore<T, A>, A>> BoundSubscription<
+    StateCore<T, A>,
+    A,
+    H,
+> {
     /// Waits until the current value differs from the one that the subscriber received last, and takes it. A new
     /// subscriber gets the current value at once. The thread waits as in `receive` of a shared flow's reader.
     ///
@@ -169,7 +179,7 @@ impl<'a, T: FlowValue, A: Allocator + Copy> FlowReader<'a, StateCore<T, A>, A> {
             (answer_by memory_fault result) self.new.subscription }
         ensures given { T.IsAlwaysCopied → IsOk result }
     {
-        let value = match self.flow.value_by(rt, &mut self.subscription) {
+        let value = match self.flow.lend().value_by(rt, &mut self.subscription) {
             Ok(value) => value,
             Err(_fault) => return Err(OutOfMemory),
         };
