@@ -41,9 +41,9 @@ mod word_stop;
 pub use deriving::{derive_from, derive_state};
 pub use flow_stop::FlowStop;
 pub use flow_turns::{
-    Asked, Backwards, ChainFault, Cold, Command, CoreHub, End, Event, Hub, NEVER, NotEnded, Policy,
-    Report, ShareFault, Sharing, SharingObservation, Started, StateHub, StopSignal, WatchedHub,
-    law_turn_over_core, law_turn_over_state_core, share_in, state_in,
+    Asked, Backwards, ChainFault, Cold, Command, CoreHub, CountSince, End, Event, Hub, NEVER,
+    NotEnded, Policy, Report, ShareFault, Sharing, SharingObservation, Started, StateHub,
+    StopSignal, WatchedHub, law_turn_over_core, law_turn_over_state_core, share_in, state_in,
 };
 pub use laws::{law_turn_over_shared_flow, law_turn_over_state_flow, law_turn_over_word_state};
 pub use shared_flow_hub::SharedFlowHub;
