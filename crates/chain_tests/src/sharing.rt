@@ -3,6 +3,7 @@
 
 mod beside;
 mod hubs;
+mod momentary;
 mod refused_reset;
 mod restarted;
 mod shared;

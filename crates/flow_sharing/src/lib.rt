@@ -42,9 +42,10 @@ mod word_stop;
 pub use derived::{derive_from, derive_state};
 pub use flow_stop::FlowStop;
 pub use flow_turns::{
-    Asked, Backwards, ChainFault, Cold, Command, CoreHub, End, Event, Hub, NEVER, NotEnded, Policy,
-    Report, ShareFault, Sharing, SharingObservation, Started, StateHub, StopSignal, WatchedHub,
-    law_turn_over_core, law_turn_over_state_core, share_in, sharing_config, state_in,
+    Asked, Backwards, ChainFault, Cold, Command, CoreHub, CountSince, End, Event, Hub, NEVER,
+    NotEnded, Policy, Report, ShareFault, Sharing, SharingObservation, Started, StateHub,
+    StopSignal, WatchedHub, law_turn_over_core, law_turn_over_state_core, share_in, sharing_config,
+    state_in,
 };
 pub use laws::{
     law_turn_over_shared_flow, law_turn_over_state_flow, law_turn_over_word_flow,

@@ -6,7 +6,7 @@ use crate::sender::Sender;
 use core::mem::replace_with;
 use flow_law::{FlowFault, FlowValue, Refused};
 use flow_shared::{Seat, SharedFlow, Watcher};
-use flow_turns::{Hub, WatchedHub};
+use flow_turns::{CountSince, Hub, WatchedHub};
 use std::alloc::{Allocator, Global};
 use std::marker::Model;
 use std::sync::Wait;
@@ -99,6 +99,18 @@ impl<'a, T: FlowValue, A: Allocator + Copy> Hub for SharedFlowHub<'a, T, A> {
 
 /// A change of the number of subscribers wakes the driver, and so do the end of its emission and `ask` of a `FlowStop`.
 impl<'a, T: FlowValue, A: Allocator + Copy> WatchedHub for SharedFlowHub<'a, T, A> {
+    ghost Came = { λ _ _. ⊥ };
+
+    fn count_since(&mut self) -> Result<CountSince, FlowFault> {
+        match self.count() {
+            Ok(count) => Ok(CountSince {
+                count,
+                has_come: false,
+            }),
+            Err(fault) => Err(fault),
+        }
+    }
+
     fn watch<R: Wait>(&mut self, rt: &R) {
         self.driver.watch(rt);
     }

@@ -4,7 +4,7 @@ ghost use Rattle.flow_sharing.specs.SeatedHub.{seated, made_two};
 
 use flow_law::{FlowFault, FlowValue, Refused};
 use flow_shared::{StateFlow, StateSeat, Watcher};
-use flow_turns::{Hub, WatchedHub};
+use flow_turns::{CountSince, Hub, WatchedHub};
 use std::alloc::{Allocator, Global};
 use std::marker::Model;
 use std::sync::Wait;
@@ -106,6 +106,18 @@ impl<'a, T: FlowValue, A: Allocator + Copy> Hub for StateFlowHub<'a, T, A> {
 
 /// A change of the number of subscribers wakes the driver, and so does `ask` of a `FlowStop`. No item of it ever waits.
 impl<'a, T: FlowValue, A: Allocator + Copy> WatchedHub for StateFlowHub<'a, T, A> {
+    ghost Came = { λ _ _. ⊥ };
+
+    fn count_since(&mut self) -> Result<CountSince, FlowFault> {
+        match self.count() {
+            Ok(count) => Ok(CountSince {
+                count,
+                has_come: false,
+            }),
+            Err(fault) => Err(fault),
+        }
+    }
+
     fn watch<R: Wait>(&mut self, rt: &R) {
         self.driver.watch(rt);
     }

@@ -1,9 +1,11 @@
 //! A state flow without a lock as the hub of a sharing.
-ghost use Rattle.std.specs.Prelude.{◌≡◌, false};
+ghost use Rattle.std.specs.Prelude.{◌≡◌, false, true, Ok};
+ghost use Rattle.flow_law.specs.SharingCalls.{counts};
 ghost use Rattle.flow_sharing.specs.SeatedHub.{seated, made_two};
+ghost use Rattle.flow_sharing.specs.WordHub.{HasCome, WordHubDoes};
 
 use flow_law::{FlowFault, Packed, Refused};
-use flow_turns::Hub;
+use flow_turns::{CountSince, Hub};
 use flow_word::{CountWatch, WordSeat, WordState};
 use std::marker::Model;
 
@@ -20,6 +22,8 @@ pub struct WordHub<'a, T: Packed> {
     initial: u64,
     /// The watch of the driver, if it watches: a change of the number of subscribers since the watch began wakes it.
     pub(crate) watch: Option<CountWatch<'a>>,
+    /// How many subscriptions the flow had accepted at the last count of a run, if there was one.
+    accepted: Option<u64>,
 }
 
 impl<'a, T: Packed> Model for WordHub<'a, T> {
@@ -32,8 +36,11 @@ impl<'a, T: Packed> Model for WordHub<'a, T> {
 
     ghost view = { λ h. state_seats h.flow.now h.watching h.sending (T.value_of h.initial) };
 
+    ghost use Rattle.flow_sharing.specs.WordHub.{HasCounted};
+
     ghost invariant = { λ h.
-        IsOf h.watching h.flow.now × IsOf h.sending h.flow.now × T.packs h.initial };
+        IsOf h.watching h.flow.now × IsOf h.sending h.flow.now × T.packs h.initial
+        × HasCounted h.flow.now.first h.watching h.accepted };
 }
 
 impl<'a, T: Packed> WordHub<'a, T> {
@@ -53,6 +60,7 @@ impl<'a, T: Packed> WordHub<'a, T> {
             sending,
             initial: initial.pack(),
             watch: None,
+            accepted: None,
         }
     }
 }
@@ -70,7 +78,7 @@ impl<'a, T: Packed> Hub for WordHub<'a, T> {
     ghost IsAlwaysReset = { Unit {0} };
 
     fn count(&mut self) -> Result<u64, FlowFault> {
-        Ok(self.flow.subscription_count(&mut self.watching))
+        Ok(self.counted_since().count)
     }
 
     fn put(&mut self, value: T) -> Result<bool, Refused<T>> {
@@ -89,5 +97,20 @@ impl<'a, T: Packed> Hub for WordHub<'a, T> {
     fn reset(&mut self) -> Result<(), FlowFault> {
         self.flow.set(&mut self.sending, T::unpack(self.initial));
         Ok(())
+    }
+}
+
+impl<'a, T: Packed> WordHub<'a, T> {
+    /// Counts the subscribers, and finds whether the flow has accepted a subscription since the last count.
+    pub(crate) fn counted_since(&mut self) -> CountSince
+        ensures counts { WordHubDoes counts self.old (Ok result.count) self.new }
+        ensures came { result.has_come ≡ true → HasCome self.old self.new }
+    {
+        let counts = self.flow.counts(&mut self.watching);
+        let last = self.accepted.replace(counts.accepted);
+        CountSince {
+            count: counts.subscribers,
+            has_come: last.is_some_and(|accepted| accepted < counts.accepted),
+        }
     }
 }

@@ -1,7 +1,7 @@
 //! How the driver of a sharing over a word state sleeps, and how its run is asked to stop.
 use crate::word_hub::WordHub;
-use flow_law::Packed;
-use flow_turns::{StopSignal, WatchedHub};
+use flow_law::{FlowFault, Packed};
+use flow_turns::{CountSince, StopSignal, WatchedHub};
 use flow_word::WordState;
 use std::sync::Wait;
 use std::sync::atomic::{AtomicBool, Ordering};
@@ -9,6 +9,14 @@ use std::time::Duration;
 
 /// `subscribe` and `unsubscribe` wake the driver, and so does `ask` of a `WordStop`. No item of it ever waits.
 impl<'a, T: Packed> WatchedHub for WordHub<'a, T> {
+    ghost use Rattle.flow_sharing.specs.WordHub.{HasCome};
+
+    ghost Came = { HasCome };
+
+    fn count_since(&mut self) -> Result<CountSince, FlowFault> {
+        Ok(self.counted_since())
+    }
+
     fn watch<R: Wait>(&mut self, _rt: &R) {
         self.watch = Some(self.flow.watch_count());
     }

@@ -2,3 +2,4 @@ pub mod StepLemmas
 pub mod OverCoresLemmas
 pub mod RunLemmas
 pub mod ReadLemmas
+pub mod PassingLemmas

@@ -192,7 +192,7 @@ module _ {T H : Type 0} (does : (c : HubCall T) → H → HubAnswer c → H → 
   fits-begin all StopAndReset s = fits-some _ (some-work StopAndReset all (record s { runs = false; kept = None; cancel_due = true; reset_due = true }))
   fits-begin all Keep s = fits-some _ (some-work Keep all s)
 
-  fits-count : (started : Started) (now : ℕ) (seen : List SharingObservation) (s : SharingState T) (a : Result ℕ FlowFault) → Fits (after_count started now seen s a)
+  pub fits-count : (started : Started) (now : ℕ) (seen : List SharingObservation) (s : SharingState T) (a : Result ℕ FlowFault) → Fits (after_count started now seen s a)
   fits-count started now seen s (Ok count) =
       let all : List SharingObservation = record { moment = now; count = count } ∷ seen in
       by-if Fits (nat_lt now (last_moment seen)) _ _ (λ e. fits-some _ (some-answers _)) (λ e. fits-begin all (newest_command started all) s)
@@ -213,7 +213,7 @@ module _ {C H T R : Type 0} (reads : C → R → Type 0) (whole rest : C → R �
   hub-along c s t a u is told =
       (t.hub, refl, subst (λ x. HubActs does waits c x a t.hub) (sym is) (hub-call c s t a told))
 
-  hub-takes : (steps : TurnSteps T) (old new : Parts C H) (r : Turned T) → Takes (ActsBy reads whole rest does waits) steps old r new → Takes (HubActs does waits) steps old.hub r new.hub
+  pub hub-takes : (steps : TurnSteps T) (old new : Parts C H) (r : Turned T) → Takes (ActsBy reads whole rest does waits) steps old r new → Takes (HubActs does waits) steps old.hub r new.hub
   hub-takes steps old new r h =
       let told = takes-along (ActsBy reads whole rest does waits) (HubActs does waits) (λ s u. u ≡ s.hub) hub-along steps old new old.hub r refl h in
       subst (Takes (HubActs does waits) steps old.hub r) told.1 told.2

@@ -5,6 +5,7 @@ pub mod Lending
 pub mod OverCores
 pub mod Policy
 pub mod ShareIn
+pub mod Passing
 pub mod Restarting
 pub mod Runs
 pub mod SharingViews

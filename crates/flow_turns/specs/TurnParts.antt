@@ -11,7 +11,7 @@ use Rattle.flow_law.specs.ChainRun.{ChainRun}
 use Rattle.flow_law.specs.Sharing.{runs_after}
 use Rattle.flow_law.specs.Steps.{Takes}
 use Rattle.flow_law.specs.SharingCalls.{HubCall, HubAnswer, TurnCall, TurnAnswer, to_hub, asks, rewinds, AskDoes, HubStep}
-use Rattle.flow_law.specs.SharingTurn.{SharingState, Turned, TurnSteps, refusal, reported, begin, work, turn_steps}
+use Rattle.flow_law.specs.SharingTurn.{SharingState, Turned, TurnSteps, refusal, reported, begin, work, after_count, turn_steps}
 use Rattle.flow_turns.specs.declared.sharing.Sharing.{Sharing}
 use Rattle.flow_turns.specs.SharingViews.{sharing_state, HasObserved}
 
@@ -84,3 +84,10 @@ module _ {C H T : Type 0} (acts : (c : TurnCall T) → Parts C H → TurnAnswer 
       (started : Started) (seen : List SharingObservation) → HasObserved started old seen →
       (all : List SharingObservation) × HasObserved started new all
       × Takes acts (turn_steps started now seen (sharing_state old)) (sharing_parts old) (record { answer = result; seen = all; state = sharing_state new }) (sharing_parts new)
+
+  -- after this count the sharing takes the steps that are left of a turn, and has then observed what the turn says
+  abbrev pub FollowsCount : ℕ → ℕ → Sharing C H T → Result Report ShareFault → Sharing C H T → Type 0
+  FollowsCount now count counted result new =
+      (started : Started) (seen : List SharingObservation) → HasObserved started counted seen →
+      (all : List SharingObservation) × HasObserved started new all
+      × Takes acts (after_count started now seen (sharing_state counted) (Ok count)) (sharing_parts counted) (record { answer = result; seen = all; state = sharing_state new }) (sharing_parts new)

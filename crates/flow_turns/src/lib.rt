@@ -50,6 +50,7 @@ mod ending;
 mod hub;
 mod laws;
 mod lend;
+mod passing;
 mod policy;
 mod run;
 mod share;
@@ -57,6 +58,7 @@ mod sharing;
 mod state_hub;
 mod state_subscribers;
 mod turn;
+mod watched;
 
 pub use core_hub::CoreHub;
 pub use ending::NotEnded;
@@ -67,7 +69,8 @@ pub use flow_law::{
 pub use hub::Hub;
 pub use laws::{law_turn_over_core, law_turn_over_state_core};
 pub use policy::{Backwards, Policy};
-pub use run::{StopSignal, WatchedHub};
+pub use run::StopSignal;
 pub use share::{share_in, sharing_config, state_in};
 pub use sharing::Sharing;
 pub use state_hub::StateHub;
+pub use watched::{CountSince, WatchedHub};

@@ -4,35 +4,19 @@ ghost use Rattle.std.specs.Bool.{OnTrue};
 ghost use Rattle.std.specs.Duration.{as_nanos};
 ghost use Rattle.flow_law.specs.declared.chain.End.{End};
 ghost use Rattle.flow_law.specs.Sharing.{never};
+ghost use Rattle.flow_turns.specs.Passing.{report_alone};
 ghost use Rattle.flow_turns.specs.Policy.{ActsNext, SleepsTo};
 ghost use Rattle.flow_turns.specs.SharingViews.{sharing_chain, last_observed_at, CanRun, KeepsReadings};
-ghost use Rattle.flow_turns.specs.Runs.{RunsTo, RunsBy, RunsToEnd, RunsToEndBy, TurnsByClock};
-ghost use Rattle.flow_turns.specs.TurnClauses.{TakesSomeTurn};
+ghost use Rattle.flow_turns.specs.Runs.{RunsTo, RunsBy, RunsToEnd, RunsToEndBy, SomeRunTurn, TurnsByClock};
 
-use crate::hub::Hub;
+use crate::passing::RunReport;
 use crate::sharing::Sharing;
+use crate::watched::WatchedHub;
 use flow_cold::Cold;
-use flow_law::{Event, Report, ShareFault};
+use flow_law::{Event, ShareFault};
 use std::sync::Wait;
 use std::thread::yield_now;
 use std::time::{Clock, Duration};
-
-/// A hub whose driver can sleep until there is something to do.
-pub trait WatchedHub: Hub {
-    /// Begins a watch: a change after the calls of the next turn wakes the driver.
-    fn watch<R: Wait>(&mut self, rt: &R)
-        ensures { self.new ≡ self.old };
-
-    /// Ends the watch, and sleeps until a subscriber has subscribed or unsubscribed, or the hub's emission has ended,
-    /// since the calls of that turn, until the run is asked to stop, or for `most`, if that is given. It may return
-    /// early.
-    fn sleep<R: Wait>(&mut self, rt: &R, most: Option<Duration>)
-        ensures { self.new ≡ self.old };
-
-    /// Ends the watch without sleeping.
-    fn unwatch(&mut self)
-        ensures { self.new ≡ self.old };
-}
 
 /// A signal by which a run is asked to stop.
 pub trait StopSignal {
@@ -109,18 +93,21 @@ impl<C: Cold, H: WatchedHub<Item = C::Item>> Sharing<C, H> {
         self.hub.sleep(rt, most);
     }
 
-    /// Rests after a turn with this event. If there is nothing to do, begins a watch for the next turn, or, after a
+    /// Rests after a turn, unless it observed a subscriber that had left. If there is nothing to do, begins a watch for the next turn, or, after a
     /// watched turn that did not come to `Queued`, sleeps. Returns whether the hub watches the next turn.
     fn rest<R: Wait + Clock, S: StopSignal>(
         &mut self,
         rt: &R,
         stop: &S,
-        event: Event,
+        turned: RunReport,
         watches: bool,
     ) -> bool
         ensures { self.new ≡ self.old }
     {
-        match event {
+        if turned.has_passed {
+            return watches;
+        }
+        match turned.report.event {
             Event::Put => self.unwatch(),
             Event::Pending | Event::Busy => {
                 self.unwatch();
@@ -137,16 +124,16 @@ impl<C: Cold, H: WatchedHub<Item = C::Item>> Sharing<C, H> {
     }
 
     /// Takes a turn at the moment of the clock. If the turn is refused, it ends the watch of the hub.
-    fn turn_by_clock<R: Clock>(&mut self, rt: &R) -> Result<Report, ShareFault>
+    fn turn_by_clock<R: Clock>(&mut self, rt: &R) -> Result<RunReport, ShareFault>
         requires { CanRun C.CanAsk self.old }
         ensures callable { CanRun C.CanAsk self.new }
         ensures reads { KeepsReadings C.Reads (sharing_chain self.old) (sharing_chain self.new) }
-        ensures turn { TurnsByClock C.Reads C.whole C.rest H.does H.waits
-            self.old result self.new }
+        ensures turn { TurnsByClock C.Reads C.whole C.rest H.does H.waits H.Came
+            self.old (report_alone result) self.new }
     {
         let now = moment_of(rt, self.policy.last());
-        match self.turn(now) {
-            Ok(report) => Ok(report),
+        match self.turn_since(now) {
+            Ok(turned) => Ok(turned),
             Err(fault) => {
                 self.unwatch();
                 Err(fault)
@@ -157,8 +144,9 @@ impl<C: Cold, H: WatchedHub<Item = C::Item>> Sharing<C, H> {
     /// Takes turns until the run is asked to stop.
     ///
     /// The moments are those of the monotonic clock, in milliseconds, and none is before the last moment of an earlier
-    /// turn. The driver sleeps while the sharing does not run, while its emission waits, and when the chain has ended.
-    /// It is woken when a subscriber subscribes or unsubscribes, when its emission ends, and at the moment of the stop
+    /// turn. If no subscriber is counted, but one has come since the last turn, a turn observes one, and the next turn
+    /// follows at once. The driver sleeps while the sharing does not run, while its emission waits, and when the chain has
+    /// ended. It is woken when a subscriber subscribes or unsubscribes, when its emission ends, and at the moment of the stop
     /// or of the expiry.
     ///
     /// An emission that waits when the run is asked to stop stays in the flow, and the next run continues with it.
@@ -179,9 +167,10 @@ impl<C: Cold, H: WatchedHub<Item = C::Item>> Sharing<C, H> {
         ensures callable { CanRun C.CanAsk self.new }
         ensures reads { KeepsReadings C.Reads (sharing_chain self.old) (sharing_chain self.new) }
         ensures turns { (m : C.Reading) → C.Reads (sharing_chain self.old) m
-            → RunsTo (λ c. C.whole c m) (λ c. C.rest c m) H.does H.waits self.old result self.new }
+            → RunsTo (λ c. C.whole c m) (λ c. C.rest c m) H.does H.waits H.Came
+            self.old result self.new }
         // The same of a chain without a reading, whatever it answers.
-        ensures any_turns { RunsBy (TakesSomeTurn H.does H.waits) self.old result self.new }
+        ensures any_turns { RunsBy (SomeRunTurn H.does H.waits H.Came) self.old result self.new }
         ensures asked { IfOk result (λ _. S.WasAsked stop.now) }
     {
         let mut watches = false;
@@ -191,7 +180,7 @@ impl<C: Cold, H: WatchedHub<Item = C::Item>> Sharing<C, H> {
                 return Ok(());
             }
             match self.turn_by_clock(rt) {
-                Ok(report) => watches = self.rest(rt, stop, report.event, watches),
+                Ok(turned) => watches = self.rest(rt, stop, turned, watches),
                 Err(fault) => return Err(fault),
             }
         }
@@ -213,21 +202,22 @@ impl<C: Cold, H: WatchedHub<Item = C::Item>> Sharing<C, H> {
         ensures reads { KeepsReadings C.Reads (sharing_chain self.old) (sharing_chain self.new) }
         ensures turns { (m : C.Reading) → C.Reads (sharing_chain self.old) m
             → RunsToEnd (λ c. C.whole c m)
-            (λ c. C.rest c m) H.does H.waits self.old result self.new }
-        ensures any_turns { RunsToEndBy (TakesSomeTurn H.does H.waits) self.old result self.new }
+            (λ c. C.rest c m) H.does H.waits H.Came self.old result self.new }
+        ensures any_turns { RunsToEndBy (SomeRunTurn H.does H.waits H.Came)
+            self.old result self.new }
     {
         let mut watches = false;
         for _ in rt.forever() {
-            let event = match self.turn_by_clock(rt) {
-                Ok(report) => report.event,
+            let turned = match self.turn_by_clock(rt) {
+                Ok(turned) => turned,
                 Err(refused) => return Err(refused),
             };
-            match event {
+            match turned.report.event {
                 Event::Completed => {
                     self.unwatch();
                     return Ok(());
                 }
-                _ => watches = self.rest(rt, &NoStop, event, watches),
+                _ => watches = self.rest(rt, &NoStop, turned, watches),
             }
         }
         unreachable!()

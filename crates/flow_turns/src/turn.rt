@@ -56,7 +56,7 @@ impl<C: Cold, H: Hub<Item = C::Item>> Sharing<C, H> {
     }
 
     /// Takes the steps after the command: starts or stops the chain, does what is due, and then emits an item.
-    fn carry_out(&mut self, command: Command) -> Result<Event, ShareFault>
+    pub(crate) fn carry_out(&mut self, command: Command) -> Result<Event, ShareFault>
         requires { CanRun C.CanAsk self.old }
         ensures steps { CommandComesTo (ActsBy C.Reads C.whole C.rest H.does H.waits)
             command self.old result self.new }

@@ -1,5 +1,5 @@
 -- Each step on a word keeps the rule of the table. Begin with `makes_event`: a step that is the one event of a call.
-use Rattle.std.proofs.Common.{◌≡◌, ◌≢◌, ℕ, ◌≤◌, Bool, true, false, eqb, eq-eqb, ne_eqb, ◌%◌, ◌<◌, List, [], ◌∷◌, ◌++◌, map, length, get_or, set, Option, refl, sym, ap, ◌∙◌, subst, inl, inr, le_refl, arith}
+use Rattle.std.proofs.Common.{◌≡◌, ◌≢◌, ℕ, ◌≤◌, Bool, true, false, eqb, eq-eqb, ne_eqb, ◌%◌, ◌/◌, ◌<◌, List, [], ◌∷◌, ◌++◌, map, length, get_or, set, Option, refl, sym, ap, ◌∙◌, subst, inl, inr, le_refl, arith}
 use mathlib.Core.Logic.{dite}
 use mathlib.Core.Option.{none, some}
 use native.Mathlib.Decide.{ℕ_discrete}
@@ -31,7 +31,7 @@ use Rattle.flow_word.specs.declared.view.LastGot.{LastGot}
 use Rattle.flow_word.specs.declared.view.Start.{Start}
 use Rattle.flow_word.specs.View.{begun, known, in_call, only_in_view}
 use Rattle.flow_word.specs.Rule.{counts, IsFine, WordHolds}
-use Rattle.flow_word.specs.Steps.{StepMakes, reads, sets, exchanges, counts_live}
+use Rattle.flow_word.specs.Steps.{StepMakes, reads, sets, exchanges, counts_live, counts_all}
 
 module _ (T : Type 0) (packs : ℕ → Type 0) (value_of : ℕ → T) (start : Start) where
   abbrev V : Type 0
@@ -242,4 +242,24 @@ module _ (T : Type 0) (packs : ℕ → Type 0) (value_of : ℕ → T) (start : S
         tt,
         makes_event s r id me.0 call.SubscriptionCount y got (set s.words 1 found) r.word is at replies tt (set-get_or s.words 1 0 ∙ r.words) r.packed r.value,
         names_event s r id me.0 me.1 call.SubscriptionCount y got is at replies tt,
+      )
+
+  issued_is : (f : StateFlowState T) → IsCounted start.limit f → start.limit < 4294967296 → counts f / 4294967296 ≡ f.issued
+  issued_is f h fits = let a = h.live in let b = h.issued in omega arith
+
+  pub counting_all : (slots id : ℕ) (me : Me Unit V) → me.0 ≡ only_in_view me.0 ∷ [] → Allows Rule slots id me 1 (λ n. n) (counts_all value_of (step slots 1 0 0 none) me)
+  counting_all slots id me is s r n at small =
+      let found : ℕ = get_or s.words 1 0 in let f = now r.history in let y : StateReply T = reply.Counted (found % 4294967296) in let got = (only_in_view me.0).subscriber in
+      let told = counting slots id me is s r n at small in
+      let same : found ≡ counts f = ap (λ (z : List ℕ). get_or z 1 0) r.words in
+      let h' : StateHistory T = r.history ++ event_by (only_in_view me.0) r.history call.SubscriptionCount y ∷ [] in
+      let after : now h' ≡ f = after_all-snoc state_flow (begun value_of start) r.history (event_by (only_in_view me.0) r.history call.SubscriptionCount y) in
+      let issued : (now h').issued ≡ found / 4294967296 =
+      ap (λ (z : StateFlowState T). z.issued) after ∙ sym (issued_is f (counted s r) r.limit_fits) ∙ ap (λ (z : ℕ). z / 4294967296) (sym same) in
+      let P : Start → Type 0 = λ z. (state_after_all (begun value_of z) h').issued ≡ found / 4294967296 in (
+        told.0,
+        told.1,
+        told.2,
+        told.3,
+        (told.4, subst P (sym (started s r id me.0 is at)) issued),
       )

@@ -60,6 +60,12 @@ module _ {T : Type 0} (value_of : ℕ → T) where
   abbrev pub counts_live : Step Unit → Me Unit (List (Known T)) → ℕ → Me Unit (List (Known T)) → Type 0
   counts_live step before found after = StepMakes before SubscriptionCount (Counted (found % 4294967296)) after
 
+  -- `counts`: the same, and the upper half, which is the number of issued numbers
+  abbrev pub counts_all : Step Unit → Me Unit (List (Known T)) → ℕ → Me Unit (List (Known T)) → Type 0
+  counts_all step before found after =
+      counts_live step before found after
+      × ((state_after_all (begun value_of (only_in_view before.0).start) (only_in_view after.0).knows.seen).issued ≡ found / 4294967296)
+
   -- `unsubscribe` of the subscriber whose seat it is
   abbrev pub leaves : Step Unit → Me Unit (List (Known T)) → ℕ → Me Unit (List (Known T)) → Type 0
   leaves step before found after = (x : LastGot) → (only_in_view before.0).subscriber ≡ Some x → StepMakes before (Unsubscribe x.number) (Answered true) after

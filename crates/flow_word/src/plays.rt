@@ -2,7 +2,7 @@
 ghost use Rattle.std.specs.Prelude.{[], ◌++◌, map};
 ghost use Rattle.flow_law.specs.Growth.{makes, child};
 ghost use Rattle.flow_word.specs.View.{with_knows, first_in_view, others_in_view};
-ghost use Rattle.flow_word.specs.Steps.{reads, reads_by, sets, exchanges, counts_live, receives, leaves, finds_room, enters, observes, looks};
+ghost use Rattle.flow_word.specs.Steps.{reads, reads_by, sets, exchanges, counts_live, counts_all, receives, leaves, finds_room, enters, observes, looks};
 
 use crate::view::Known;
 use atomic_table::{Join, Play, Split};
@@ -41,6 +41,13 @@ pub(crate) struct Count;
 
 impl<T: Packed> Play<(), Sequence<Known<T>>> for Count {
     ghost then = { counts_live T.value_of };
+}
+
+/// A load of the counts, for `counts`.
+pub(crate) struct CountAll;
+
+impl<T: Packed> Play<(), Sequence<Known<T>>> for CountAll {
+    ghost then = { counts_all T.value_of };
 }
 
 /// A load of the value's word, for `next`.

@@ -4,11 +4,11 @@ ghost use Rattle.flow_law.specs.declared.call.StateCall.TheVariants as call;
 ghost use Rattle.flow_law.specs.declared.call.StateReply.TheVariants as reply;
 ghost use Rattle.flow_law.specs.declared.fault.FlowFault.TheVariants.{Exhausted};
 ghost use Rattle.flow_law.specs.declared.outcome.Next.TheVariants.{Gone};
-ghost use Rattle.flow_law.specs.StateFlow.{state_flow};
+ghost use Rattle.flow_law.specs.StateFlow.{state_flow, state_after_all};
 ghost use Rattle.flow_law.specs.Tokens.{SubscribesIn, NextsIn, UnsubscribesIn};
 ghost use Rattle.flow_law.specs.Promise.{CallsAtOnceIn};
 
-use crate::plays::{Count, Enter, FindRoom, Leave, Make, ReadBy, Receive};
+use crate::plays::{Count, CountAll, Enter, FindRoom, Leave, Make, ReadBy, Receive};
 use crate::token::{WordSeat, WordState, WordSubscription};
 use flow_law::{FlowFault, Next, Packed};
 use std::sync::Wait;
@@ -16,6 +16,13 @@ use std::thread;
 
 /// What a subscription adds to the counts: one number, and one subscriber.
 const ENTRY: u64 = (1 << 32) + 1;
+
+/// The subscribers of a flow, and the subscriptions that it has accepted since it was made.
+#[derive(Clone, Copy, Debug, PartialEq, Eq)]
+pub struct Counts {
+    pub subscribers: u64,
+    pub accepted: u64,
+}
 
 impl<T: Packed> WordState<T> {
     /// Tries to subscribe once. Returns `None` if another caller changed the counts in between.
@@ -135,5 +142,20 @@ impl<T: Packed> WordState<T> {
     {
         let word = self.table.shared.load::<Count>(&mut seat.seat, 1);
         word % (1 << 32)
+    }
+
+    /// Counts the subscribers as `subscription_count` does, and the subscriptions that the flow has accepted in all.
+    pub fn counts(&self, seat: &mut WordSeat<T>) -> Counts
+        requires { seat.old.table_id ≡ self.now.table_id }
+        ensures counted { CallsAtOnceIn state_flow self.now.first seat.old call.SubscriptionCount
+            (reply.Counted result.subscribers) seat.new }
+        ensures accepted { (state_after_all self.now.first seat.new.knows.seen).issued
+            ≡ result.accepted }
+    {
+        let word = self.table.shared.load::<CountAll>(&mut seat.seat, 1);
+        Counts {
+            subscribers: word % (1 << 32),
+            accepted: word / (1 << 32),
+        }
     }
 }

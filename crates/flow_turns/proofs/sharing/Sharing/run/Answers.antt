@@ -1,7 +1,6 @@
 use Rattle.std.proofs.Common.{sym, subst}
 use Rattle.flow_turns.specs.SharingViews.{sharing_chain, CanRun}
-use Rattle.flow_turns.specs.Runs.{TakesTurns}
-use Rattle.flow_turns.specs.TurnClauses.{TakesTurn, TakesSomeTurn}
+use Rattle.flow_turns.specs.Runs.{TakesTurns, RunTurn, SomeRunTurn}
 use Rattle.flow_turns.proofs.RunLemmas.{run-begins, run-goes_on, run-refused, run-refused-some}
 use Rattle.flow_turns.proofs.sharing.Sharing.run.Goals as goal
 
@@ -22,7 +21,7 @@ returns-then-is_asked-clause-reads g c = λ m r. subst (λ s. g.C.Cold.Reads (sh
 
 pub returns-then-is_asked-clause-turns : goal.returns-then-is_asked-clause-turns
 returns-then-is_asked-clause-turns g c = λ m r.
-    subst (TakesTurns (TakesTurn (λ x. g.C.Cold.whole x m) (λ x. g.C.Cold.rest x m) g.H.Hub.does g.H.Hub.waits) c.args.self.now) (sym c.unwatch.ensures)
+    subst (TakesTurns (RunTurn (λ x. g.C.Cold.whole x m) (λ x. g.C.Cold.rest x m) g.H.Hub.does g.H.Hub.waits g.H.WatchedHub.Came) c.args.self.now) (sym c.unwatch.ensures)
     (c.loop.invariant.2.turns m r)
 
 pub returns-in-Err-clause-any_turns : goal.returns-in-Err-clause-any_turns
@@ -30,4 +29,4 @@ returns-in-Err-clause-any_turns g c = run-refused-some _ c.loop.invariant.2 c.in
 
 pub returns-then-is_asked-clause-any_turns : goal.returns-then-is_asked-clause-any_turns
 returns-then-is_asked-clause-any_turns g c =
-    subst (TakesTurns (TakesSomeTurn g.H.Hub.does g.H.Hub.waits) c.args.self.now) (sym c.unwatch.ensures) c.loop.invariant.2.some
+    subst (TakesTurns (SomeRunTurn g.H.Hub.does g.H.Hub.waits g.H.WatchedHub.Came) c.args.self.now) (sym c.unwatch.ensures) c.loop.invariant.2.some

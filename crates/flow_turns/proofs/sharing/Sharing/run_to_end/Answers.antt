@@ -1,5 +1,5 @@
 use Rattle.std.proofs.Common.{Ok, sym, subst}
-use Rattle.flow_turns.specs.TurnClauses.{TakesTurn, TakesSomeTurn}
+use Rattle.flow_turns.specs.Runs.{RunTurn, SomeRunTurn}
 use Rattle.flow_turns.proofs.RunLemmas.{run-begins, run-goes_on, run-refused, run-refused-some}
 use Rattle.flow_turns.proofs.sharing.Sharing.run_to_end.Goals as goal
 
@@ -24,7 +24,7 @@ returns-in-Completed-clause-turns g c = λ m r.
       now = told.now;
       later = told.later;
       report = c.in-Ok.report;
-      last = subst (TakesTurn (λ x. g.C.Cold.whole x m) (λ x. g.C.Cold.rest x m) g.H.Hub.does g.H.Hub.waits told.now c.loop.self (Ok c.in-Ok.report)) (sym c.unwatch.ensures)
+      last = subst (RunTurn (λ x. g.C.Cold.whole x m) (λ x. g.C.Cold.rest x m) g.H.Hub.does g.H.Hub.waits g.H.WatchedHub.Came told.now c.loop.self (Ok c.in-Ok.report)) (sym c.unwatch.ensures)
           (told.read m (c.loop.invariant.2.kept m r));
       completed = c.in-Completed.is;
     }
@@ -38,6 +38,6 @@ returns-in-Completed-clause-any_turns g c =
       now = told.now;
       later = told.later;
       report = c.in-Ok.report;
-      last = subst (TakesSomeTurn g.H.Hub.does g.H.Hub.waits told.now c.loop.self (Ok c.in-Ok.report)) (sym c.unwatch.ensures) told.some;
+      last = subst (SomeRunTurn g.H.Hub.does g.H.Hub.waits g.H.WatchedHub.Came told.now c.loop.self (Ok c.in-Ok.report)) (sym c.unwatch.ensures) told.some;
       completed = c.in-Completed.is;
     }

@@ -15,5 +15,5 @@ returns-in-Err-clause-reads g c = λ m r. subst (λ s. g.C.Cold.Reads (sharing_c
 
 pub returns-in-Err-clause-turn : goal.returns-in-Err-clause-turn
 returns-in-Err-clause-turn g c =
-    subst (TurnsByClock g.C.Cold.Reads g.C.Cold.whole g.C.Cold.rest g.H.Hub.does g.H.Hub.waits c.args.self.now (Err c.in-Err.fault)) (sym c.unwatch.ensures)
+    subst (TurnsByClock g.C.Cold.Reads g.C.Cold.whole g.C.Cold.rest g.H.Hub.does g.H.Hub.waits g.H.WatchedHub.Came c.args.self.now (Err c.in-Err.fault)) (sym c.unwatch.ensures)
     (record { now = c.moment_of-now.result; later = rw c.last.ensures at c.moment_of-now.ensures; some = c.in-Err.ensures.any_turn; read = c.in-Err.ensures.turn })

@@ -1,0 +1,89 @@
+//! Subscribers that come and leave while a run sleeps: each is observed, though the run finds nobody.
+use crate::compare::compare;
+use crate::flows::{new_word_reader, new_word_state};
+use crate::sharing::beside::{Follows, run_beside};
+use crate::sharing::shared::{chain_of, share_into_word};
+use flow_law::{Command, Event, Report, Started};
+use flow_sharing::{StopSignal, WordStop};
+use flow_word::WordSetter;
+use std::alloc::Global;
+use std::process::Abort;
+use std::sync::Wait;
+use std::thread::{Threads, sleep};
+use std::time::{Clock, Duration};
+
+/// A stop that is asked for once the chain has set the state, after a subscriber that came and left.
+#[derive(Drop)]
+struct AfterVisit<'a> {
+    stop: WordStop<'a, i64>,
+}
+
+impl StopSignal for AfterVisit<'_> {
+    fn is_asked(&self) -> bool {
+        self.stop.is_asked()
+    }
+}
+
+impl<'a> Follows<WordSetter<'a, i64>> for AfterVisit<'a> {
+    fn follow<R: Wait + Clock + Abort>(&self, rt: &R, caller: &mut WordSetter<'a, i64>) -> bool {
+        let mut reader = new_word_reader(rt, caller);
+        let _value = reader.changed(rt);
+        drop(reader);
+        let has_started = waits_for_item(rt, caller);
+        self.stop.ask();
+        has_started
+    }
+}
+
+/// Waits until the chain's item is the state, without subscribing. Returns false after a bounded number of checks.
+fn waits_for_item<R: Clock>(rt: &R, caller: &mut WordSetter<'_, i64>) -> bool {
+    for _ in 0..100_000 {
+        if caller.value() == 239 {
+            return true;
+        }
+        sleep(rt, Duration::from_micros(20));
+    }
+    false
+}
+
+/// Shares a chain of 239 into a new state, and runs it beside a subscriber that comes and leaves.
+fn visit_once<R: Threads + Wait + Clock + Abort + Sync>(rt: &R, alloc: Global) {
+    let (flow, mut seat) = new_word_state(rt, alloc, 42, u32::MAX);
+    let mut sharing = share_into_word(
+        &flow,
+        &mut seat,
+        chain_of(rt, alloc, &[239]),
+        Started::Lazily,
+    );
+    compare(rt, "nobody", sharing.turn(0).is_ok(), true);
+    let stop = AfterVisit {
+        stop: WordStop::new(&flow),
+    };
+    run_beside(rt, &mut sharing, &stop, &mut flow.setter(seat));
+}
+
+/// `flowOf(239).stateIn(scope, Lazily, 42)` starts with a subscriber that takes one value and leaves at once, in each of
+/// 1,000 rounds (`ShareInTest.testShouldStart`).
+#[test]
+fn a_momentary_subscriber_starts_the_chain(rt: HostRuntime) {
+    for _round in 0..1000 {
+        visit_once(&rt, rt.alloc());
+    }
+}
+
+/// Without other threads: after a subscriber that came and left, a run needs no present one to start the chain.
+#[test]
+fn a_run_starts_after_a_visit(rt: HostRuntime) {
+    let (flow, mut seat) = new_word_state(&rt, rt.alloc(), 42, u32::MAX);
+    let chain = chain_of(&rt, rt.alloc(), &[239]);
+    let mut sharing = share_into_word(&flow, &mut seat, chain, Started::Lazily);
+    let rests = Report {
+        command: Command::Keep,
+        event: Event::Idle,
+    };
+    compare(&rt, "nobody", sharing.turn(0), Ok(rests));
+    let mut setter = flow.setter(seat);
+    drop(new_word_reader(&rt, &mut setter));
+    compare(&rt, "the run", sharing.run_to_end(&rt), Ok(()));
+    compare(&rt, "the state", setter.value(), 239);
+}
