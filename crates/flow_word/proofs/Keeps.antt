@@ -248,6 +248,7 @@ module _ (T : Type 0) (packs : ℕ → Type 0) (value_of : ℕ → T) (start : S
   issued_is f h fits = let a = h.live in let b = h.issued in omega arith
 
   pub counting_all : (slots id : ℕ) (me : Me Unit V) → me.0 ≡ only_in_view me.0 ∷ [] → Allows Rule slots id me 1 (λ n. n) (counts_all value_of (step slots 1 0 0 none) me)
+  unfolding counting
   counting_all slots id me is s r n at small =
       let found : ℕ = get_or s.words 1 0 in let f = now r.history in let y : StateReply T = reply.Counted (found % 4294967296) in let got = (only_in_view me.0).subscriber in
       let told = counting slots id me is s r n at small in
