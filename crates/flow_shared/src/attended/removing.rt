@@ -12,7 +12,7 @@ use flow_law::Touch;
 use flow_sleepers::Woken;
 use std::alloc::{Allocator, Global};
 
-/// The sleepers that a call removed. They are woken after it has left the gate. It has no `Drop`: it ends by `wake`.
+/// The sleepers that a call removed and that are woken after it has left the gate. It has no `Drop`: it ends by `wake`.
 pub(crate) struct ToWake<A: Allocator = Global> {
     pub(crate) readers: Woken<A>,
     pub(crate) emitters: Woken<A>,
