@@ -81,6 +81,13 @@ impl<R: Drop, A: Allocator> Members<R, A> {
         }
     }
 
+    /// Returns the number of the subscriber that came last, or 0.
+    pub fn last(&self) -> u64
+        ensures { result ≡ self.now.last }
+    {
+        self.last
+    }
+
     /// Returns the number of subscribers.
     pub fn len(&self) -> usize
         ensures value { result ≡ length self.now.members }

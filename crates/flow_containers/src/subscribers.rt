@@ -67,6 +67,13 @@ impl<T: Drop, A: Allocator> Subscribers<T, A> {
         self.members.len()
     }
 
+    /// Returns the number of the subscriber that came last, or 0.
+    pub fn last(&self) -> u64
+        ensures { result ≡ self.now.last }
+    {
+        self.members.last()
+    }
+
     pub fn emitted(&self) -> u64
         ensures { result ≡ self.now.emitted }
     {

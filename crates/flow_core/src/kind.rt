@@ -59,6 +59,8 @@ pub struct Signs {
     /// The number of the first emission that waits.
     pub first_waiting: Option<u64>,
     pub subscribers: u64,
+    /// The number of the subscriber that came last, or 0.
+    pub last_subscriber: u64,
 }
 
 /// Receiving, leaving, and what tells whom to wake: all that a reader calls.

@@ -194,6 +194,7 @@ impl<S: ReaderCalls + Drop, A: Allocator + Copy> Flow<S, A> {
         ensures { Counts S.kind self.now seat.old result seat.new }
     {
         self.call(rt, seat, Count::new(), &mut Sleepless)
+            .subscribers
     }
 
     /// Counts the subscribers if no other caller is inside; otherwise returns `Busy`.
@@ -201,7 +202,9 @@ impl<S: ReaderCalls + Drop, A: Allocator + Copy> Flow<S, A> {
         requires { seat.old.table_id ≡ self.now.table_id }
         ensures { CountsNow S.kind self.now seat.old result seat.new }
     {
-        let count = self.call_by(&AtOnce, seat, Count::new(), &mut Sleepless);
-        count.map_err(|_call| FlowFault::Busy)
+        match self.call_by(&AtOnce, seat, Count::new(), &mut Sleepless) {
+            Ok(signs) => Ok(signs.subscribers),
+            Err(_call) => Err(FlowFault::Busy),
+        }
     }
 }

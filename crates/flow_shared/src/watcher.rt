@@ -9,7 +9,7 @@ use crate::core_call::{CoreCall, Made, Then, Watching};
 use crate::flow::Flow;
 use crate::handles::FlowCaller;
 use crate::token::{Emission, FlowSeat, PolledNow};
-use flow_core::{FlowCore, ReaderCalls, SharedCore};
+use flow_core::{FlowCore, ReaderCalls, SharedCore, Signs};
 use flow_law::{FlowFault, FlowValue};
 use flow_sleepers::ThreadWaiter;
 use std::alloc::{Allocator, Global};
@@ -33,21 +33,21 @@ impl Count {
 }
 
 impl<S: ReaderCalls> CoreCall<S> for Count {
-    type Answer = u64;
+    type Answer = Signs;
 
     ghost call = { λ c name. S.kind.count };
 
-    ghost reply = { λ count. S.kind.counted count };
+    ghost reply = { λ signs. S.kind.counted signs.subscribers };
 
-    ghost then = { λ c count. after_counting c.watching };
+    ghost then = { λ c signs. after_counting c.watching };
 
     #[inline(always)]
-    fn run(self, core: &mut S) -> Made<u64> {
+    fn run(self, core: &mut S) -> Made<Signs> {
         let then = match self.watching {
             Some(watching) => Then::Watch(watching),
             None => Then::Leave,
         };
-        Made::before(core.signs().subscribers, then)
+        Made::before(core.signs(), then)
     }
 }
 
@@ -73,6 +73,9 @@ pub struct Watcher<A: Allocator = Global> {
     /// The number of its waker in the flow.
     number: u64,
     watch: Watch,
+    /// The number of the subscriber that had come last at the last count, if there was one.
+    last_subscriber: Option<u64>,
+    has_come: bool,
 }
 
 impl<A: Allocator + Copy> Watcher<A> {
@@ -87,6 +90,17 @@ impl<A: Allocator + Copy> Watcher<A> {
         if let Watch::Begins = self.watch {
             self.watch = Watch::Ends;
         }
+    }
+
+    /// Returns whether a subscriber has come between the last two counts by this watcher, also if it has left since.
+    pub fn has_come(&self) -> bool {
+        self.has_come
+    }
+
+    /// Notes which subscriber had come last at a count.
+    fn note(&mut self, last_subscriber: u64) {
+        let before = self.last_subscriber.replace(last_subscriber);
+        self.has_come = before.is_some_and(|before| before < last_subscriber);
     }
 
     /// Ends a watch, and sleeps until a waker that was left is dropped, or for `most`, if that is given. It may return
@@ -104,6 +118,8 @@ impl<S: FlowCore + Drop, A: Allocator + Copy> Flow<S, A> {
             thread: ThreadWaiter::new(),
             number: self.watchers.fetch_add(1, Relaxed),
             watch: Watch::Away,
+            last_subscriber: None,
+            has_come: false,
         }
     }
 }
@@ -123,11 +139,16 @@ impl<S: ReaderCalls + Drop, A: Allocator + Copy> Flow<S, A> {
             Watch::Begins => Some(Watching::Begins(watcher.number)),
             Watch::Ends => Some(Watching::Ends(watcher.number)),
         };
-        let count = self.call_by(&AtOnce, seat, Count { watching }, &mut watcher.thread);
-        if let (Ok(_), Watch::Ends) = (&count, &watcher.watch) {
-            watcher.watch = Watch::Away;
+        match self.call_by(&AtOnce, seat, Count { watching }, &mut watcher.thread) {
+            Ok(signs) => {
+                if let Watch::Ends = watcher.watch {
+                    watcher.watch = Watch::Away;
+                }
+                watcher.note(signs.last_subscriber);
+                Ok(signs.subscribers)
+            }
+            Err(_call) => Err(FlowFault::Busy),
         }
-        count.map_err(|_call| FlowFault::Busy)
     }
 }
 
@@ -140,7 +161,9 @@ impl<'a, S: ReaderCalls + Drop, A: Allocator + Copy> FlowCaller<'a, S, A> {
         let count = Count {
             watching: Some(Watching::AllEnd),
         };
-        self.flow.call(rt, &mut self.seat, count, &mut Sleepless)
+        self.flow
+            .call(rt, &mut self.seat, count, &mut Sleepless)
+            .subscribers
     }
 }
 

@@ -99,13 +99,13 @@ impl<'a, T: FlowValue, A: Allocator + Copy> Hub for SharedFlowHub<'a, T, A> {
 
 /// A change of the number of subscribers wakes the driver, and so do the end of its emission and `ask` of a `FlowStop`.
 impl<'a, T: FlowValue, A: Allocator + Copy> WatchedHub for SharedFlowHub<'a, T, A> {
-    ghost Came = { λ _ _. ⊥ };
+    ghost Came = { λ _ _. ⊤ };
 
     fn count_since(&mut self) -> Result<CountSince, FlowFault> {
         match self.count() {
             Ok(count) => Ok(CountSince {
                 count,
-                has_come: false,
+                has_come: self.driver.has_come(),
             }),
             Err(fault) => Err(fault),
         }

@@ -106,13 +106,13 @@ impl<'a, T: FlowValue, A: Allocator + Copy> Hub for StateFlowHub<'a, T, A> {
 
 /// A change of the number of subscribers wakes the driver, and so does `ask` of a `FlowStop`. No item of it ever waits.
 impl<'a, T: FlowValue, A: Allocator + Copy> WatchedHub for StateFlowHub<'a, T, A> {
-    ghost Came = { λ _ _. ⊥ };
+    ghost Came = { λ _ _. ⊤ };
 
     fn count_since(&mut self) -> Result<CountSince, FlowFault> {
         match self.count() {
             Ok(count) => Ok(CountSince {
                 count,
-                has_come: false,
+                has_come: self.driver.has_come(),
             }),
             Err(fault) => Err(fault),
         }

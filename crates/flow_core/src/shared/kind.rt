@@ -58,6 +58,7 @@ impl<T: FlowValue, A: Allocator + Copy> ReaderCalls for SharedCore<T, A> {
             mark: SharedCore::emission_count(self),
             first_waiting: SharedCore::first_waiting(self),
             subscribers: SharedCore::subscription_count(self),
+            last_subscriber: self.subscribers.last(),
         }
     }
 }

@@ -56,6 +56,7 @@ impl<T: FlowValue, A: Allocator + Copy> ReaderCalls for StateCore<T, A> {
             mark: 0,
             first_waiting: None,
             subscribers: StateCore::subscription_count(self),
+            last_subscriber: self.subscribers.last(),
         }
     }
 }
