@@ -81,9 +81,7 @@ module _ {C H T R : Type 0} (reads : C → R → Type 0) (whole rest : C → R �
   pub read-passed : (m : R) → reads (sharing_chain old) m → TakesPassed (λ c. whole c m) (λ c. rest c m) does waits Came now old result new
   read-passed m is = (
     going,
-    counted.hub,
-    (told.0, came),
-    λ started seen stands.
+    (counted.hub, (told.0, came), λ started seen stands.
         let held : HasSeen started counted.policy seen = subst (λ p. HasSeen started p seen) (sym kept) stands in
         let after = follows started seen held in
         let last : Turned T = record { answer = result; seen = after.0; state = sharing_state new } in
@@ -96,16 +94,14 @@ module _ {C H T R : Type 0} (reads : C → R → Type 0) (whole rest : C → R �
           after.1,
           subst Q same_chain (subst P same
               (read-takes reads whole rest does waits m _ (sharing_parts counted) (sharing_parts new) _ (subst (λ c. reads c m) (sym same_chain) is) after.2)),
-        ),
+        )),
   )
 
   -- the turn, whatever the chain answers
   pub unread-passed : TakesSomePassed does waits Came now old result new
   unread-passed = (
     going,
-    counted.hub,
-    (told.0, came),
-    λ started seen stands.
+    (counted.hub, (told.0, came), λ started seen stands.
         let held : HasSeen started counted.policy seen = subst (λ p. HasSeen started p seen) (sym kept) stands in
         let after = follows started seen held in
         let last : Turned T = record { answer = result; seen = after.0; state = sharing_state new } in
@@ -114,5 +110,5 @@ module _ {C H T R : Type 0} (reads : C → R → Type 0) (whole rest : C → R �
           after.1,
           subst P same (fits-count does waits started now seen (sharing_state counted) (Ok 1) _ _ _
               (hub-takes reads whole rest does waits _ (sharing_parts counted) (sharing_parts new) _ after.2)),
-        ),
+        )),
   )

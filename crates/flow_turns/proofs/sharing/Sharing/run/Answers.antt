@@ -8,7 +8,7 @@ pub loop-init : goal.loop-init
 loop-init g c = (tt, tt, run-begins _ c.requires)
 
 pub loop-preserved : goal.loop-preserved
-loop-preserved g c = (tt, tt, run-goes_on c.in-Ok.report c.loop.invariant.2 c.rest-watches.ensures c.in-Ok.ensures.callable c.in-Ok.ensures.reads c.in-Ok.ensures.turn)
+loop-preserved g c = (tt, tt, run-goes_on c.in-Ok.turned.report c.loop.invariant.2 c.rest-watches.ensures c.in-Ok.ensures.callable c.in-Ok.ensures.reads c.in-Ok.ensures.turn)
 
 pub returns-in-Err-clause-turns : goal.returns-in-Err-clause-turns
 returns-in-Err-clause-turns g c = run-refused _ c.loop.invariant.2 c.in-Err.ensures.turn

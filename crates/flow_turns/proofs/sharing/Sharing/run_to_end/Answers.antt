@@ -7,7 +7,7 @@ pub loop-init : goal.loop-init
 loop-init g c = (tt, tt, run-begins _ c.requires)
 
 pub loop-preserved : goal.loop-preserved
-loop-preserved g c = (tt, tt, run-goes_on c.in-Ok.report c.loop.invariant.2 c.rest-watches.ensures c.in-Ok.ensures.callable c.in-Ok.ensures.reads c.in-Ok.ensures.turn)
+loop-preserved g c = (tt, tt, run-goes_on c.in-Ok.turned.report c.loop.invariant.2 c.rest-watches.ensures c.in-Ok.ensures.callable c.in-Ok.ensures.reads c.in-Ok.ensures.turn)
 
 pub returns-in-Err-clause-turns : goal.returns-in-Err-clause-turns
 returns-in-Err-clause-turns g c = run-refused _ c.loop.invariant.2 c.in-Err.ensures.turn
@@ -23,8 +23,8 @@ returns-in-Completed-clause-turns g c = λ m r.
       turns = c.loop.invariant.2.turns m r;
       now = told.now;
       later = told.later;
-      report = c.in-Ok.report;
-      last = subst (RunTurn (λ x. g.C.Cold.whole x m) (λ x. g.C.Cold.rest x m) g.H.Hub.does g.H.Hub.waits g.H.WatchedHub.Came told.now c.loop.self (Ok c.in-Ok.report)) (sym c.unwatch.ensures)
+      report = c.in-Ok.turned.report;
+      last = subst (RunTurn (λ x. g.C.Cold.whole x m) (λ x. g.C.Cold.rest x m) g.H.Hub.does g.H.Hub.waits g.H.WatchedHub.Came told.now c.loop.self (Ok c.in-Ok.turned.report)) (sym c.unwatch.ensures)
           (told.read m (c.loop.invariant.2.kept m r));
       completed = c.in-Completed.is;
     }
@@ -37,7 +37,7 @@ returns-in-Completed-clause-any_turns g c =
       turns = c.loop.invariant.2.some;
       now = told.now;
       later = told.later;
-      report = c.in-Ok.report;
-      last = subst (SomeRunTurn g.H.Hub.does g.H.Hub.waits g.H.WatchedHub.Came told.now c.loop.self (Ok c.in-Ok.report)) (sym c.unwatch.ensures) told.some;
+      report = c.in-Ok.turned.report;
+      last = subst (SomeRunTurn g.H.Hub.does g.H.Hub.waits g.H.WatchedHub.Came told.now c.loop.self (Ok c.in-Ok.turned.report)) (sym c.unwatch.ensures) told.some;
       completed = c.in-Completed.is;
     }
