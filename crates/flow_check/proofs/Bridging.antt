@@ -3,7 +3,7 @@
 use Rattle.std.proofs.Common.{ℕ, ◌+◌, ◌<◌, ◌≤◌, Bool, List, [], ◌∷◌, ◌++◌, length, Option, sym, ◌∙◌, arith}
 use Rattle.flow_law.specs.declared.history.HistoryEvent.{HistoryEvent}
 use Rattle.flow_law.specs.declared.history.Said.{Said}
-use Rattle.flow_law.specs.History.{Kind, IsHistory}
+use Rattle.flow_law.specs.history.History.{Kind, IsHistory}
 use Rattle.flow_check.specs.Records.{CallsByCaller}
 use Rattle.flow_check.specs.Orders.{turns_of}
 use Rattle.flow_check.specs.Remaining.{placing, IsStep, GoesThrough}

@@ -8,7 +8,7 @@ use Rattle.std.proofs.lemmas.List.{length-map}
 use Rattle.std.proofs.lemmas.Simd.{map-map}
 use Rattle.flow_law.specs.declared.history.HistoryEvent.{HistoryEvent}
 use Rattle.flow_law.specs.declared.history.Said.{Said}
-use Rattle.flow_law.specs.History.{Kind}
+use Rattle.flow_law.specs.history.History.{Kind}
 use Rattle.flow_law.proofs.Rows.{split}
 use Rattle.flow_check.specs.declared.timed.Timed.{Timed}
 use Rattle.flow_check.specs.declared.moments.Cut.{Cut}

@@ -7,7 +7,7 @@ use Rattle.std.proofs.lemmas.Option.{slice_get_within, same_Some}
 use Rattle.std.proofs.lemmas.Bool.Decides.{leb_tells}
 use Rattle.flow_law.specs.declared.history.HistoryEvent.{HistoryEvent}
 use Rattle.flow_law.specs.declared.history.Said.{Said}
-use Rattle.flow_law.specs.History.{Kind, IsHistory}
+use Rattle.flow_law.specs.history.History.{Kind, IsHistory}
 use Rattle.flow_law.proofs.Owners.{history_left}
 use Rattle.flow_law.proofs.Rows.{split}
 use Rattle.flow_check.specs.declared.timed.Timed.{Timed}

@@ -7,17 +7,17 @@ use Rattle.std.specs.Cmp.Derive.{both_true}
 use Rattle.std.proofs.lemmas.Bool.{cond-false, and_parts, or_cases, or_left}
 use Rattle.std.proofs.lemmas.List.{take-append-drop, length-drop}
 use Rattle.flow_law.specs.declared.config.Config.{Config}
-use Rattle.flow_law.specs.History.{Owner}
+use Rattle.flow_law.specs.history.History.{Owner}
 use Rattle.flow_law.specs.declared.states.Numbered.{Numbered}
 use Rattle.flow_law.specs.declared.states.Subscriber.{Subscriber}
 use Rattle.flow_law.specs.declared.states.SharedFlowState.{SharedFlowState}
-use Rattle.flow_law.specs.SharedFlow.{move_to, with_own, without, stand_at}
-use Rattle.flow_law.specs.SharedFlow as law
-use Rattle.flow_law.specs.SharedStep as flow
+use Rattle.flow_law.specs.flow.SharedFlow.{move_to, with_own, without, stand_at}
+use Rattle.flow_law.specs.flow.SharedFlow as law
+use Rattle.flow_law.specs.flow.SharedStep as flow
 use Rattle.flow_law.proofs.Boxes.{admit_subscribers}
 use Rattle.flow_law.proofs.Rows.{split, position-move_to, position-move_to_other, position-with_own, own-with_own, own-with_own_other, own-move_to}
 use Rattle.flow_law.proofs.RowOrder.{InOrder}
-use Rattle.flow_law.specs.Laws.{RisesTo}
+use Rattle.flow_law.specs.laws.Laws.{RisesTo}
 use Rattle.flow_law.proofs.RowOrder.{numbers_of}
 use Rattle.flow_check.specs.Subscribed.{kept_of}
 use Rattle.flow_check.specs.SharedMachine.{Kept, most_lag, own_left, kept_capacity, trim, with_lag, with_own_kept as set_own}

@@ -3,12 +3,12 @@ use Rattle.std.proofs.Common.{◌≡◌, ℕ, Bool, true, not, ◌==◌, cond, L
 use Rattle.std.specs.Prelude.{filter}
 use Rattle.std.specs.List.{list_any}
 use Rattle.std.proofs.lemmas.Bool.{or_cases, or_left}
-use Rattle.flow_law.specs.History.{Owner}
+use Rattle.flow_law.specs.history.History.{Owner}
 use Rattle.flow_law.specs.declared.states.Numbered.{Numbered}
 use Rattle.flow_law.specs.declared.states.SharedFlowState.{SharedFlowState}
-use Rattle.flow_law.specs.SharedFlow.{stand_at}
-use Rattle.flow_law.specs.SharedFlow as law
-use Rattle.flow_law.specs.SharedStep as flow
+use Rattle.flow_law.specs.flow.SharedFlow.{stand_at}
+use Rattle.flow_law.specs.flow.SharedFlow as law
+use Rattle.flow_law.specs.flow.SharedStep as flow
 use Rattle.flow_law.proofs.Rows.{split}
 use Rattle.flow_law.proofs.RowOrder.{InOrder}
 use Rattle.flow_check.specs.SharedMachine.{Kept, cleared, settle_kept, withdraw_kept, cancel_kept}

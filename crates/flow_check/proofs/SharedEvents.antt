@@ -5,12 +5,12 @@ use Rattle.flow_law.specs.declared.config.Config.{Config}
 use Rattle.flow_law.specs.declared.history.HistoryEvent.{HistoryEvent}
 use Rattle.flow_law.specs.declared.history.Said.{Said}
 use Rattle.flow_law.specs.declared.call.SharedCall.{SharedCall}
-use Rattle.flow_law.specs.Growth.{event}
-use Rattle.flow_law.specs.Promise.{said}
-use Rattle.flow_law.specs.History.{Owner, with_owner, owners_all, MaySpeak}
+use Rattle.flow_law.specs.history.Growth.{event}
+use Rattle.flow_law.specs.history.Promise.{said}
+use Rattle.flow_law.specs.history.History.{Owner, with_owner, owners_all, MaySpeak}
 use Rattle.flow_law.specs.declared.states.SharedFlowState.{SharedFlowState}
-use Rattle.flow_law.specs.SharedFlow.{first_state}
-use Rattle.flow_law.specs.SharedHistory.{History, shared_flow, shared_after_all, after, answer_to, is_refused, gives, speaks_of}
+use Rattle.flow_law.specs.flow.SharedFlow.{first_state}
+use Rattle.flow_law.specs.flow.SharedHistory.{History, shared_flow, shared_after_all, after, answer_to, is_refused, gives, speaks_of}
 use Rattle.flow_law.proofs.HistoryLemmas.{after_all-snoc}
 use Rattle.flow_law.proofs.Owners.{owners_all-append}
 use Rattle.flow_law.proofs.RowOrder.{InOrder, always_in_order}

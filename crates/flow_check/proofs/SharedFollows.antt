@@ -8,13 +8,13 @@ use Rattle.flow_law.specs.declared.outcome.Next.{Next}
 use Rattle.flow_law.specs.declared.outcome.Next.TheVariants as next
 use Rattle.flow_law.specs.declared.call.SharedCall.TheVariants as call
 use Rattle.flow_law.specs.declared.call.SharedReply.TheVariants as reply
-use Rattle.flow_law.specs.Growth.{event}
-use Rattle.flow_law.specs.Promise.{said}
-use Rattle.flow_law.specs.History.{Owner, with_owner, owners_all, IsHistory}
+use Rattle.flow_law.specs.history.Growth.{event}
+use Rattle.flow_law.specs.history.Promise.{said}
+use Rattle.flow_law.specs.history.History.{Owner, with_owner, owners_all, IsHistory}
 use Rattle.flow_law.specs.declared.states.SharedFlowState.{SharedFlowState}
-use Rattle.flow_law.specs.SharedFlow.{position_of}
-use Rattle.flow_law.specs.SharedStep as flow
-use Rattle.flow_law.specs.SharedHistory.{History, shared_flow, shared_after_all, answer_to, is_refused, gives}
+use Rattle.flow_law.specs.flow.SharedFlow.{position_of}
+use Rattle.flow_law.specs.flow.SharedStep as flow
+use Rattle.flow_law.specs.flow.SharedHistory.{History, shared_flow, shared_after_all, answer_to, is_refused, gives}
 use Rattle.flow_law.proofs.Owners.{history_left, legal_right, owned_right}
 use Rattle.flow_check.specs.declared.shared_calls.SharedOperation.{SharedOperation}
 use Rattle.flow_check.specs.declared.shared_calls.SharedOperation.TheVariants as operation

@@ -8,10 +8,10 @@ use Rattle.flow_law.specs.declared.config.Overflow.{Overflow}
 use Rattle.flow_law.specs.declared.config.Overflow.TheVariants.{Suspend, DropOldest, DropLatest}
 use Rattle.flow_law.specs.declared.fault.FlowFault.{FlowFault}
 use Rattle.flow_law.specs.declared.fault.FlowFault.TheVariants.{TooLarge, NeedsBuffer}
-use Rattle.flow_law.specs.History.{IsHistory}
+use Rattle.flow_law.specs.history.History.{IsHistory}
 use Rattle.flow_law.specs.declared.states.SharedFlowState.{SharedFlowState}
-use Rattle.flow_law.specs.SharedFlow.{first_state, largest_capacity, needs_no_buffer, config_fault}
-use Rattle.flow_law.specs.SharedHistory.{shared_flow}
+use Rattle.flow_law.specs.flow.SharedFlow.{first_state, largest_capacity, needs_no_buffer, config_fault}
+use Rattle.flow_law.specs.flow.SharedHistory.{shared_flow}
 use Rattle.flow_check.specs.declared.verdict.Verdict.{Verdict}
 use Rattle.flow_check.specs.declared.verdict.Verdict.TheVariants.{Legal, Illegal, GaveUp}
 use Rattle.flow_check.specs.declared.shared_calls.SharedEntry.{SharedEntry}

@@ -8,12 +8,12 @@ use Rattle.flow_law.specs.declared.config.Config.{Config}
 use Rattle.flow_law.specs.declared.outcome.Next.TheVariants as next
 use Rattle.flow_law.specs.declared.call.SharedCall.TheVariants as call
 use Rattle.flow_law.specs.declared.call.SharedReply.TheVariants as reply
-use Rattle.flow_law.specs.History.{Owner, with_owner, owners_all, IsHistory}
+use Rattle.flow_law.specs.history.History.{Owner, with_owner, owners_all, IsHistory}
 use Rattle.flow_law.specs.declared.states.SharedFlowState.{SharedFlowState}
-use Rattle.flow_law.specs.SharedFlow.{is_exhausted}
-use Rattle.flow_law.specs.EmitRule as rule
-use Rattle.flow_law.specs.SharedStep as flow
-use Rattle.flow_law.specs.SharedHistory.{History, shared_flow, shared_after_all, answer_to, is_refused, gives}
+use Rattle.flow_law.specs.flow.SharedFlow.{is_exhausted}
+use Rattle.flow_law.specs.flow.EmitRule as rule
+use Rattle.flow_law.specs.flow.SharedStep as flow
+use Rattle.flow_law.specs.flow.SharedHistory.{History, shared_flow, shared_after_all, answer_to, is_refused, gives}
 use Rattle.flow_law.proofs.HistoryLemmas.{IsHistory-snoc}
 use Rattle.flow_law.proofs.Moves.{history_keeps}
 use Rattle.flow_check.specs.declared.shared_calls.SharedOperation.{SharedOperation}

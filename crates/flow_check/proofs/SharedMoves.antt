@@ -7,12 +7,12 @@ use Rattle.std.proofs.lemmas.Bool.Decides.{Decides-eqb, eqb_tells}
 use Rattle.std.proofs.lemmas.List.Folds.{list_any-append}
 use Rattle.flow_law.specs.declared.config.Overflow.{Overflow}
 use Rattle.flow_law.specs.declared.config.Overflow.TheVariants.{Suspend, DropOldest, DropLatest}
-use Rattle.flow_law.specs.History.{emission, Owner, owner_of}
+use Rattle.flow_law.specs.history.History.{emission, Owner, owner_of}
 use Rattle.flow_law.specs.declared.states.Numbered.{Numbered}
 use Rattle.flow_law.specs.declared.states.SharedFlowState.{SharedFlowState}
-use Rattle.flow_law.specs.SharedFlow as law
-use Rattle.flow_law.specs.EmitRule as rule
-use Rattle.flow_law.specs.SharedStep as flow
+use Rattle.flow_law.specs.flow.SharedFlow as law
+use Rattle.flow_law.specs.flow.EmitRule as rule
+use Rattle.flow_law.specs.flow.SharedStep as flow
 use Rattle.flow_law.proofs.Moves.{open_not_blocked}
 use Rattle.flow_law.proofs.Owners.{UpTo, up_to_more, owned_up_to, owner_of_older, newest_owner}
 use Rattle.flow_law.proofs.RowOrder.{InOrder, in_order_keeps}

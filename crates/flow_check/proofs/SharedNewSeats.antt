@@ -4,10 +4,10 @@ use Rattle.std.specs.Prelude.{IsSome, is_some}
 use Rattle.std.proofs.lemmas.Bool.{false≢true, cond-false}
 use Rattle.std.proofs.lemmas.Bool.Decides.{eqb_tells}
 use Rattle.std.proofs.lemmas.List.{length_push}
-use Rattle.flow_law.specs.History.{subscriber, emission, Owner, owner_of}
-use Rattle.flow_law.specs.Laws.{RisesTo}
+use Rattle.flow_law.specs.history.History.{subscriber, emission, Owner, owner_of}
+use Rattle.flow_law.specs.laws.Laws.{RisesTo}
 use Rattle.flow_law.specs.declared.states.Subscriber.{Subscriber}
-use Rattle.flow_law.specs.SharedFlow.{position_of, without}
+use Rattle.flow_law.specs.flow.SharedFlow.{position_of, without}
 use Rattle.flow_law.proofs.Owners.{UpTo, owned_up_to, owner_of_older, newest_owner}
 use Rattle.flow_law.proofs.Rows.{split, rises_below, position-snoc, position-snoc_other, own-snoc, own-snoc_other}
 use Rattle.flow_law.proofs.RowOrder.{numbers_of}

@@ -6,10 +6,10 @@ use Rattle.std.specs.Cmp.Derive.{both_true}
 use Rattle.std.proofs.lemmas.Bool.{false≢true, cond-false, and_parts, or_cases, or_left, le-leb, leb-true}
 use Rattle.std.proofs.lemmas.Bool.Decides.{Decides-eqb, eqb_tells, leb_tells}
 use Rattle.std.proofs.lemmas.Option.{same_Some}
-use Rattle.flow_law.specs.History.{Owner}
+use Rattle.flow_law.specs.history.History.{Owner}
 use Rattle.flow_law.specs.declared.states.SharedFlowState.{SharedFlowState}
-use Rattle.flow_law.specs.SharedFlow as law
-use Rattle.flow_law.specs.SharedStep as flow
+use Rattle.flow_law.specs.flow.SharedFlow as law
+use Rattle.flow_law.specs.flow.SharedStep as flow
 use Rattle.flow_law.proofs.Rows.{split, lag_below}
 use Rattle.flow_law.proofs.RowOrder.{InOrder, found_by_number}
 use Rattle.flow_check.specs.SharedRecords.{HasNoEmission}

@@ -9,11 +9,11 @@ use Rattle.flow_law.specs.declared.call.SharedCall.{SharedCall}
 use Rattle.flow_law.specs.declared.call.SharedReply.{SharedReply}
 use Rattle.flow_law.specs.declared.call.SharedReply.TheVariants as reply
 use Rattle.flow_law.specs.declared.states.SharedFlowState.{SharedFlowState}
-use Rattle.flow_law.specs.SharedFlow.{Replied, is_exhausted, is_offered_as, issuing, stand_at}
-use Rattle.flow_law.specs.SharedFlow as law
-use Rattle.flow_law.specs.EmitRule as rule
-use Rattle.flow_law.specs.SharedStep as flow
-use Rattle.flow_law.specs.SharedHistory.{answer_to, reply_by, is_refused, Replies}
+use Rattle.flow_law.specs.flow.SharedFlow.{Replied, is_exhausted, is_offered_as, issuing, stand_at}
+use Rattle.flow_law.specs.flow.SharedFlow as law
+use Rattle.flow_law.specs.flow.EmitRule as rule
+use Rattle.flow_law.specs.flow.SharedStep as flow
+use Rattle.flow_law.specs.flow.SharedHistory.{answer_to, reply_by, is_refused, Replies}
 use Rattle.flow_law.proofs.Boxes.{admit_subscribers}
 use Rattle.flow_law.proofs.Moves.{Keeps}
 use Rattle.flow_check.specs.declared.shared_calls.SharedAnswer.{SharedAnswer}

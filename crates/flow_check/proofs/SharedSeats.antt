@@ -5,9 +5,9 @@ use Rattle.std.proofs.lemmas.Bool.{false≢true}
 use Rattle.std.proofs.lemmas.Bool.Decides.{eqb_tells}
 use Rattle.std.proofs.lemmas.List.{length-map}
 use Rattle.std.proofs.lemmas.Option.{same_Some}
-use Rattle.flow_law.specs.History.{Owner}
+use Rattle.flow_law.specs.history.History.{Owner}
 use Rattle.flow_law.specs.declared.states.Subscriber.{Subscriber}
-use Rattle.flow_law.specs.SharedFlow.{position_of, stand_at, without, own_of}
+use Rattle.flow_law.specs.flow.SharedFlow.{position_of, stand_at, without, own_of}
 use Rattle.flow_law.proofs.Rows.{split, position-without, position-without_other, own-without_other, own-map}
 use Rattle.flow_check.specs.Subscribed.{kept_of, present}
 use Rattle.flow_check.specs.SharedMachine.{most_lag, own_left}

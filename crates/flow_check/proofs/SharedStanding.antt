@@ -7,13 +7,13 @@ use Rattle.std.proofs.lemmas.Bool.Decides.{Decides-eqb, eqb_tells}
 use Rattle.std.proofs.lemmas.Option.{same_Some}
 use Rattle.flow_law.specs.declared.config.Config.{Config}
 use Rattle.flow_law.specs.declared.config.Overflow.TheVariants.{Suspend}
-use Rattle.flow_law.specs.History.{emission, Owner, owner_of}
+use Rattle.flow_law.specs.history.History.{emission, Owner, owner_of}
 use Rattle.flow_law.specs.declared.states.Numbered.{Numbered}
 use Rattle.flow_law.specs.declared.states.Subscriber.{Subscriber}
 use Rattle.flow_law.specs.declared.states.SharedFlowState.{SharedFlowState}
-use Rattle.flow_law.specs.SharedFlow.{position_of}
-use Rattle.flow_law.specs.SharedFlow as law
-use Rattle.flow_law.specs.SharedStep as flow
+use Rattle.flow_law.specs.flow.SharedFlow.{position_of}
+use Rattle.flow_law.specs.flow.SharedFlow as law
+use Rattle.flow_law.specs.flow.SharedStep as flow
 use Rattle.flow_law.proofs.Owners.{UpTo, owned_up_to, owner_of_older}
 use Rattle.flow_law.proofs.Rows.{split}
 use Rattle.flow_check.specs.declared.shared_machine.Held.{Held}
@@ -124,7 +124,7 @@ module _ (owners : List Owner) where
   queue_snoc (k ∷ hs) (p ∷ qs) h q queued e own = (queued.0, queued.1, queue_snoc hs qs h q queued.2 e own)
 
   -- a new owner of a greater number
-  pub queue_older : (o : Owner) (n : ℕ) (hs : List Held) (qs : List (Numbered ℕ)) → UpTo n owners → n < Rattle.flow_law.specs.Lawful.number_in o.number → Queued owners hs qs → Queued (o ∷ owners) hs qs
+  pub queue_older : (o : Owner) (n : ℕ) (hs : List Held) (qs : List (Numbered ℕ)) → UpTo n owners → n < Rattle.flow_law.specs.history.Lawful.number_in o.number → Queued owners hs qs → Queued (o ∷ owners) hs qs
   queue_older o n [] [] owned l queued = tt
   queue_older o n [] (q ∷ qs) owned l queued = absurd queued
   queue_older o n (k ∷ hs) [] owned l queued = absurd queued

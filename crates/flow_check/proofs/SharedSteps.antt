@@ -14,15 +14,15 @@ use Rattle.flow_law.specs.declared.outcome.Next.TheVariants as next
 use Rattle.flow_law.specs.declared.call.SharedCall.TheVariants as call
 use Rattle.flow_law.specs.declared.call.SharedReply.{SharedReply}
 use Rattle.flow_law.specs.declared.call.SharedReply.TheVariants as reply
-use Rattle.flow_law.specs.History.{Owner, with_owner}
+use Rattle.flow_law.specs.history.History.{Owner, with_owner}
 use Rattle.flow_law.specs.declared.states.Numbered.{Numbered}
 use Rattle.flow_law.specs.declared.states.Subscriber.{Subscriber}
 use Rattle.flow_law.specs.declared.states.SharedFlowState.{SharedFlowState}
-use Rattle.flow_law.specs.SharedFlow.{Replied, answer, issuing, is_exhausted, position_of, own_of}
-use Rattle.flow_law.specs.SharedFlow as law
-use Rattle.flow_law.specs.EmitRule as rule
-use Rattle.flow_law.specs.SharedStep as flow
-use Rattle.flow_law.specs.SharedHistory.{reply_by, answer_to, is_refused, gives}
+use Rattle.flow_law.specs.flow.SharedFlow.{Replied, answer, issuing, is_exhausted, position_of, own_of}
+use Rattle.flow_law.specs.flow.SharedFlow as law
+use Rattle.flow_law.specs.flow.EmitRule as rule
+use Rattle.flow_law.specs.flow.SharedStep as flow
+use Rattle.flow_law.specs.flow.SharedHistory.{reply_by, answer_to, is_refused, gives}
 use Rattle.flow_law.proofs.CoveringLemmas.{slice_get-drop}
 use Rattle.flow_law.proofs.Rows.{split}
 use Rattle.flow_law.proofs.RowOrder.{InOrder, in_order_keeps}

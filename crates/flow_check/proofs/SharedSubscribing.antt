@@ -4,11 +4,11 @@ use Rattle.std.specs.Prelude.{max}
 use Rattle.std.proofs.lemmas.Bool.{cond-true, cond-false}
 use Rattle.std.proofs.lemmas.Bool.Decides.{eqb_tells}
 use Rattle.std.proofs.lemmas.List.{length-map}
-use Rattle.flow_law.specs.History.{emission, Owner}
+use Rattle.flow_law.specs.history.History.{emission, Owner}
 use Rattle.flow_law.specs.declared.states.Numbered.{Numbered}
 use Rattle.flow_law.specs.declared.states.SharedFlowState.{SharedFlowState}
-use Rattle.flow_law.specs.SharedFlow as law
-use Rattle.flow_law.specs.SharedStep as flow
+use Rattle.flow_law.specs.flow.SharedFlow as law
+use Rattle.flow_law.specs.flow.SharedStep as flow
 use Rattle.flow_law.proofs.Owners.{up_to_more, owned_up_to, owner_of_older}
 use Rattle.flow_law.proofs.Rows.{split}
 use Rattle.flow_law.proofs.RowOrder.{InOrder}

@@ -9,10 +9,10 @@ use Rattle.flow_law.specs.declared.history.Said.{Said}
 use Rattle.flow_law.specs.declared.call.StateCall.{StateCall}
 use Rattle.flow_law.specs.declared.call.StateReply.{StateReply}
 use Rattle.flow_law.specs.declared.states.StateFlowState.{StateFlowState}
-use Rattle.flow_law.specs.Growth.{event}
-use Rattle.flow_law.specs.Promise.{said}
-use Rattle.flow_law.specs.History.{Owner, with_owner, owners_all, IsHistory}
-use Rattle.flow_law.specs.StateFlow.{StateHistory, state_flow, first_state_flow, state_after_all, state_flow_after, state_flow_gives}
+use Rattle.flow_law.specs.history.Growth.{event}
+use Rattle.flow_law.specs.history.Promise.{said}
+use Rattle.flow_law.specs.history.History.{Owner, with_owner, owners_all, IsHistory}
+use Rattle.flow_law.specs.flow.StateFlow.{StateHistory, state_flow, first_state_flow, state_after_all, state_flow_after, state_flow_gives}
 use Rattle.flow_law.proofs.HistoryLemmas.{after_all-snoc, IsHistory-snoc}
 use Rattle.flow_law.proofs.Owners.{history_left, legal_right, owned_right, owners_all-append}
 use Rattle.flow_law.proofs.StateCounts.{is_counted}

@@ -5,8 +5,8 @@ use Rattle.std.proofs.lemmas.Bool.Decides.{eqb_tells}
 use Rattle.std.proofs.lemmas.Option.{same_Some}
 use Rattle.flow_law.specs.declared.states.StateSubscriber.{StateSubscriber}
 use Rattle.flow_law.specs.declared.states.StateFlowState.{StateFlowState}
-use Rattle.flow_law.specs.History.{subscriber, Owner, owner_of}
-use Rattle.flow_law.specs.StateFlow.{last_got_by, with_last, without_subscriber}
+use Rattle.flow_law.specs.history.History.{subscriber, Owner, owner_of}
+use Rattle.flow_law.specs.flow.StateFlow.{last_got_by, with_last, without_subscriber}
 use Rattle.flow_law.proofs.Owners.{UpTo, up_to_more, owned_up_to, owner_of_older, newest_owner}
 use Rattle.flow_law.proofs.StateSubscriberLemmas.{last-snoc, last-snoc_other, last-with, last-with_other, last-without, last-without_other}
 use Rattle.flow_law.proofs.StateCounts.{none_above, one_fewer, length-with, Once}

@@ -10,8 +10,8 @@ use Rattle.flow_law.specs.declared.call.StateCall.TheVariants as call
 use Rattle.flow_law.specs.declared.call.StateReply.{StateReply}
 use Rattle.flow_law.specs.declared.call.StateReply.TheVariants as reply
 use Rattle.flow_law.specs.declared.states.StateFlowState.{StateFlowState}
-use Rattle.flow_law.specs.History.{Owner, with_owner, MaySpeak}
-use Rattle.flow_law.specs.StateFlow.{last_got_by, with_last, is_state_exhausted, state_flow_after, Receives, StateFlowReplies, state_flow_gives, state_flow_speaks_of, state_flow}
+use Rattle.flow_law.specs.history.History.{Owner, with_owner, MaySpeak}
+use Rattle.flow_law.specs.flow.StateFlow.{last_got_by, with_last, is_state_exhausted, state_flow_after, Receives, StateFlowReplies, state_flow_gives, state_flow_speaks_of, state_flow}
 use Rattle.flow_law.proofs.Rows.{split}
 use Rattle.flow_law.proofs.StateLawful.{enrolls}
 use Rattle.flow_check.specs.declared.state_calls.StateOperation.{StateOperation}

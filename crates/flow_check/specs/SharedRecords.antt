@@ -8,12 +8,12 @@ use Rattle.flow_law.specs.declared.call.SharedCall.TheVariants as call
 use Rattle.flow_law.specs.declared.call.SharedReply.{SharedReply}
 use Rattle.flow_law.specs.declared.call.SharedReply.TheVariants as reply
 use Rattle.flow_law.specs.declared.states.SharedFlowState.{SharedFlowState}
-use Rattle.flow_law.specs.Growth.{event}
-use Rattle.flow_law.specs.Promise.{said}
-use Rattle.flow_law.specs.History.{subscriber, emission, Owner, owner_of, owners_all}
-use Rattle.flow_law.specs.SharedFlow.{first_state, position_of}
-use Rattle.flow_law.specs.SharedStep.{is_waiting}
-use Rattle.flow_law.specs.SharedHistory.{History, shared_flow, shared_after_all}
+use Rattle.flow_law.specs.history.Growth.{event}
+use Rattle.flow_law.specs.history.Promise.{said}
+use Rattle.flow_law.specs.history.History.{subscriber, emission, Owner, owner_of, owners_all}
+use Rattle.flow_law.specs.flow.SharedFlow.{first_state, position_of}
+use Rattle.flow_law.specs.flow.SharedStep.{is_waiting}
+use Rattle.flow_law.specs.flow.SharedHistory.{History, shared_flow, shared_after_all}
 use Rattle.flow_check.specs.declared.shared_calls.SharedOperation.{SharedOperation}
 use Rattle.flow_check.specs.declared.shared_calls.SharedOperation.TheVariants as operation
 use Rattle.flow_check.specs.declared.shared_calls.SharedAnswer.{SharedAnswer}

@@ -6,10 +6,10 @@ use Rattle.flow_law.specs.declared.call.StateCall.TheVariants as call
 use Rattle.flow_law.specs.declared.call.StateReply.{StateReply}
 use Rattle.flow_law.specs.declared.call.StateReply.TheVariants as reply
 use Rattle.flow_law.specs.declared.states.StateFlowState.{StateFlowState}
-use Rattle.flow_law.specs.Growth.{event}
-use Rattle.flow_law.specs.Promise.{said}
-use Rattle.flow_law.specs.History.{subscriber, Owner, owner_of, owners_all}
-use Rattle.flow_law.specs.StateFlow.{StateHistory, state_flow, first_state_flow, last_got_by, state_after_all}
+use Rattle.flow_law.specs.history.Growth.{event}
+use Rattle.flow_law.specs.history.Promise.{said}
+use Rattle.flow_law.specs.history.History.{subscriber, Owner, owner_of, owners_all}
+use Rattle.flow_law.specs.flow.StateFlow.{StateHistory, state_flow, first_state_flow, last_got_by, state_after_all}
 use Rattle.flow_check.specs.declared.state_calls.StateOperation.{StateOperation}
 use Rattle.flow_check.specs.declared.state_calls.StateOperation.TheVariants as operation
 use Rattle.flow_check.specs.declared.state_calls.StateAnswer.{StateAnswer}

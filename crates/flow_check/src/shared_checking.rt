@@ -1,6 +1,6 @@
 //! The checker of shared flows.
 ghost use Rattle.std.specs.Prelude.{◌≡◌, IfOk, IfSome, is_some};
-ghost use Rattle.flow_law.specs.SharedFlow.{config_fault};
+ghost use Rattle.flow_law.specs.flow.SharedFlow.{config_fault};
 ghost use Rattle.flow_check.specs.SharedRecords.{ExplainsShared};
 ghost use Rattle.flow_check.specs.Verdicts.{Judges};
 ghost use Rattle.flow_check.specs.Moments.{GoesWrong, IsCutOff};

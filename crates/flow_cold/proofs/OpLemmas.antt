@@ -2,8 +2,8 @@
 use Rattle.std.proofs.Common.{◌≡◌, ℤ, rules}
 use Rattle.std.specs.Bool.{IsTrue}
 use Rattle.std.specs.Ordering.{int_eq}
-use Rattle.flow_law.specs.Chain.{meaning_of}
-use Rattle.flow_law.specs.ChainRun.{ChainRun}
+use Rattle.flow_law.specs.chain.Chain.{meaning_of}
+use Rattle.flow_law.specs.chain.ChainRun.{ChainRun}
 use Rattle.flow_law.proofs.ChainLemmas.{map_means, filter_means, take_while_means, transform_means, take_means, drop_means, drop_while_means, scan_means, running_reduce_means, flat_map_means, zip_means, distinct_means}
 use Rattle.flow_cold.specs.declared.script_chain.op.Op.{Op}
 use Rattle.flow_cold.specs.declared.script_chain.op.Op.TheVariants as op

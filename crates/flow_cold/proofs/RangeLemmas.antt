@@ -4,7 +4,7 @@ use Rattle.std.specs.Int.Signed.{lt_z}
 use Rattle.std.proofs.lemmas.Grind.{common_steps}
 use mir.Val.{SFits}
 use Rattle.flow_law.specs.declared.chain.End.TheVariants.{Completed}
-use Rattle.flow_law.specs.ChainRun.{gives, ends}
+use Rattle.flow_law.specs.chain.ChainRun.{gives, ends}
 use Rattle.flow_operators.specs.Sources.{range_run}
 
 pub range_run-more : (first last : ℤ) → lt_z last first ≡ false → lt_z first last ≡ true → range_run first last ≡ gives first (range_run (first +ℤ pos 1) last)

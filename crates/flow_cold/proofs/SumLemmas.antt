@@ -4,8 +4,8 @@ use Rattle.std.proofs.lemmas.Grind.{common_steps}
 use Rattle.std.specs.List.{list_all}
 use mir.Val.{SFits}
 use Rattle.flow_law.specs.declared.chain.ChainFault.TheVariants.{Overflow}
-use Rattle.flow_law.specs.ChainRun.{ChainRun, gives}
-use Rattle.flow_law.specs.OperatorRuns.{continued, prepended, transform_run}
+use Rattle.flow_law.specs.chain.ChainRun.{ChainRun, gives}
+use Rattle.flow_law.specs.chain.OperatorRuns.{continued, prepended, transform_run}
 use Rattle.flow_cold.specs.Numbers.{is_i64, sums}
 use Rattle.flow_cold.specs.Operators.{with_sums}
 

@@ -3,9 +3,9 @@ use Rattle.std.specs.Prelude.{◌≡◌, ℕ, ◌+◌, ◌≤◌, ◌<◌, max, 
 use Rattle.std.specs.Ordering.{int_eq}
 use Rattle.flow_law.specs.declared.chain.ChainFault.{ChainFault}
 use Rattle.flow_law.specs.declared.chain.ChainFault.TheVariants.{OutOfMemory, NotPositive, TooDeep}
-use Rattle.flow_law.specs.Chain.{Meaning, meaning_of, map_meaning, filter_meaning, take_while_meaning, transform_meaning, take_meaning, drop_meaning, drop_while_meaning, scan_meaning, running_reduce_meaning, flat_map_meaning, zip_meaning, distinct_meaning}
-use Rattle.flow_law.specs.ChainRun.{ChainRun, gives}
-use Rattle.flow_law.specs.OperatorRuns.{map_run, filter_run, take_while_run, transform_run, take_run, drop_run, drop_while_run, scan_run, running_reduce_run, flat_map_run, zip_run, distinct_run}
+use Rattle.flow_law.specs.chain.Chain.{Meaning, meaning_of, map_meaning, filter_meaning, take_while_meaning, transform_meaning, take_meaning, drop_meaning, drop_while_meaning, scan_meaning, running_reduce_meaning, flat_map_meaning, zip_meaning, distinct_meaning}
+use Rattle.flow_law.specs.chain.ChainRun.{ChainRun, gives}
+use Rattle.flow_law.specs.chain.OperatorRuns.{map_run, filter_run, take_while_run, transform_run, take_run, drop_run, drop_while_run, scan_run, running_reduce_run, flat_map_run, zip_run, distinct_run}
 use Rattle.flow_cold.specs.declared.script_chain.op.Op.{Op}
 use Rattle.flow_cold.specs.declared.script_chain.op.Op.TheVariants as op
 use Rattle.flow_cold.specs.declared.script_chain.ScriptChain.{ScriptChain}

@@ -5,7 +5,7 @@ use Rattle.std.specs.List.{list_all}
 use Rattle.flow_law.specs.declared.chain.ChainFault.{ChainFault}
 use Rattle.flow_law.specs.declared.chain.ChainFault.TheVariants.{Overflow}
 use Rattle.flow_law.specs.declared.chain.End.TheVariants.{Completed}
-use Rattle.flow_law.specs.ChainRun.{ChainRun, ends, list_run}
+use Rattle.flow_law.specs.chain.ChainRun.{ChainRun, ends, list_run}
 use Rattle.flow_cold.specs.declared.script_chain.op.Arithmetic.{Arithmetic}
 use Rattle.flow_cold.specs.declared.script_chain.op.Arithmetic.TheVariants as arithmetic
 use Rattle.flow_cold.specs.declared.script_chain.op.Joining.{Joining}

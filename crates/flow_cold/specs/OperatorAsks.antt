@@ -2,7 +2,7 @@
 use Rattle.std.specs.Prelude.{◌≡◌, ℤ, Option, Some, None, Result, drop, replicate}
 use Rattle.std.specs.Ordering.{int_eq}
 use Rattle.flow_law.specs.declared.chain.ChainFault.{ChainFault}
-use Rattle.flow_law.specs.ChainRun.{ChainRun, list_run}
+use Rattle.flow_law.specs.chain.ChainRun.{ChainRun, list_run}
 use Rattle.flow_operators.specs.Behind.{rest_after_ask, after_filter, after_drop, after_drop_while, after_distinct, after_scan, unless_empty, after_transform, unless_completed, after_flat_map}
 use Rattle.flow_operators.specs.Kept.{unless_ended}
 use Rattle.flow_cold.specs.declared.script_chain.op.Spread.TheVariants as spread

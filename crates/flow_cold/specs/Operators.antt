@@ -3,8 +3,8 @@ use Rattle.std.specs.Prelude.{◌≡◌, suc, ℤ, ◌+ℤ◌, cond, List, [], �
 use Rattle.std.specs.Ordering.{int_eq}
 use Rattle.flow_law.specs.declared.chain.ChainFault.{ChainFault}
 use Rattle.flow_law.specs.declared.chain.End.TheVariants.{Completed, Failed}
-use Rattle.flow_law.specs.ChainRun.{ChainRun, gives, ends, list_run}
-use Rattle.flow_law.specs.OperatorRuns.{continued, map_run, filter_run, take_while_run, take_run, drop_run, drop_while_run, distinct_run, scan_run, running_reduce_run, transform_run, followed, flat_map_run}
+use Rattle.flow_law.specs.chain.ChainRun.{ChainRun, gives, ends, list_run}
+use Rattle.flow_law.specs.chain.OperatorRuns.{continued, map_run, filter_run, take_while_run, take_run, drop_run, drop_while_run, distinct_run, scan_run, running_reduce_run, transform_run, followed, flat_map_run}
 use Rattle.flow_operators.specs.Kept.{unless_ended, drop_while_rest}
 use Rattle.flow_cold.specs.declared.script_chain.op.Spread.TheVariants as spread
 use Rattle.flow_cold.specs.declared.script_chain.operator.Operator.{Operator}

@@ -1,7 +1,7 @@
 -- The rest of a zip of whole numbers.
 use Rattle.std.specs.Prelude.{ℤ}
-use Rattle.flow_law.specs.ChainRun.{ChainRun}
-use Rattle.flow_law.specs.OperatorRuns.{zip_run}
+use Rattle.flow_law.specs.chain.ChainRun.{ChainRun}
+use Rattle.flow_law.specs.chain.OperatorRuns.{zip_run}
 use Rattle.flow_operators.specs.Kept.{unless_ended, with_kept}
 use Rattle.flow_cold.specs.declared.script_chain.pairing.Pairing.{Pairing}
 use Rattle.flow_cold.specs.Numbers.{joined}

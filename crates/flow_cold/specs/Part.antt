@@ -1,7 +1,7 @@
 -- What an operator of a script becomes: an operator on one upstream, or a zip with another chain.
 use Rattle.std.specs.Prelude.{ℕ, ◌+◌, max, ℤ}
-use Rattle.flow_law.specs.ChainRun.{ChainRun}
-use Rattle.flow_law.specs.OperatorRuns.{zip_run}
+use Rattle.flow_law.specs.chain.ChainRun.{ChainRun}
+use Rattle.flow_law.specs.chain.OperatorRuns.{zip_run}
 use Rattle.flow_cold.specs.declared.script_chain.build.Part.{Part}
 use Rattle.flow_cold.specs.declared.script_chain.build.Part.TheVariants.{On, With}
 use Rattle.flow_cold.specs.Numbers.{joined}

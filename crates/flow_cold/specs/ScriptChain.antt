@@ -1,7 +1,7 @@
 -- Chains of whole numbers that are built at run time: their depths and their runs.
 use Rattle.std.specs.Prelude.{◌≡◌, ℕ, ◌+◌, max, ℤ, true}
-use Rattle.flow_law.specs.ChainRun.{ChainRun}
-use Rattle.flow_law.specs.OperatorRuns.{zip_run}
+use Rattle.flow_law.specs.chain.ChainRun.{ChainRun}
+use Rattle.flow_law.specs.chain.OperatorRuns.{zip_run}
 use Rattle.flow_operators.specs.Behind.{Leaves, AsksLeft, AsksRight}
 use Rattle.flow_operators.specs.Kept.{with_kept}
 use Rattle.flow_operators.specs.declared.cold.Asked.{Asked}

@@ -1,6 +1,6 @@
 -- The runs of the sources.
 use Rattle.std.specs.Prelude.{◌≡◌, ◌≤◌, ℤ, drop, length}
-use Rattle.flow_law.specs.ChainRun.{ChainRun, list_run}
+use Rattle.flow_law.specs.chain.ChainRun.{ChainRun, list_run}
 use Rattle.flow_cold.specs.declared.script_chain.op.Source.{Source}
 use Rattle.flow_cold.specs.declared.script_chain.op.Source.TheVariants.{List, Range, Scripted}
 use Rattle.flow_operators.specs.Sources.{range_left, range_rest, range_run, scripted_run}

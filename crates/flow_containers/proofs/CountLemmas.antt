@@ -8,8 +8,8 @@ use Rattle.std.proofs.lemmas.Nat.{mod_below}
 use Rattle.std.proofs.lemmas.Bool.Decides.{Decides-eqb, leb_tells, eqb_tells, nat_tests}
 use Rattle.std.proofs.lemmas.List.{get_or-set_same, get_or-set_other, length-set}
 use Rattle.flow_law.specs.declared.states.Subscriber.{Subscriber}
-use Rattle.flow_law.specs.SharedFlow.{position_of, stand_at, move_to, raise_to}
-use Rattle.flow_law.specs.Standing.{least_position}
+use Rattle.flow_law.specs.flow.SharedFlow.{position_of, stand_at, move_to, raise_to}
+use Rattle.flow_law.specs.flow.Standing.{least_position}
 use Rattle.flow_law.proofs.CoveringLemmas.{least_position_bound}
 use Rattle.flow_containers.specs.PositionCounts.{IsLeast, AreWithin, count_of, CountsPositions, take_subscriber_out}
 use Rattle.flow_containers.proofs.PlaceLemmas.{same_place, same_place_in, other_place}

@@ -6,7 +6,7 @@ use Rattle.std.proofs.lemmas.Bool.{cases_eq}
 use Rattle.std.proofs.lemmas.List.{length_push}
 use Rattle.slab.specs.Slab.{Slab, get, slab_len, with_value, Updates}
 use Rattle.slab.proofs.SlabLemmas.{Updates-with_value}
-use Rattle.flow_law.specs.Laws.{RisesTo}
+use Rattle.flow_law.specs.laws.Laws.{RisesTo}
 use Rattle.flow_containers.specs.declared.members.Member.{Member}
 use Rattle.flow_containers.specs.declared.members.Members.TheInside.{Inside}
 use Rattle.flow_containers.specs.Members.{member_numbers, row_of, member_with, with_row, without_number, take_out, seek, member_number, number_at_key, EntersAt, OthersStay, membership_of, HasSoundNumbers}

@@ -10,7 +10,7 @@ use Rattle.std.specs.Option.{IsSome, OnSome, option_to_list}
 use Rattle.std.specs.Result.{is_ok}
 use Rattle.std.proofs.lemmas.List.{length-map, take-map, drop-map, map-append}
 use Rattle.flow_law.specs.declared.states.Numbered.{Numbered}
-use Rattle.flow_law.specs.Laws.{RisesTo}
+use Rattle.flow_law.specs.laws.Laws.{RisesTo}
 use Rattle.flow_containers.specs.declared.queue.Queued.{Queued}
 use Rattle.flow_containers.specs.Queue.{numbered_of, Rises, IsPlace}
 use Rattle.flow_law.proofs.Rows.{rises_from, rises_more, rises_higher, rises_filter}

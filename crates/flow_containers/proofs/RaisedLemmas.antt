@@ -2,7 +2,7 @@
 use Rattle.std.proofs.Common.{◌≡◌, ℕ, suc, ◌≤◌, ◌==◌, max, true, false, if◌then◌else◌, List, [], ◌∷◌, ◌++◌, length, map, Some, None, refl, sym, ap, ◌∙◌, arith}
 use Rattle.std.specs.Option.{option_map, option_map_or}
 use Rattle.flow_law.specs.declared.states.Subscriber.{Subscriber}
-use Rattle.flow_law.specs.SharedFlow.{position_of, stand_at, move_to, raise_to, without, own_of, with_own}
+use Rattle.flow_law.specs.flow.SharedFlow.{position_of, stand_at, move_to, raise_to, without, own_of, with_own}
 use Rattle.flow_containers.specs.declared.members.Member.{Member}
 use Rattle.flow_containers.specs.declared.members.enroll.Row.{Row}
 use Rattle.flow_containers.specs.Members.{row_of, with_row, without_number, take_out}

@@ -4,7 +4,7 @@ use Rattle.std.proofs.Common.{◌≡◌, ℕ, ◌+◌, ◌-◌, ◌<◌, ◌≤�
 use Rattle.std.specs.List.{slice_get, list_any}
 use Rattle.std.specs.Option.{option_map, IfSome}
 use Rattle.flow_law.specs.declared.states.Subscriber.{Subscriber}
-use Rattle.flow_law.specs.SharedFlow.{position_of, own_of, with_own, move_to}
+use Rattle.flow_law.specs.flow.SharedFlow.{position_of, own_of, with_own, move_to}
 use Rattle.flow_containers.specs.declared.members.Member.{Member}
 use Rattle.flow_containers.specs.declared.members.enroll.Row.{Row}
 use Rattle.flow_containers.specs.declared.subscribers.Subscribers.TheInside.{Inside}

@@ -7,8 +7,8 @@ use Rattle.std.proofs.lemmas.Bool.Decides.{eqb_tells}
 use Rattle.std.proofs.lemmas.List.{map-append}
 use Rattle.flow_law.specs.declared.states.Subscriber.{Subscriber}
 use Rattle.flow_law.specs.declared.states.StateSubscriber.{StateSubscriber}
-use Rattle.flow_law.specs.SharedFlow.{position_of, stand_at, move_to, own_of, leave_own, with_own, without}
-use Rattle.flow_law.specs.StateFlow.{last_got_by, with_last, without_subscriber}
+use Rattle.flow_law.specs.flow.SharedFlow.{position_of, stand_at, move_to, own_of, leave_own, with_own, without}
+use Rattle.flow_law.specs.flow.StateFlow.{last_got_by, with_last, without_subscriber}
 use Rattle.flow_containers.specs.declared.members.Member.{Member}
 use Rattle.flow_containers.specs.Members.{row_of, member_with, with_row, without_number}
 

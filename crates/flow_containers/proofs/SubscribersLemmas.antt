@@ -5,7 +5,7 @@ use Rattle.std.specs.Option.{option_map}
 use Rattle.std.proofs.lemmas.Nat.{mod_below}
 use Rattle.std.proofs.lemmas.List.{length-set}
 use Rattle.flow_law.specs.declared.states.Subscriber.{Subscriber}
-use Rattle.flow_law.specs.SharedFlow.{position_of, stand_at, move_to, raise_to, with_own, leave_own}
+use Rattle.flow_law.specs.flow.SharedFlow.{position_of, stand_at, move_to, raise_to, with_own, leave_own}
 use Rattle.flow_containers.specs.declared.members.Member.{Member}
 use Rattle.flow_containers.specs.declared.members.enroll.Row.{Row}
 use Rattle.flow_containers.specs.Members.{row_of, with_row}

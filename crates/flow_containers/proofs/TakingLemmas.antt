@@ -7,7 +7,7 @@ use Rattle.std.proofs.Math.Seq.{take-append-add}
 use Rattle.std.proofs.lemmas.List.{take-append-drop, length-take-le}
 use Rattle.std.proofs.lemmas.Option.{slice_get_within}
 use Rattle.circular_buffer.proofs.Places.{slice_get-drop}
-use Rattle.flow_law.proofs.Steps.{drop_here}
+use Rattle.flow_law.proofs.MailboxSteps.{drop_here}
 
 take_more : {X : Type 0} (k : ℕ) (xs : List X) (v : X) → slice_get xs k ≡ Some v → take (k + 1) xs ≡ take k xs ++ v ∷ []
 take_more k xs v at =

@@ -2,7 +2,7 @@
 use Rattle.std.specs.Prelude.{◌≡◌, ℕ, ◌<◌, ◌^◌, ◌==◌, true, false, not, List, map, filter, length, Option, Some, None}
 use Rattle.std.specs.List.{list_any, remove}
 use Rattle.flow_law.specs.declared.states.Numbered.{Numbered}
-use Rattle.flow_law.specs.Laws.{RisesTo}
+use Rattle.flow_law.specs.laws.Laws.{RisesTo}
 use Rattle.flow_containers.specs.declared.queue.Queued.{Queued}
 use Rattle.flow_containers.specs.declared.queue.Queue.TheInside.{Inside}
 

@@ -4,7 +4,7 @@ use Rattle.std.specs.List.{slice_get, list_any}
 use Rattle.flow_law.specs.declared.fault.FlowFault.{FlowFault}
 use Rattle.flow_law.specs.declared.fault.FlowFault.TheVariants.{OutOfMemory}
 use Rattle.flow_law.specs.declared.states.Subscriber.{Subscriber}
-use Rattle.flow_law.specs.SharedFlow.{position_of, own_of, with_own, move_to}
+use Rattle.flow_law.specs.flow.SharedFlow.{position_of, own_of, with_own, move_to}
 use Rattle.flow_containers.specs.declared.subscribers.receive.Received.{Received}
 use Rattle.flow_containers.specs.declared.subscribers.receive.Received.TheVariants.{Gone, Own, Emitted, Empty}
 use Rattle.flow_containers.specs.Subscribers.{Standing}

@@ -6,7 +6,7 @@ ghost use Rattle.std.specs.Prelude.{◌≡◌, ℕ, ◌+◌, ◌<◌, ◌≤◌,
 ghost use Rattle.std.specs.Option.{option_copied_mut};
 ghost use Rattle.std.specs.Borrow.{sem};
 ghost use Rattle.slab.specs.Slab.{get};
-ghost use Rattle.flow_law.specs.Laws.{RisesTo};
+ghost use Rattle.flow_law.specs.laws.Laws.{RisesTo};
 ghost use Rattle.flow_containers.specs.Members.{member_numbers, row_of, with_row, without_number, take_out, EntersAt, OthersStay};
 
 mod enroll;

@@ -1,8 +1,8 @@
 //! The values whose emitters wait, in the order of their numbers.
 ghost use Rattle.std.specs.Prelude.{◌≡◌, ◌-◌, ◌<◌, ◌==◌, ◌∷◌, ◌++◌, [], length, map, filter, not, MatchOption, MatchResult};
 ghost use Rattle.std.specs.List.{list_any};
-ghost use Rattle.flow_law.specs.Laws.{RisesTo};
-ghost use Rattle.flow_law.specs.Sleeping.{first_queued};
+ghost use Rattle.flow_law.specs.laws.Laws.{RisesTo};
+ghost use Rattle.flow_law.specs.history.Sleeping.{first_queued};
 ghost use Rattle.flow_containers.specs.Queue.{numbered_of, IsPlace};
 
 use std::alloc::{AllocError, Allocator};
@@ -28,7 +28,7 @@ impl<T: Drop, A: Allocator> Model for Queue<T, A> {
 
     ghost Value = { List (Numbered T) };
 
-    ghost use Rattle.flow_law.specs.Sleeping.{first_queued};
+    ghost use Rattle.flow_law.specs.history.Sleeping.{first_queued};
     ghost use Rattle.flow_containers.specs.Queue.{queue_of, Rises};
 
     ghost view = { queue_of };

@@ -1,8 +1,8 @@
 //! Subscribers with their positions, and whether one of them is a whole window behind.
 ghost use Rattle.std.specs.Prelude.{◌≡◌, ◌+◌, ◌-◌, ◌<◌, ◌≤◌, ◌^◌, ◌∷◌, ◌++◌, [], Some, None, false, is_some, length, map, IfOk, MatchResult};
 ghost use Rattle.std.specs.Option.{option_map};
-ghost use Rattle.flow_law.specs.SharedFlow as flow;
-ghost use Rattle.flow_law.specs.Standing.{least_position};
+ghost use Rattle.flow_law.specs.flow.SharedFlow as flow;
+ghost use Rattle.flow_law.specs.flow.Standing.{least_position};
 ghost use Rattle.flow_containers.specs.Members.{EntersAt, OthersStay};
 ghost use Rattle.flow_containers.specs.Subscribers.{is_full};
 

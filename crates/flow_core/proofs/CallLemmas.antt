@@ -9,12 +9,12 @@ use Rattle.flow_law.specs.declared.call.SharedReply.{SharedReply}
 use Rattle.flow_law.specs.declared.call.SharedReply.TheVariants as reply
 use Rattle.flow_law.specs.declared.outcome.Next.TheVariants.{Value, Empty, Gone}
 use Rattle.flow_law.specs.declared.states.SharedFlowState.{SharedFlowState}
-use Rattle.flow_law.specs.SharedFlow.{Replied, answer, issuing, is_exhausted, is_blocked, capacity, window, lag, values, position_of, own_of}
-use Rattle.flow_law.specs.EmitRule.{EmitCase, appends, offers, when_blocked, emit_case, emit, emit_in, try_emit, try_emit_in}
-use Rattle.flow_law.specs.SharedStep.{settle, advance, keep_own, read, next_from, next}
-use Rattle.flow_law.specs.SharedHistory.{reply_by, hands_out, is_refused, Replies}
-use Rattle.flow_law.specs.Standing.{Core, StandsFor}
-use Rattle.flow_law.specs.Covering.{Covers}
+use Rattle.flow_law.specs.flow.SharedFlow.{Replied, answer, issuing, is_exhausted, is_blocked, capacity, window, lag, values, position_of, own_of}
+use Rattle.flow_law.specs.flow.EmitRule.{EmitCase, appends, offers, when_blocked, emit_case, emit, emit_in, try_emit, try_emit_in}
+use Rattle.flow_law.specs.flow.SharedStep.{settle, advance, keep_own, read, next_from, next}
+use Rattle.flow_law.specs.flow.SharedHistory.{reply_by, hands_out, is_refused, Replies}
+use Rattle.flow_law.specs.flow.Standing.{Core, StandsFor}
+use Rattle.flow_law.specs.flow.Covering.{Covers}
 use Rattle.std.proofs.lemmas.Bool.{lt-ltb, le-ltb}
 use Rattle.std.proofs.lemmas.List.{nil_from_length}
 use Rattle.flow_containers.proofs.QueueLemmas.{equal, unequal}

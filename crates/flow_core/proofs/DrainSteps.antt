@@ -7,7 +7,7 @@ use Rattle.flow_law.specs.declared.fault.FlowFault.TheVariants.{OutOfMemory}
 use Rattle.flow_law.specs.declared.outcome.Next.{Next}
 use Rattle.flow_law.specs.declared.outcome.Next.TheVariants as next
 use Rattle.flow_law.specs.declared.outcome.Drained.TheVariants as drained
-use Rattle.flow_law.specs.Draining.{DrainsBy, EndsBy}
+use Rattle.flow_law.specs.flow.Draining.{DrainsBy, EndsBy}
 use Rattle.flow_law.proofs.DrainingLemmas.{HasTaken, takes_before}
 
 -- n values were taken, and asking for room then did not change the list's items

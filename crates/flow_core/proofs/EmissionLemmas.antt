@@ -7,10 +7,10 @@ use Rattle.flow_law.specs.declared.config.Overflow.TheVariants.{DropOldest}
 use Rattle.flow_law.specs.declared.states.Numbered.{Numbered}
 use Rattle.flow_law.specs.declared.states.Subscriber.{Subscriber}
 use Rattle.flow_law.specs.declared.states.SharedFlowState.{SharedFlowState}
-use Rattle.flow_law.specs.SharedFlow.{is_blocked, is_offering, capacity, window, cache_start, raise_to}
-use Rattle.flow_law.specs.EmitRule.{append, drop_oldest}
-use Rattle.flow_law.specs.Standing.{Core, StandsFor, least_position}
-use Rattle.flow_law.specs.Covering.{Covers, kept_start, kept_need}
+use Rattle.flow_law.specs.flow.SharedFlow.{is_blocked, is_offering, capacity, window, cache_start, raise_to}
+use Rattle.flow_law.specs.flow.EmitRule.{append, drop_oldest}
+use Rattle.flow_law.specs.flow.Standing.{Core, StandsFor, least_position}
+use Rattle.flow_law.specs.flow.Covering.{Covers, kept_start, kept_need}
 use Rattle.flow_law.proofs.CoveringLemmas.{covers-longer, covers-subscribers, least_position-raise_to, least_position_bound, least_position_rises, needed_within}
 use Rattle.flow_law.proofs.HoldingLemmas.{covers, covers-last, need_is, held_is, held_from, tidy}
 use Rattle.flow_containers.specs.Subscribers.{is_full}

@@ -8,9 +8,9 @@ use Rattle.std.proofs.lemmas.Bool.Decides.{leb_tells, eqb_tells}
 use Rattle.std.proofs.lemmas.List.{drop-drop, length-drop, take_all}
 use Rattle.flow_law.specs.declared.states.SharedFlowState.{SharedFlowState}
 use Rattle.flow_law.specs.declared.states.Subscriber.{Subscriber}
-use Rattle.flow_law.specs.SharedStep.{advance}
-use Rattle.flow_law.specs.SharedFlow.{cache_start, position_of, raise_to, stand_at, move_to, without, with_own}
-use Rattle.flow_law.specs.Standing.{Core, StandsFor, least_position}
+use Rattle.flow_law.specs.flow.SharedStep.{advance}
+use Rattle.flow_law.specs.flow.SharedFlow.{cache_start, position_of, raise_to, stand_at, move_to, without, with_own}
+use Rattle.flow_law.specs.flow.Standing.{Core, StandsFor, least_position}
 use Rattle.flow_law.proofs.HoldingLemmas.{held_from, stands-subscribers}
 use Rattle.flow_law.proofs.CoveringLemmas.{slice_get-drop, least_position_offered, least_position-position_of}
 use Rattle.flow_law.proofs.Rows.{every_snoc, every_filter, every_move, every_with_own, position_holds}

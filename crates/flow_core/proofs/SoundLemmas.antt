@@ -4,9 +4,9 @@ use Rattle.std.proofs.Common.{◌≡◌, ◌≢◌, ℕ, ◌+◌, ◌-◌, ◌�
 use Rattle.circular_buffer.specs.Buffer.{buffer, keep_last}
 use Rattle.flow_law.specs.declared.states.Subscriber.{Subscriber}
 use Rattle.flow_law.specs.declared.states.Numbered.{Numbered}
-use Rattle.flow_law.specs.Laws.{RisesTo}
-use Rattle.flow_law.specs.Standing.{Core, least_position}
-use Rattle.flow_law.specs.Covering.{kept_start, kept_need}
+use Rattle.flow_law.specs.laws.Laws.{RisesTo}
+use Rattle.flow_law.specs.flow.Standing.{Core, least_position}
+use Rattle.flow_law.specs.flow.Covering.{kept_start, kept_need}
 use Rattle.flow_law.proofs.CoveringLemmas.{least_position_rises}
 use Rattle.flow_law.proofs.Rows.{rises_higher}
 use Rattle.flow_containers.specs.Subscribers.{Standing}

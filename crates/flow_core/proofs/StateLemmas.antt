@@ -7,7 +7,7 @@ use Rattle.flow_law.specs.declared.call.StateReply.TheVariants.{Answered, Refuse
 use Rattle.flow_law.specs.declared.fault.FlowFault.{FlowFault}
 use Rattle.flow_law.specs.declared.fault.FlowFault.TheVariants.{OutOfMemory}
 use Rattle.flow_law.specs.declared.states.StateFlowState.{StateFlowState}
-use Rattle.flow_law.specs.StateFlow.{last_got_by, with_last, IsDue, StateFlowReplies}
+use Rattle.flow_law.specs.flow.StateFlow.{last_got_by, with_last, IsDue, StateFlowReplies}
 use Rattle.flow_containers.specs.declared.members.Member.{Member}
 use Rattle.flow_containers.specs.Members.{row_of, with_row}
 use Rattle.flow_containers.proofs.SubscriberLemmas.{last_of-row, with_last-row}

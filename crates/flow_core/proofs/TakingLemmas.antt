@@ -14,12 +14,12 @@ use Rattle.flow_law.specs.declared.outcome.Next.{Next}
 use Rattle.flow_law.specs.declared.outcome.Next.TheVariants.{Value}
 use Rattle.flow_law.specs.declared.states.SharedFlowState.{SharedFlowState}
 use Rattle.flow_law.specs.declared.states.Subscriber.{Subscriber}
-use Rattle.flow_law.specs.Draining.{NextsGive, TakesAtMost, DrainsBy}
-use Rattle.flow_law.specs.SharedFlow.{answer, cache_start, values, position_of, own_of, stand_at, move_to}
-use Rattle.flow_law.specs.SharedHistory.{reply_by}
-use Rattle.flow_law.specs.SharedStep.{advance, next}
-use Rattle.flow_law.specs.Standing.{Core, StandsFor}
-use Rattle.flow_law.specs.Covering.{Covers, kept_start, kept_need, tidied}
+use Rattle.flow_law.specs.flow.Draining.{NextsGive, TakesAtMost, DrainsBy}
+use Rattle.flow_law.specs.flow.SharedFlow.{answer, cache_start, values, position_of, own_of, stand_at, move_to}
+use Rattle.flow_law.specs.flow.SharedHistory.{reply_by}
+use Rattle.flow_law.specs.flow.SharedStep.{advance, next}
+use Rattle.flow_law.specs.flow.Standing.{Core, StandsFor}
+use Rattle.flow_law.specs.flow.Covering.{Covers, kept_start, kept_need, tidied}
 use Rattle.flow_law.proofs.CoveringLemmas.{covers-subscribers, least_position_bound, least_position-move_to, settle_idle, slice_get-drop}
 use Rattle.flow_law.proofs.HoldingLemmas.{tidy, covers_enough, same_value}
 use Rattle.flow_law.proofs.Rows.{position-move_to, own-move_to}

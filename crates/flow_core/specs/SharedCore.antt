@@ -14,15 +14,15 @@ use Rattle.flow_law.specs.declared.call.SharedCall.TheVariants as call
 use Rattle.flow_law.specs.declared.call.SharedReply.{SharedReply}
 use Rattle.flow_law.specs.declared.call.SharedReply.TheVariants as reply
 use Rattle.flow_law.specs.declared.states.SharedFlowState.{SharedFlowState}
-use Rattle.flow_law.specs.EmitRule as law
-use Rattle.flow_law.specs.History.{replied}
-use Rattle.flow_law.specs.SharedHistory.{shared_flow}
-use Rattle.flow_law.specs.SharedStep.{settle}
-use Rattle.flow_law.specs.Laws.{RisesTo}
+use Rattle.flow_law.specs.flow.EmitRule as law
+use Rattle.flow_law.specs.history.History.{replied}
+use Rattle.flow_law.specs.flow.SharedHistory.{shared_flow}
+use Rattle.flow_law.specs.flow.SharedStep.{settle}
+use Rattle.flow_law.specs.laws.Laws.{RisesTo}
 use Rattle.flow_law.specs.declared.states.Subscriber.{Subscriber}
-use Rattle.flow_law.specs.SharedFlow.{raise_to}
-use Rattle.flow_law.specs.Standing.{Core, StandsFor, Conforms}
-use Rattle.flow_law.specs.Covering.{Covers, kept_start, kept_need}
+use Rattle.flow_law.specs.flow.SharedFlow.{raise_to}
+use Rattle.flow_law.specs.flow.Standing.{Core, StandsFor, Conforms}
+use Rattle.flow_law.specs.flow.Covering.{Covers, kept_start, kept_need}
 use Rattle.flow_containers.specs.Subscribers.{is_full}
 use Rattle.flow_core.specs.declared.shared.SharedCore.TheInside.{Inside}
 use Rattle.flow_core.specs.declared.sub_id.SubId.{SubId}

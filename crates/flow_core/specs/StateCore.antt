@@ -5,11 +5,11 @@ use Rattle.flow_law.specs.declared.outcome.Next.{Next}
 use Rattle.flow_law.specs.declared.call.StateCall.TheVariants as call
 use Rattle.flow_law.specs.declared.call.StateReply.{StateReply}
 use Rattle.flow_law.specs.declared.call.StateReply.TheVariants as reply
-use Rattle.flow_law.specs.History.{replied}
+use Rattle.flow_law.specs.history.History.{replied}
 use Rattle.flow_law.specs.declared.states.StateFlowState.{StateFlowState}
 use Rattle.flow_law.specs.declared.states.StateSubscriber.{StateSubscriber}
-use Rattle.flow_law.specs.Standing.{StateConforms}
-use Rattle.flow_law.specs.StateFlow.{state_flow}
+use Rattle.flow_law.specs.flow.Standing.{StateConforms}
+use Rattle.flow_law.specs.flow.StateFlow.{state_flow}
 use Rattle.flow_core.specs.declared.sub_id.SubId.{SubId}
 use Rattle.flow_containers.specs.declared.members.Member.{Member}
 use Rattle.flow_core.specs.declared.state.StateCore.TheInside.{Inside}

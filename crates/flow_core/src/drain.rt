@@ -1,7 +1,7 @@
 //! Taking all that a subscriber can receive now.
 ghost use Rattle.std.specs.Prelude.{ℕ, Result, IsOk};
 ghost use Rattle.std.specs.Result.{OnErr};
-ghost use Rattle.flow_law.specs.Draining.{DrainsBy, IsFull};
+ghost use Rattle.flow_law.specs.flow.Draining.{DrainsBy, IsFull};
 ghost use Rattle.flow_law.specs.declared.fault.FlowFault.{FlowFault};
 ghost use Rattle.flow_law.specs.declared.outcome.Next.{Next};
 ghost use Rattle.flow_core.specs.SubId.{number_of};

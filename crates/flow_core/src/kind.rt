@@ -2,13 +2,13 @@
 ghost use Rattle.std.specs.Prelude.{◌≡◌, ◌+◌, ◌≤◌, List, ℕ, Ok, IsOk};
 ghost use Rattle.std.specs.Vec.{vec_len, vec_capacity};
 ghost use Rattle.flow_law.specs.declared.outcome.Drained.TheVariants.{Most};
-ghost use Rattle.flow_law.specs.Draining.{DrainsBy};
+ghost use Rattle.flow_law.specs.flow.Draining.{DrainsBy};
 ghost use Rattle.flow_law.specs.declared.history.HistoryEvent.{HistoryEvent};
 ghost use Rattle.flow_law.specs.declared.history.Said.{Said};
-ghost use Rattle.flow_law.specs.History.{Kind, replied};
-ghost use Rattle.flow_law.specs.Lawful.{Lawful};
-ghost use Rattle.flow_law.specs.Sleeping.{Sleeping};
-ghost use Rattle.flow_law.specs.Standing.{Documents, StandsForHistory};
+ghost use Rattle.flow_law.specs.history.History.{Kind, replied};
+ghost use Rattle.flow_law.specs.history.Lawful.{Lawful};
+ghost use Rattle.flow_law.specs.history.Sleeping.{Sleeping};
+ghost use Rattle.flow_law.specs.flow.Standing.{Documents, StandsForHistory};
 ghost use Rattle.flow_core.specs.SubId.{number_of};
 
 use crate::sub_id::SubId;

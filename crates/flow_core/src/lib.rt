@@ -2,7 +2,7 @@
 //! kotlinx.coroutines.
 //!
 //! Each call has a clause `documented`: in each state of the documented flow for which the core stands, that flow may
-//! give this reply, and the core then stands for the next state. `flow_law/specs/SharedFlow.antt` defines the states. A
+//! give this reply, and the core then stands for the next state. `flow_law/specs/flow/SharedFlow.antt` defines the states. A
 //! core from `new` stands for the first state. A `drain` is a chain of calls of `next` (`DrainsBy`).
 //!
 //! # Waiting

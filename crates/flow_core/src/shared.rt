@@ -1,10 +1,10 @@
 //! A shared flow for one thread.
 ghost use Rattle.std.specs.Prelude.{◌≡◌, ◌+◌, ◌-◌, ◌<◌, ◌≤◌, true, false, None, MatchResult, length};
 ghost use Rattle.std.specs.Bool.{OnTrue, OnFalse};
-ghost use Rattle.flow_law.specs.SharedFlow as flow;
-ghost use Rattle.flow_law.specs.SharedStep as step;
-ghost use Rattle.flow_law.specs.Standing.{StandsFor};
-ghost use Rattle.flow_law.specs.Covering.{Covers, kept_start, kept_need};
+ghost use Rattle.flow_law.specs.flow.SharedFlow as flow;
+ghost use Rattle.flow_law.specs.flow.SharedStep as step;
+ghost use Rattle.flow_law.specs.flow.Standing.{StandsFor};
+ghost use Rattle.flow_law.specs.flow.Covering.{Covers, kept_start, kept_need};
 ghost use Rattle.flow_law.specs.declared.states.SharedFlowState.{SharedFlowState};
 ghost use Rattle.flow_core.specs.SharedCore.{window_of, kept_full, pushed, CoreShows, Leads, CoreReaches, Admits, IsSettled};
 
@@ -56,7 +56,7 @@ impl<T: FlowValue, A: Allocator + Copy> Drop for SharedCore<T, A> {
 }
 
 impl<T: FlowValue, A: Allocator + Copy> Model for SharedCore<T, A> {
-    ghost use Rattle.flow_law.specs.Standing.{Core};
+    ghost use Rattle.flow_law.specs.flow.Standing.{Core};
 
     ghost Value = { Core T };
 

@@ -1,7 +1,7 @@
 //! A state flow for one thread.
 ghost use Rattle.std.specs.Prelude.{◌≡◌, ◌↔◌, ℕ, List, Some, Ok, Err, IsTrue, IsOk, IfOk, IfErr};
-ghost use Rattle.flow_law.specs.StateFlow as flow;
-ghost use Rattle.flow_law.specs.Standing.{StateConforms};
+ghost use Rattle.flow_law.specs.flow.StateFlow as flow;
+ghost use Rattle.flow_law.specs.flow.Standing.{StateConforms};
 ghost use Rattle.flow_law.specs.declared.call.StateCall.TheVariants as call;
 ghost use Rattle.flow_law.specs.declared.call.StateReply.TheVariants as reply;
 ghost use Rattle.flow_core.specs.SubId.{number_of};

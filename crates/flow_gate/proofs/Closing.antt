@@ -5,8 +5,8 @@ use lib.ListN.{get_elem?}
 use Rattle.atomic_table.specs.Table.{Final, Seen, State}
 use Rattle.flow_law.specs.declared.history.HistoryEvent.{HistoryEvent}
 use Rattle.flow_law.specs.declared.history.Knowledge.{Knowledge}
-use Rattle.flow_law.specs.Growth.{Fits}
-use Rattle.flow_law.specs.RealTime.{IsTimed}
+use Rattle.flow_law.specs.history.Growth.{Fits}
+use Rattle.flow_law.specs.history.RealTime.{IsTimed}
 use Rattle.flow_gate.specs.declared.view.SeatView.{SeatView}
 use Rattle.flow_gate.specs.View.{seat_view}
 use Rattle.flow_gate.specs.Rule.{GateHolds}

@@ -12,11 +12,11 @@ use Rattle.atomic_table.proofs.Lists.{at_set, set_again, set_here, set_else, at_
 use Rattle.flow_law.specs.declared.history.HistoryEvent.{HistoryEvent}
 use Rattle.flow_law.specs.declared.history.Knowledge.{Knowledge}
 use Rattle.flow_gate.specs.declared.view.SeatView.{SeatView}
-use Rattle.flow_law.specs.Growth.{IsApartFrom, Fits, NamesOnlyMade, after_events}
-use Rattle.flow_law.specs.RealTime.{IsTimed}
+use Rattle.flow_law.specs.history.Growth.{IsApartFrom, Fits, NamesOnlyMade, after_events}
+use Rattle.flow_law.specs.history.RealTime.{IsTimed}
 use Rattle.flow_gate.specs.View.{seat_view}
 use Rattle.flow_gate.specs.Rule.{GateHolds, KnownAt, IsHeld}
-use Rattle.flow_law.specs.Growth.{sees, loses, adds, makes, child}
+use Rattle.flow_law.specs.history.Growth.{sees, loses, adds, makes, child}
 use Rattle.flow_gate.specs.Steps.{stands_from, entered, observed, looked, left, first_known, others_known}
 use Rattle.flow_law.proofs.Names.{every_map, grew_refl, fits_more_all, names_own_all, makes_fits, child_fits, child_apart, apart_child, makes_child, child_makes}
 use Rattle.flow_law.proofs.RealTimeLemmas.{IsTimed-events}

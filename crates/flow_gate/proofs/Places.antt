@@ -8,7 +8,7 @@ use Rattle.std.specs.List.{AllByRecursion}
 use Rattle.atomic_table.proofs.Lists.{at_set}
 use Rattle.flow_law.specs.declared.history.Knowledge.{Knowledge}
 use Rattle.flow_gate.specs.declared.view.SeatView.{SeatView}
-use Rattle.flow_law.specs.Growth.{IsMadeBy, IsApartFrom}
+use Rattle.flow_law.specs.history.Growth.{IsMadeBy, IsApartFrom}
 use Rattle.flow_gate.specs.Rule.{KnownAt}
 use Rattle.flow_law.proofs.Names.{numbered_more}
 

@@ -3,8 +3,8 @@ use Rattle.std.specs.Prelude.{◌≡◌, ℕ, true, false, List, [], ◌∷◌, 
 use Rattle.atomic_table.specs.Table.{Me}
 use Rattle.atomic_table.specs.declared.shared.Seat.{Seat as TableSeat}
 use Rattle.flow_law.specs.declared.history.Knowledge.{Knowledge}
-use Rattle.flow_law.specs.Growth.{first_knowledge}
-use Rattle.flow_law.specs.Tokens.{token}
+use Rattle.flow_law.specs.history.Growth.{first_knowledge}
+use Rattle.flow_law.specs.history.Tokens.{token}
 use Rattle.flow_gate.specs.declared.view.SeatView.{SeatView}
 use Rattle.flow_gate.specs.Tokens.{SeatState}
 use Rattle.flow_gate.specs.View.{seat_view}

@@ -4,8 +4,8 @@ use Rattle.std.specs.List.{AllByRecursion}
 use Rattle.atomic_table.specs.Table.{Me, Step, rest}
 use Rattle.flow_law.specs.declared.history.HistoryEvent.{HistoryEvent}
 use Rattle.flow_law.specs.declared.history.Knowledge.{Knowledge}
-use Rattle.flow_law.specs.Growth.{Fits, sees, loses, adds}
-use Rattle.flow_law.specs.RealTime.{IsTimed}
+use Rattle.flow_law.specs.history.Growth.{Fits, sees, loses, adds}
+use Rattle.flow_law.specs.history.RealTime.{IsTimed}
 use Rattle.flow_gate.specs.declared.view.SeatView.{SeatView}
 use Rattle.flow_gate.specs.View.{seat_view}
 

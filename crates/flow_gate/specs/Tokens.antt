@@ -3,10 +3,10 @@
 use Rattle.std.specs.Prelude.{◌≡◌, List, Option, Some, None}
 use Rattle.atomic_table.specs.Seated.{TableId}
 use Rattle.flow_law.specs.declared.history.HistoryEvent.{HistoryEvent}
-use Rattle.flow_law.specs.Growth.{Fits, after_events, knowledge, sees}
-use Rattle.flow_law.specs.Promise.{Token}
-use Rattle.flow_law.specs.RealTime.{IsTimed}
-use Rattle.flow_law.specs.Tokens.{Origin, knowing, Begins}
+use Rattle.flow_law.specs.history.Growth.{Fits, after_events, knowledge, sees}
+use Rattle.flow_law.specs.history.Promise.{Token}
+use Rattle.flow_law.specs.history.RealTime.{IsTimed}
+use Rattle.flow_law.specs.history.Tokens.{Origin, knowing, Begins}
 
 -- the token of a seat: its gate, and what it knows
 abbrev pub GateToken : Type 0 → Type 0

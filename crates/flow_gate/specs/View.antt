@@ -1,7 +1,7 @@
 -- The view of a seat at the table: what the tokens in it know, and whether it holds the state.
 use Rattle.std.specs.Prelude.{Bool, false, List, [], ◌∷◌}
 use Rattle.flow_law.specs.declared.history.Knowledge.{Knowledge}
-use Rattle.flow_law.specs.Growth.{first_knowledge}
+use Rattle.flow_law.specs.history.Growth.{first_knowledge}
 use Rattle.flow_gate.specs.declared.view.SeatView.{SeatView}
 
 module _ {E : Type 0} where

@@ -1,7 +1,7 @@
 //! Entering a gate.
 ghost use Rattle.std.specs.Prelude.{◌≡◌, ◌≤◌, true, false, Some};
-ghost use Rattle.flow_law.specs.Growth.{loses};
-ghost use Rattle.flow_law.specs.Tokens.{knowing};
+ghost use Rattle.flow_law.specs.history.Growth.{loses};
+ghost use Rattle.flow_law.specs.history.Tokens.{knowing};
 ghost use Rattle.flow_gate.specs.Tokens.{idle_seat, IsIdle, Finds, FindsAtOnce};
 
 use crate::gate::Gate;

@@ -1,7 +1,7 @@
 //! The gate: its seats, their meetings, and its end.
 ghost use Rattle.std.specs.Prelude.{◌≡◌, [], Some, IfOk, IfErr, IfSome};
-ghost use Rattle.flow_law.specs.Growth.{makes, child};
-ghost use Rattle.flow_law.specs.Tokens.{knowing};
+ghost use Rattle.flow_law.specs.history.Growth.{makes, child};
+ghost use Rattle.flow_law.specs.history.Tokens.{knowing};
 ghost use Rattle.flow_gate.specs.Tokens.{idle_seat, IsIdle, BeginsIdle, MeetsAtGate, StandsForSome, StandsAfter, HasStood};
 
 use crate::seat::Seat;
@@ -22,7 +22,7 @@ pub struct Gate<S: Guarded, A: Allocator = Global> {
 
 impl<S: Guarded, A: Allocator> Model for Gate<S, A> {
     ghost use Rattle.std.specs.Prelude.{◌≡◌};
-    ghost use Rattle.flow_law.specs.Tokens.{origin};
+    ghost use Rattle.flow_law.specs.history.Tokens.{origin};
     ghost use Rattle.flow_gate.specs.Tokens.{GateOrigin};
 
     ghost Value = { GateOrigin S };

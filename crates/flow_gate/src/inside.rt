@@ -1,7 +1,7 @@
 //! What a caller inside a gate does.
 ghost use Rattle.std.specs.Prelude.{◌≡◌};
-ghost use Rattle.flow_law.specs.Growth.{adds};
-ghost use Rattle.flow_law.specs.Tokens.{knowing};
+ghost use Rattle.flow_law.specs.history.Growth.{adds};
+ghost use Rattle.flow_law.specs.history.Tokens.{knowing};
 ghost use Rattle.flow_gate.specs.Tokens.{idle_seat, StandsWith};
 
 use crate::gate::Gate;

@@ -1,7 +1,7 @@
 //! The rule of the gate's table, and what each step proves. Nothing here runs.
 ghost use Rattle.std.specs.Prelude.{List, [], ◌++◌, map, false, Option, None};
 ghost use Rattle.flow_law.specs.declared.history.Knowledge.{Knowledge};
-ghost use Rattle.flow_law.specs.Growth.{makes, child};
+ghost use Rattle.flow_law.specs.history.Growth.{makes, child};
 ghost use Rattle.flow_gate.specs.View.{first_view, seat_view};
 ghost use Rattle.flow_gate.specs.Rule.{GateHolds};
 ghost use Rattle.flow_gate.specs.Steps.{stands_from, entered, observed, looked, left, first_known, others_known};

@@ -16,12 +16,12 @@ use Rattle.flow_law.specs.declared.call.SharedCall.{SharedCall}
 use Rattle.flow_law.specs.declared.call.SharedCall.TheVariants as call
 use Rattle.flow_law.specs.declared.call.SharedReply.{SharedReply}
 use Rattle.flow_law.specs.declared.call.SharedReply.TheVariants as reply
-use Rattle.flow_law.specs.SharedFlow.{Numbered, SharedFlowState, Replied, answer, issuing, first_state, is_blocked, is_exhausted, position_of, own_of, values}
-use Rattle.flow_law.specs.EmitRule.{appends, offers, when_blocked, is_open, emit_case, numbered, append, suspend, emit_in, try_emit_in}
-use Rattle.flow_law.specs.SharedStep.{admit, settle, advance, leave, enroll, next_from, read, next}
-use Rattle.flow_law.specs.SharedHistory.{History, IsLegalShared, IsLegalFrom, Replies, is_refused, reply_by, answer_to, after, shared_after_all, state_after}
-use Rattle.flow_law.specs.Laws.{NoIdleQueue}
-use Rattle.flow_law.specs.Accepted.{accepted_by, accepted, is_cancel, NoneCancelled, emitted_and_queued}
+use Rattle.flow_law.specs.flow.SharedFlow.{Numbered, SharedFlowState, Replied, answer, issuing, first_state, is_blocked, is_exhausted, position_of, own_of, values}
+use Rattle.flow_law.specs.flow.EmitRule.{appends, offers, when_blocked, is_open, emit_case, numbered, append, suspend, emit_in, try_emit_in}
+use Rattle.flow_law.specs.flow.SharedStep.{admit, settle, advance, leave, enroll, next_from, read, next}
+use Rattle.flow_law.specs.flow.SharedHistory.{History, IsLegalShared, IsLegalFrom, Replies, is_refused, reply_by, answer_to, after, shared_after_all, state_after}
+use Rattle.flow_law.specs.laws.Laws.{NoIdleQueue}
+use Rattle.flow_law.specs.laws.Accepted.{accepted_by, accepted, is_cancel, NoneCancelled, emitted_and_queued}
 use Rattle.flow_law.proofs.Moves.{open_not_blocked, event_keeps}
 use Rattle.flow_law.proofs.Queue.{Calm, calm_keeps, opened_fits}
 use Rattle.flow_law.proofs.ReplyLemmas.{replies_cases}

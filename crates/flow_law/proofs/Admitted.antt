@@ -9,18 +9,18 @@ use Rattle.std.proofs.lemmas.Bool.Decides.{Decides-eqb}
 use Rattle.std.proofs.lemmas.List.{length_push}
 use Rattle.std.proofs.lemmas.List.Folds.{list_any-append}
 use Rattle.flow_law.specs.declared.config.Config.{Config}
-use Rattle.flow_law.specs.SharedFlow.{Numbered, SharedFlowState, first_state, capacity, window, lag, is_blocked, is_offering, is_offered_as, is_queued, newest, position_of, stand_at}
-use Rattle.flow_law.specs.EmitRule.{numbered, append}
-use Rattle.flow_law.specs.SharedStep.{settle, withdraw}
-use Rattle.flow_law.specs.SharedHistory.{History, IsLegalShared, IsLegalFrom, shared_flow, after, shared_after_all, state_after}
-use Rattle.flow_law.specs.Laws.{RisesTo, numbers}
-use Rattle.flow_law.specs.Waiting.{from_flow_by, from_flow, ahead, HasSlowSubscriber, Waits, EachWaits}
+use Rattle.flow_law.specs.flow.SharedFlow.{Numbered, SharedFlowState, first_state, capacity, window, lag, is_blocked, is_offering, is_offered_as, is_queued, newest, position_of, stand_at}
+use Rattle.flow_law.specs.flow.EmitRule.{numbered, append}
+use Rattle.flow_law.specs.flow.SharedStep.{settle, withdraw}
+use Rattle.flow_law.specs.flow.SharedHistory.{History, IsLegalShared, IsLegalFrom, shared_flow, after, shared_after_all, state_after}
+use Rattle.flow_law.specs.laws.Laws.{RisesTo, numbers}
+use Rattle.flow_law.specs.laws.Waiting.{from_flow_by, from_flow, ahead, HasSlowSubscriber, Waits, EachWaits}
 use Rattle.flow_law.proofs.Moves.{Keeps, event_keeps, history_keeps, admit_keeps}
 use Rattle.flow_law.proofs.Owners.{legal_right}
 use Rattle.flow_law.proofs.Rows.{split, position_holds, rises_below, rises_filter}
 use Rattle.flow_law.proofs.Queue.{fits_drops}
 use Rattle.flow_law.proofs.Sound.{Sound, sound_keeps, always_sound}
-use Rattle.flow_law.proofs.Lags.{Keeping, keeping_keeps, always_keeping}
+use Rattle.flow_law.proofs.LagBounds.{Keeping, keeping_keeps, always_keeping}
 use Rattle.flow_law.proofs.Boxes.{admit_subscribers}
 use Rattle.flow_law.proofs.Growing.{event_grown, history_grown, longer, same_window}
 use Rattle.flow_law.proofs.Passing.{Moved, enters, stays, skips, reads, event_passes}
@@ -57,7 +57,7 @@ module _ {T : Type 0} where
     where
       moved : (q : ℕ) → length (after s e.what.call e.what.reply).emitted ≤ q + window (after s e.what.call e.what.reply) → window (after s e.what.call e.what.reply) ≡ window s
           → length s.emitted ≤ length (after s e.what.call e.what.reply).emitted
-          → Moved u s (after s e.what.call e.what.reply) (from_flow_by u s e.what.call e.what.reply) (Rattle.flow_law.specs.Mailbox.began_by u s e.what.call e.what.reply) q
+          → Moved u s (after s e.what.call e.what.reply) (from_flow_by u s e.what.call e.what.reply) (Rattle.flow_law.specs.flow.Mailbox.began_by u s e.what.call e.what.reply) q
           → base + (n + length (from_flow_by u s e.what.call e.what.reply)) ≤ q + window (after s e.what.call e.what.reply)
       moved q near wide more (enters new is none begins) = let zero_got : length (from_flow_by u s e.what.call e.what.reply) ≡ 0 = ap length none in omega (arith, near, more, low, zero_got, fresh new)
       moved q near wide more (stays here none begins) = let zero_got : length (from_flow_by u s e.what.call e.what.reply) ≡ 0 = ap length none in omega (arith, bound q here, wide, zero_got)

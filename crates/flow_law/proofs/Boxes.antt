@@ -4,10 +4,10 @@ use Rattle.std.specs.Prelude.{max, drop}
 use Rattle.std.proofs.lemmas.List.{map-append, length-map, length_push, drop-append-le, drop_at, drop_all, drop-drop}
 use Rattle.flow_law.specs.declared.config.Config.{Config}
 use Rattle.flow_law.specs.declared.config.Overflow.TheVariants.{DropOldest}
-use Rattle.flow_law.specs.SharedFlow.{Numbered, SharedFlowState, capacity, values, is_blocked, window, position_of, own_of}
-use Rattle.flow_law.specs.EmitRule.{append, drop_oldest, numbered}
-use Rattle.flow_law.specs.SharedStep.{admit, settle}
-use Rattle.flow_law.specs.Mailbox.{Mailbox, Beginning, keep_last, arrive, arrivals, with_arrivals}
+use Rattle.flow_law.specs.flow.SharedFlow.{Numbered, SharedFlowState, capacity, values, is_blocked, window, position_of, own_of}
+use Rattle.flow_law.specs.flow.EmitRule.{append, drop_oldest, numbered}
+use Rattle.flow_law.specs.flow.SharedStep.{admit, settle}
+use Rattle.flow_law.specs.flow.Mailbox.{Mailbox, Beginning, keep_last, arrive, arrivals, with_arrivals}
 use Rattle.flow_law.proofs.Rows.{split, position_holds, position-map, own-map, lag_below}
 use Rattle.flow_law.proofs.Sound.{Placed}
 

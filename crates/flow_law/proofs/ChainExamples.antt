@@ -4,9 +4,9 @@ use Rattle.std.specs.Prelude.{nat_lt}
 use Rattle.flow_law.specs.declared.chain.ChainFault.{ChainFault}
 use Rattle.flow_law.specs.declared.chain.ChainFault.TheVariants.{Overflow, Source}
 use Rattle.flow_law.specs.declared.chain.End.TheVariants.{Completed, Failed}
-use Rattle.flow_law.specs.ChainRun.{ChainRun, gives, pends, ends, entries, list_run}
-use Rattle.flow_law.specs.OperatorRuns.{map_run, filter_run, take_while_run, take_run, drop_run, drop_while_run, distinct_run, scan_run, running_reduce_run, zip_run, transform_run, flat_map_run}
-use Rattle.flow_law.specs.Chain.{meaning, meaning_of, map_meaning, filter_meaning, take_while_meaning, take_meaning, drop_meaning, drop_while_meaning, distinct_meaning, scan_meaning, running_reduce_meaning, transform_meaning, flat_map_meaning, zip_meaning}
+use Rattle.flow_law.specs.chain.ChainRun.{ChainRun, gives, pends, ends, entries, list_run}
+use Rattle.flow_law.specs.chain.OperatorRuns.{map_run, filter_run, take_while_run, take_run, drop_run, drop_while_run, distinct_run, scan_run, running_reduce_run, zip_run, transform_run, flat_map_run}
+use Rattle.flow_law.specs.chain.Chain.{meaning, meaning_of, map_meaning, filter_meaning, take_while_meaning, take_meaning, drop_meaning, drop_while_meaning, distinct_meaning, scan_meaning, running_reduce_meaning, transform_meaning, flat_map_meaning, zip_meaning}
 
 -- sums up to the greatest i64
 abbrev sum : ℕ × ℕ → Result ℕ ChainFault

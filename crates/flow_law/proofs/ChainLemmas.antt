@@ -10,9 +10,9 @@ use Rattle.std.specs.Bool.{IsTrue}
 use Rattle.flow_law.specs.declared.chain.ChainFault.{ChainFault}
 use Rattle.flow_law.specs.declared.chain.End.{End}
 use Rattle.flow_law.specs.declared.chain.End.TheVariants.{Completed, Failed}
-use Rattle.flow_law.specs.ChainRun.{ChainRun, gives, pends, ends, items, ending, entries, asks}
-use Rattle.flow_law.specs.OperatorRuns.{continued, map_run, filter_run, take_while_run, take_run, drop_run, drop_while_run, is_repeated, distinct_run, scan_run, running_reduce_run, pair_run, zip_run, prepended, transform_run, followed, flat_map_run}
-use Rattle.flow_law.specs.Chain.{Meaning, meaning, meaning_of, with_first, with_ending, then_meaning, onward, images, map_meaning, filter_meaning, take_while_meaning, take_meaning, drop_meaning, drop_while_meaning, differing, distinct_meaning, results, scan_meaning, running_reduce_meaning, concatenated, transform_meaning, flattened, flat_map_meaning, zip_meaning}
+use Rattle.flow_law.specs.chain.ChainRun.{ChainRun, gives, pends, ends, items, ending, entries, asks}
+use Rattle.flow_law.specs.chain.OperatorRuns.{continued, map_run, filter_run, take_while_run, take_run, drop_run, drop_while_run, is_repeated, distinct_run, scan_run, running_reduce_run, pair_run, zip_run, prepended, transform_run, followed, flat_map_run}
+use Rattle.flow_law.specs.chain.Chain.{Meaning, meaning, meaning_of, with_first, with_ending, then_meaning, onward, images, map_meaning, filter_meaning, take_while_meaning, take_meaning, drop_meaning, drop_while_meaning, differing, distinct_meaning, results, scan_meaning, running_reduce_meaning, concatenated, transform_meaning, flattened, flat_map_meaning, zip_meaning}
 
 continued_means : {B C : Type 0} (a : Result B ChainFault) (k : B → ChainRun C) (m : B → Meaning C) → ((y : B) → meaning_of (k y) ≡ m y)
     → meaning_of (continued a k) ≡ onward a m

@@ -6,10 +6,10 @@ use Rattle.std.proofs.lemmas.List.{append_cancel_left}
 use Rattle.std.proofs.lemmas.Bool.Decides.{Decides-eqb}
 use Rattle.flow_law.specs.declared.history.HistoryEvent.{HistoryEvent}
 use Rattle.flow_law.specs.declared.history.Knowledge.{Knowledge}
-use Rattle.flow_law.specs.Growth.{child_name, IsMadeBy, NamesOnlyMade}
+use Rattle.flow_law.specs.history.Growth.{child_name, IsMadeBy, NamesOnlyMade}
 use Rattle.flow_law.proofs.Names.{every_weaker, longer}
-use Rattle.flow_law.specs.Done.{is_same_name, total, said_by, done_by}
-use Rattle.flow_law.specs.Closed.{Accounts, HasName, AreApart, HasChildren, AreAll, IsClosed, AreNumbered, IsAllDone}
+use Rattle.flow_law.specs.history.Done.{is_same_name, total, said_by, done_by}
+use Rattle.flow_law.specs.laws.Closed.{Accounts, HasName, AreApart, HasChildren, AreAll, IsClosed, AreNumbered, IsAllDone}
 use Rattle.flow_law.proofs.DoneLemmas.{split, same_not, said_by_yes, said_by_no, same_refl}
 
 module _ {E : Type 0} where

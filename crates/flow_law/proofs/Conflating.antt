@@ -13,10 +13,10 @@ use Rattle.flow_law.specs.declared.call.StateCall.{StateCall}
 use Rattle.flow_law.specs.declared.call.StateCall.TheVariants.{GetValue, Set, TryEmit, CompareAndSet, Subscribe, TakeNext, Unsubscribe, SubscriptionCount, ReplayCache, ResetReplayCache}
 use Rattle.flow_law.specs.declared.call.StateReply.{StateReply}
 use Rattle.flow_law.specs.declared.call.StateReply.TheVariants.{Answered, Subscribed, Received, Refused}
-use Rattle.flow_law.specs.SharedFlow.{Numbered, Subscriber, SharedFlowState, cache}
-use Rattle.flow_law.specs.SharedStep as flow
-use Rattle.flow_law.specs.StateFlow.{StateFlowState, StateHistory, first_state_flow, state_flow_after, IsReply, Receives, MayNeedMemory, is_state_exhausted, last_got_by, with_last, without_subscriber, IsLegalState}
-use Rattle.flow_law.specs.Conflation.{Beside, beside, newest_only, emitting, subscribing, reading, leaving, follows, Conflated, Agrees, AgreeAll, passed_on}
+use Rattle.flow_law.specs.flow.SharedFlow.{Numbered, Subscriber, SharedFlowState, cache}
+use Rattle.flow_law.specs.flow.SharedStep as flow
+use Rattle.flow_law.specs.flow.StateFlow.{StateFlowState, StateHistory, first_state_flow, state_flow_after, IsReply, Receives, MayNeedMemory, is_state_exhausted, last_got_by, with_last, without_subscriber, IsLegalState}
+use Rattle.flow_law.specs.laws.Conflation.{Beside, beside, newest_only, emitting, subscribing, reading, leaving, follows, Conflated, Agrees, AgreeAll, passed_on}
 use Rattle.flow_law.proofs.ReplyLemmas.{state_replies_cases}
 use Rattle.flow_law.proofs.Rows.{split}
 use Rattle.flow_law.proofs.StateSubscriberLemmas.{last-snoc, last-snoc_other, last-with, last-with_other, last-without, last-without_other}
@@ -140,7 +140,7 @@ module _ {T : Type 0} where
                 seat = inr (record {
                   k = a.issued + 1;
                   p = max 0 (length a.emitted - 1);
-                  number = ap (λ (t : flow.Replied ℕ T). Rattle.flow_law.specs.Conflation.given_number t.reply) done;
+                  number = ap (λ (t : flow.Replied ℕ T). Rattle.flow_law.specs.laws.Conflation.given_number t.reply) done;
                   row = refl;
                   last = last-snoc u s.subscribers (record { number = s.issued + 1; last = None }) away.1 is;
                   old = omega (arith, is);

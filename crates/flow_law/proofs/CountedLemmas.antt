@@ -7,13 +7,13 @@ use Rattle.flow_law.specs.declared.history.Said.{Said}
 use Rattle.flow_law.specs.declared.call.StateCall.{StateCall}
 use Rattle.flow_law.specs.declared.call.StateReply.{StateReply}
 use Rattle.flow_law.specs.declared.states.StateFlowState.{StateFlowState}
-use Rattle.flow_law.specs.Growth.{child_name, first_knowledge}
-use Rattle.flow_law.specs.Promise.{Token}
-use Rattle.flow_law.specs.Updates.{StateTokenOf}
-use Rattle.flow_law.specs.Done.{total, done_by}
-use Rattle.flow_law.specs.Closed.{AreAll, AreNumbered, makes_many, nth_child}
-use Rattle.flow_law.specs.UpdateCounts.{iterate, updates, OnlyUpdates, UpdatesTimes}
-use Rattle.flow_law.specs.Rounds.{IsFinalValue}
+use Rattle.flow_law.specs.history.Growth.{child_name, first_knowledge}
+use Rattle.flow_law.specs.history.Promise.{Token}
+use Rattle.flow_law.specs.history.Updates.{StateTokenOf}
+use Rattle.flow_law.specs.history.Done.{total, done_by}
+use Rattle.flow_law.specs.laws.Closed.{AreAll, AreNumbered, makes_many, nth_child}
+use Rattle.flow_law.specs.laws.UpdateCounts.{iterate, updates, OnlyUpdates, UpdatesTimes}
+use Rattle.flow_law.specs.history.Rounds.{IsFinalValue}
 use Rattle.flow_law.proofs.ClosedLemmas.{first_and_made}
 use Rattle.flow_law.proofs.UpdateCountLemmas.{all_updated, times_all}
 

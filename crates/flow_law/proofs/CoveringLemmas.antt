@@ -6,10 +6,10 @@ use Rattle.std.specs.List.{list_any, slice_get}
 use Rattle.std.proofs.lemmas.Bool.Decides.{Decides-eqb}
 use Rattle.std.proofs.lemmas.List.{take-append-drop, drop-drop, drop-append-le, map-append, length-map}
 use Rattle.std.proofs.lemmas.Grind.{common_steps}
-use Rattle.flow_law.specs.SharedFlow.{Numbered, Subscriber, SharedFlowState, cache_start, values, cache, entry, is_offering, newest, position_of, move_to, stand_at, raise_to, without, leave_own, with_own}
-use Rattle.flow_law.specs.SharedStep.{admit, settle, forget}
-use Rattle.flow_law.specs.Standing.{Core, least_position, first_needed, needed}
-use Rattle.flow_law.specs.Covering.{Covers, EndsWith}
+use Rattle.flow_law.specs.flow.SharedFlow.{Numbered, Subscriber, SharedFlowState, cache_start, values, cache, entry, is_offering, newest, position_of, move_to, stand_at, raise_to, without, leave_own, with_own}
+use Rattle.flow_law.specs.flow.SharedStep.{admit, settle, forget}
+use Rattle.flow_law.specs.flow.Standing.{Core, least_position, first_needed, needed}
+use Rattle.flow_law.specs.flow.Covering.{Covers, EndsWith}
 
 -- ---- the least position
 
@@ -190,16 +190,16 @@ module _ {T : Type 0} where
   -- admission puts its own queue in place of the state's
   pub admit_any_queue : (s : SharedFlowState T) (r q : List (Numbered T)) → admit (record s { queue = r }) q ≡ admit s q
   admit_any_queue s r [] = refl
-  admit_any_queue s r (e ∷ q) = ap (λ (t : SharedFlowState T). cond (Rattle.flow_law.specs.SharedFlow.is_blocked s) (record s { queue = e ∷ q }) t) (admit_any_queue (record s { emitted = s.emitted ++ e ∷ [] }) r q)
+  admit_any_queue s r (e ∷ q) = ap (λ (t : SharedFlowState T). cond (Rattle.flow_law.specs.flow.SharedFlow.is_blocked s) (record s { queue = e ∷ q }) t) (admit_any_queue (record s { emitted = s.emitted ++ e ∷ [] }) r q)
 
-  pub settle_first : (s : SharedFlowState T) (e : Numbered T) (q : List (Numbered T)) → s.queue ≡ e ∷ q → Rattle.flow_law.specs.SharedFlow.is_blocked s ≡ false
+  pub settle_first : (s : SharedFlowState T) (e : Numbered T) (q : List (Numbered T)) → s.queue ≡ e ∷ q → Rattle.flow_law.specs.flow.SharedFlow.is_blocked s ≡ false
       → settle s ≡ settle (record s { emitted = s.emitted ++ e ∷ []; queue = q })
   settle_first s e q here free =
       ap (λ r. admit s r) here
       ∙ ap (λ t. cond t (record s { queue = e ∷ q }) (admit (record s { emitted = s.emitted ++ e ∷ [] }) q)) free
       ∙ sym (admit_any_queue (record s { emitted = s.emitted ++ e ∷ [] }) q q)
 
-  pub settle_blocked : (s : SharedFlowState T) → Rattle.flow_law.specs.SharedFlow.is_blocked s ≡ true → settle s ≡ s
+  pub settle_blocked : (s : SharedFlowState T) → Rattle.flow_law.specs.flow.SharedFlow.is_blocked s ≡ true → settle s ≡ s
   settle_blocked s b = at s.queue refl
     where
       at : (q : List (Numbered T)) → s.queue ≡ q → admit s q ≡ s

@@ -13,8 +13,8 @@ use Rattle.flow_law.specs.declared.call.StateCall.{StateCall}
 use Rattle.flow_law.specs.declared.call.StateCall.TheVariants.{GetValue, Set, TryEmit, CompareAndSet, Subscribe, TakeNext, Unsubscribe, SubscriptionCount, ReplayCache, ResetReplayCache}
 use Rattle.flow_law.specs.declared.call.StateReply.{StateReply}
 use Rattle.flow_law.specs.declared.call.StateReply.TheVariants.{Answered, Subscribed, Received, Refused}
-use Rattle.flow_law.specs.StateFlow.{StateSubscriber, StateFlowState, StateHistory, first_state_flow, state_flow, state_flow_after, IsReply, Receives, MayNeedMemory, StateFlowReplies, is_state_exhausted, last_got_by, with_last, without_subscriber, state_after_all, IsLegalState}
-use Rattle.flow_law.specs.Current.{got_by, got_from, last_got, IsSteady, GivesCurrent, IsNext, IsThere, Converges}
+use Rattle.flow_law.specs.flow.StateFlow.{StateSubscriber, StateFlowState, StateHistory, first_state_flow, state_flow, state_flow_after, IsReply, Receives, MayNeedMemory, StateFlowReplies, is_state_exhausted, last_got_by, with_last, without_subscriber, state_after_all, IsLegalState}
+use Rattle.flow_law.specs.laws.Current.{got_by, got_from, last_got, IsSteady, GivesCurrent, IsNext, IsThere, Converges}
 use Rattle.flow_law.proofs.Owners.{after_all-append, legal_right}
 use Rattle.flow_law.proofs.ReplyLemmas.{state_replies_cases}
 use Rattle.flow_law.proofs.Rows.{split, every_weaker, every_snoc, every_filter}

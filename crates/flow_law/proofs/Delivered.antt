@@ -7,15 +7,15 @@ use Rattle.flow_law.specs.declared.config.Config.{Config}
 use Rattle.flow_law.specs.declared.config.Overflow.{Overflow}
 use Rattle.flow_law.specs.declared.config.Overflow.TheVariants.{Suspend, DropOldest, DropLatest}
 use Rattle.flow_law.specs.declared.fault.FlowFault.TheVariants.{NeedsBuffer, TooLarge}
-use Rattle.flow_law.specs.SharedFlow.{SharedFlowState, first_state, capacity, config_fault, largest_capacity, needs_no_buffer, is_offered_as, stand_at}
-use Rattle.flow_law.specs.SharedStep.{withdraw, advance, leave}
-use Rattle.flow_law.specs.SharedHistory.{History, after, shared_after_all, state_after, IsLegalFrom, IsLegalShared}
-use Rattle.flow_law.specs.Mailbox.{Mailbox, Beginning, mailbox_by, mailbox_from, received_by, received, began_by, began_from}
-use Rattle.flow_law.specs.Laws.{Delivers}
+use Rattle.flow_law.specs.flow.SharedFlow.{SharedFlowState, first_state, capacity, config_fault, largest_capacity, needs_no_buffer, is_offered_as, stand_at}
+use Rattle.flow_law.specs.flow.SharedStep.{withdraw, advance, leave}
+use Rattle.flow_law.specs.flow.SharedHistory.{History, after, shared_after_all, state_after, IsLegalFrom, IsLegalShared}
+use Rattle.flow_law.specs.flow.Mailbox.{Mailbox, Beginning, mailbox_by, mailbox_from, received_by, received, began_by, began_from}
+use Rattle.flow_law.specs.laws.Laws.{Delivers}
 use Rattle.flow_law.proofs.Moves.{Keeps, event_keeps, history_keeps}
 use Rattle.flow_law.proofs.Sound.{Sound, sound_keeps, opened_sound, always_sound}
 use Rattle.flow_law.proofs.Boxes.{Boxed, admit_subscribers}
-use Rattle.flow_law.proofs.Steps.{event_good}
+use Rattle.flow_law.proofs.MailboxSteps.{event_good}
 
 -- a flow that drops the oldest values has a buffer
 usable_from : (o : Overflow) (c : ℕ) → ((c == 0) && not (needs_no_buffer o)) ≡ false → o ≡ DropOldest → 0 < c

@@ -4,11 +4,11 @@ use Rattle.std.specs.List.{AllByRecursion, flat_map}
 use Rattle.flow_law.specs.declared.history.HistoryEvent.{HistoryEvent}
 use Rattle.flow_law.specs.declared.history.Knowledge.{Knowledge}
 use Rattle.flow_law.specs.declared.history.Said.{Said}
-use Rattle.flow_law.specs.Growth.{event, IsSilent, IsMadeBy, NamesOnlyMade, GrowsByOthers, Fits}
-use Rattle.flow_law.specs.Promise.{said, AddsOne}
-use Rattle.flow_law.specs.Values.{numbers_exact}
-use Rattle.flow_law.specs.Done.{is_same_name, total, said_by, done_by, Extends, Made}
-use Rattle.flow_law.specs.Closed.{Accounts}
+use Rattle.flow_law.specs.history.Growth.{event, IsSilent, IsMadeBy, NamesOnlyMade, GrowsByOthers, Fits}
+use Rattle.flow_law.specs.history.Promise.{said, AddsOne}
+use Rattle.flow_law.specs.flow.Values.{numbers_exact}
+use Rattle.flow_law.specs.history.Done.{is_same_name, total, said_by, done_by, Extends, Made}
+use Rattle.flow_law.specs.laws.Closed.{Accounts}
 
 -- ---- sums and lists
 

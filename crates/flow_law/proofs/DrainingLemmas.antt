@@ -8,7 +8,7 @@ use Rattle.flow_law.specs.declared.outcome.Next.{Next}
 use Rattle.flow_law.specs.declared.outcome.Next.TheVariants as next
 use Rattle.flow_law.specs.declared.outcome.Drained.{Drained}
 use Rattle.flow_law.specs.declared.outcome.Drained.TheVariants as drained
-use Rattle.flow_law.specs.Draining.{NextsGive, TakesAtMost}
+use Rattle.flow_law.specs.flow.Draining.{NextsGive, TakesAtMost}
 
 takes_more : {P A : Type 0} (R : P → A → P → Type 0) (p q r : P) (xs : List A) (x : A) → FoldsTo R p xs q → R q x r → FoldsTo R p (xs ++ x ∷ []) r
 takes_more R p q r [] x folds more = (r, subst (λ t. R t x r) (sym folds) more, refl)

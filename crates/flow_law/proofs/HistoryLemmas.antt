@@ -2,7 +2,7 @@
 use Rattle.std.proofs.Common.{◌≡◌, List, [], ◌∷◌, ◌++◌, refl}
 use Rattle.flow_law.specs.declared.history.HistoryEvent.{HistoryEvent}
 use Rattle.flow_law.specs.declared.history.Said.{Said}
-use Rattle.flow_law.specs.History.{Kind, Owner, after_all, IsLegal, MaySpeak, MayCall, IsOwned, IsHistory, owners_all, owners_after}
+use Rattle.flow_law.specs.history.History.{Kind, Owner, after_all, IsLegal, MaySpeak, MayCall, IsOwned, IsHistory, owners_all, owners_after}
 
 module _ {T S C R : Type 0} (kind : Kind T S C R) where
   pub after_all-snoc : (s : S) (h : List (HistoryEvent (Said C R))) (e : HistoryEvent (Said C R)) → after_all kind s (h ++ e ∷ []) ≡ kind.after (after_all kind s h) e.what.call e.what.reply

@@ -5,11 +5,11 @@ use Rattle.std.proofs.Common.{◌≡◌, ℕ, ◌+◌, ◌-◌, ◌≤◌, List,
 use Rattle.std.specs.Option.{IfSome}
 use Rattle.std.specs.List.{slice_get}
 use Rattle.std.proofs.lemmas.List.{drop-drop, drop-append-le, length-map}
-use Rattle.flow_law.specs.SharedFlow.{SharedFlowState, Subscriber, cache_start, values, cache, entry, position_of, with_own}
-use Rattle.flow_law.specs.EmitRule.{suspend}
-use Rattle.flow_law.specs.SharedStep.{enroll, keep_own}
-use Rattle.flow_law.specs.Standing.{Core, StandsFor, least_position, first_needed, needed, held}
-use Rattle.flow_law.specs.Covering.{Covers, EndsWith, kept_start, kept_need, tidied}
+use Rattle.flow_law.specs.flow.SharedFlow.{SharedFlowState, Subscriber, cache_start, values, cache, entry, position_of, with_own}
+use Rattle.flow_law.specs.flow.EmitRule.{suspend}
+use Rattle.flow_law.specs.flow.SharedStep.{enroll, keep_own}
+use Rattle.flow_law.specs.flow.Standing.{Core, StandsFor, least_position, first_needed, needed, held}
+use Rattle.flow_law.specs.flow.Covering.{Covers, EndsWith, kept_start, kept_need, tidied}
 use Rattle.flow_law.proofs.CoveringLemmas.{least_position_bound, least_position-append, least_position-with_own, least_position-position_of, needed_within, needed_entry, slice_get-drop}
 
 -- ---- what a list ends with

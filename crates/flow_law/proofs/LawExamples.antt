@@ -6,13 +6,13 @@ use Rattle.flow_law.specs.declared.call.SharedCall.{SharedCall}
 use Rattle.flow_law.specs.declared.call.SharedCall.TheVariants.{TryEmit, Emit, Cancel, Subscribe, TakeNext, Unsubscribe, ResetReplayCache}
 use Rattle.flow_law.specs.declared.call.StateCall.TheVariants as state_call
 use Rattle.flow_law.specs.declared.call.StateReply.TheVariants as state_reply
-use Rattle.flow_law.specs.SharedFlow.{SharedFlowState, first_state, is_queued, is_offered_as}
-use Rattle.flow_law.specs.SharedHistory.{History, shared_after_all, state_after}
-use Rattle.flow_law.specs.StateFlow.{StateHistory, first_state_flow, state_after_all}
-use Rattle.flow_law.specs.Mailbox.{found_at_entry, received, keep_last}
-use Rattle.flow_law.specs.Waiting.{ahead, from_flow}
-use Rattle.flow_law.specs.Lagging.{delivered_by_flow, emitted_since_entry}
-use Rattle.flow_law.specs.Current.{last_got}
+use Rattle.flow_law.specs.flow.SharedFlow.{SharedFlowState, first_state, is_queued, is_offered_as}
+use Rattle.flow_law.specs.flow.SharedHistory.{History, shared_after_all, state_after}
+use Rattle.flow_law.specs.flow.StateFlow.{StateHistory, first_state_flow, state_after_all}
+use Rattle.flow_law.specs.flow.Mailbox.{found_at_entry, received, keep_last}
+use Rattle.flow_law.specs.laws.Waiting.{ahead, from_flow}
+use Rattle.flow_law.specs.laws.Lagging.{delivered_by_flow, emitted_since_entry}
+use Rattle.flow_law.specs.laws.Current.{last_got}
 use Rattle.flow_law.proofs.WorkedExamples.{played_from, suspending, dropping_oldest, dropping_latest}
 use Rattle.flow_law.proofs.StateExample.{event}
 

@@ -10,10 +10,10 @@ use Rattle.flow_law.specs.declared.fault.FlowFault.TheVariants.{Exhausted}
 use Rattle.flow_law.specs.declared.call.SharedCall.{SharedCall}
 use Rattle.flow_law.specs.declared.call.SharedCall.TheVariants as call
 use Rattle.flow_law.specs.declared.call.SharedReply.{SharedReply}
-use Rattle.flow_law.specs.SharedFlow.{Numbered, Subscriber, SharedFlowState, Replied, capacity, window, lag, is_blocked, is_exhausted, issuing, answer, values, position_of, own_of}
-use Rattle.flow_law.specs.EmitRule.{appends, offers, when_blocked, is_open, emit_case, append, suspend, drop_oldest, emit_in, try_emit_in}
-use Rattle.flow_law.specs.SharedStep.{admit, settle, withdraw, advance, leave, enroll, forget, keep_own, next_from, read, next}
-use Rattle.flow_law.specs.SharedHistory.{answer_to, is_refused, after, History, shared_after_all}
+use Rattle.flow_law.specs.flow.SharedFlow.{Numbered, Subscriber, SharedFlowState, Replied, capacity, window, lag, is_blocked, is_exhausted, issuing, answer, values, position_of, own_of}
+use Rattle.flow_law.specs.flow.EmitRule.{appends, offers, when_blocked, is_open, emit_case, append, suspend, drop_oldest, emit_in, try_emit_in}
+use Rattle.flow_law.specs.flow.SharedStep.{admit, settle, withdraw, advance, leave, enroll, forget, keep_own, next_from, read, next}
+use Rattle.flow_law.specs.flow.SharedHistory.{answer_to, is_refused, after, History, shared_after_all}
 
 module _ {T : Type 0} where
   -- each move keeps P

@@ -4,8 +4,8 @@ use Rattle.std.proofs.lemmas.List.{append_cancel_left}
 use Rattle.std.specs.List.{AllByRecursion}
 use Rattle.flow_law.specs.declared.history.HistoryEvent.{HistoryEvent}
 use Rattle.flow_law.specs.declared.history.Knowledge.{Knowledge}
-use Rattle.flow_law.specs.Growth.{IsMadeBy, GrowsByOthers, NamesOnlyMade, Fits, IsApartFrom, event, after_events}
-use Rattle.flow_law.specs.Growth.{makes, child}
+use Rattle.flow_law.specs.history.Growth.{IsMadeBy, GrowsByOthers, NamesOnlyMade, Fits, IsApartFrom, event, after_events}
+use Rattle.flow_law.specs.history.Growth.{makes, child}
 
 module _ {X : Type 0} where
   pub every_weaker : (P Q : X → Type 0) → ((x : X) → P x → Q x) → (xs : List X) → AllByRecursion P xs → AllByRecursion Q xs

@@ -10,10 +10,10 @@ use Rattle.flow_law.specs.declared.call.SharedCall.TheVariants as call
 use Rattle.flow_law.specs.declared.call.SharedReply.{SharedReply}
 use Rattle.flow_law.specs.declared.call.SharedReply.TheVariants as reply
 use Rattle.flow_law.specs.declared.outcome.Next.TheVariants.{Value, Empty, Gone}
-use Rattle.flow_law.specs.SharedFlow.{SharedFlowState, Replied, answer, issuing, is_exhausted, values, position_of, own_of}
-use Rattle.flow_law.specs.EmitRule.{EmitCase, appends, offers, queues, drops_latest, drops_oldest, emit_case, emit_in, try_emit_in}
-use Rattle.flow_law.specs.SharedStep.{settle, advance, enroll, read, next_from, next}
-use Rattle.flow_law.specs.SharedHistory.{Replies, reply_by}
+use Rattle.flow_law.specs.flow.SharedFlow.{SharedFlowState, Replied, answer, issuing, is_exhausted, values, position_of, own_of}
+use Rattle.flow_law.specs.flow.EmitRule.{EmitCase, appends, offers, queues, drops_latest, drops_oldest, emit_case, emit_in, try_emit_in}
+use Rattle.flow_law.specs.flow.SharedStep.{settle, advance, enroll, read, next_from, next}
+use Rattle.flow_law.specs.flow.SharedHistory.{Replies, reply_by}
 
 module _ {T : Type 0} (s : SharedFlowState T) where
   abbrev Busied : SharedReply T

@@ -11,10 +11,10 @@ use Rattle.flow_law.specs.declared.fault.FlowFault.TheVariants.{Exhausted}
 use Rattle.flow_law.specs.declared.outcome.Emit.{Emit}
 use Rattle.flow_law.specs.declared.outcome.Emit.TheVariants.{Done}
 use Rattle.flow_law.specs.declared.outcome.Next.TheVariants.{Value, Empty, Gone}
-use Rattle.flow_law.specs.SharedFlow.{Numbered, Subscriber, SharedFlowState, Replied, is_blocked, answer, values, cache}
-use Rattle.flow_law.specs.EmitRule.{appends, offers, drops_oldest, emit_case, emit, emit_in, append, drop_oldest}
-use Rattle.flow_law.specs.SharedStep.{subscribe, enroll, next, next_from, read, unsubscribe, settle, advance}
-use Rattle.flow_law.specs.Conflation.{newest_only}
+use Rattle.flow_law.specs.flow.SharedFlow.{Numbered, Subscriber, SharedFlowState, Replied, is_blocked, answer, values, cache}
+use Rattle.flow_law.specs.flow.EmitRule.{appends, offers, drops_oldest, emit_case, emit, emit_in, append, drop_oldest}
+use Rattle.flow_law.specs.flow.SharedStep.{subscribe, enroll, next, next_from, read, unsubscribe, settle, advance}
+use Rattle.flow_law.specs.laws.Conflation.{newest_only}
 
 abbrev pub sole : {T : Type 0} → ℕ → ℕ → List (Subscriber T)
 sole k p = record { number = k; own = []; position = p } ∷ []

@@ -5,9 +5,9 @@ use Rattle.std.proofs.lemmas.Bool.{cond_both, cond-true}
 use Rattle.std.proofs.lemmas.Bool.Decides.{Decides-eqb}
 use Rattle.flow_law.specs.declared.history.HistoryEvent.{HistoryEvent}
 use Rattle.flow_law.specs.declared.history.Said.{Said}
-use Rattle.flow_law.specs.History.{Kind, Number, subscriber, emission, is_same, Owner, owner_of, with_owner, after_all, IsLegal, MaySpeak, IsOwned, IsHistory, owners_after, owners_all, IsGiven}
-use Rattle.flow_law.specs.Lawful.{Lawful, number_in, IsNew}
-use Rattle.flow_law.specs.Growth.{IsSilent}
+use Rattle.flow_law.specs.history.History.{Kind, Number, subscriber, emission, is_same, Owner, owner_of, with_owner, after_all, IsLegal, MaySpeak, IsOwned, IsHistory, owners_after, owners_all, IsGiven}
+use Rattle.flow_law.specs.history.Lawful.{Lawful, number_in, IsNew}
+use Rattle.flow_law.specs.history.Growth.{IsSilent}
 use Rattle.flow_law.proofs.Rows.{every_weaker}
 
 -- ---- numbers

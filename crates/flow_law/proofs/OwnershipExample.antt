@@ -10,8 +10,8 @@ use Rattle.flow_law.specs.declared.call.SharedCall.{SharedCall}
 use Rattle.flow_law.specs.declared.call.SharedCall.TheVariants.{Emit, Poll, Subscribe, TakeNext, Unsubscribe}
 use Rattle.flow_law.specs.declared.call.SharedReply.{SharedReply}
 use Rattle.flow_law.specs.declared.call.SharedReply.TheVariants.{Emitted, Tested, Subscribed, Received}
-use Rattle.flow_law.specs.History.{IsOwned}
-use Rattle.flow_law.specs.SharedHistory.{History, IsLegalShared, shared_flow}
+use Rattle.flow_law.specs.history.History.{IsOwned}
+use Rattle.flow_law.specs.flow.SharedHistory.{History, IsLegalShared, shared_flow}
 
 abbrev bufferless : Config
 bufferless = record { replay = 0; extra = 0; overflow = Suspend; limit = 1000 }

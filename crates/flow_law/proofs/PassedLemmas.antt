@@ -11,12 +11,12 @@ use Rattle.flow_law.specs.declared.call.SharedCall.{SharedCall}
 use Rattle.flow_law.specs.declared.call.SharedCall.TheVariants as call
 use Rattle.flow_law.specs.declared.call.SharedReply.{SharedReply}
 use Rattle.flow_law.specs.declared.call.SharedReply.TheVariants as reply
-use Rattle.flow_law.specs.SharedFlow.{Numbered, SharedFlowState, first_state, capacity, entry, values, position_of}
-use Rattle.flow_law.specs.SharedHistory.{History, IsLegalShared, IsLegalFrom, shared_flow, after, state_after}
+use Rattle.flow_law.specs.flow.SharedFlow.{Numbered, SharedFlowState, first_state, capacity, entry, values, position_of}
+use Rattle.flow_law.specs.flow.SharedHistory.{History, IsLegalShared, IsLegalFrom, shared_flow, after, state_after}
 use Rattle.flow_law.specs.declared.history.Said.{Said}
-use Rattle.flow_law.specs.Done.{said_by}
-use Rattle.flow_law.specs.Mailbox.{Beginning, own, box, received_by, received, began, began_by, began_from}
-use Rattle.flow_law.specs.Accepted.{accepted_by, accepted, is_cancel, NoneCancelled, emitted_and_queued}
+use Rattle.flow_law.specs.history.Done.{said_by}
+use Rattle.flow_law.specs.flow.Mailbox.{Beginning, own, box, received_by, received, began, began_by, began_from}
+use Rattle.flow_law.specs.laws.Accepted.{accepted_by, accepted, is_cancel, NoneCancelled, emitted_and_queued}
 use Rattle.flow_law.proofs.AcceptedLemmas.{accepts, event_adds}
 use Rattle.flow_law.proofs.Delivered.{delivers}
 use Rattle.flow_law.proofs.DoneLemmas.{every_left, flat_alone}

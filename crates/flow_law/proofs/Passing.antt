@@ -13,17 +13,17 @@ use Rattle.flow_law.specs.declared.call.SharedCall.{SharedCall}
 use Rattle.flow_law.specs.declared.call.SharedCall.TheVariants as call
 use Rattle.flow_law.specs.declared.call.SharedReply.{SharedReply}
 use Rattle.flow_law.specs.declared.call.SharedReply.TheVariants as reply
-use Rattle.flow_law.specs.SharedFlow.{SharedFlowState, Replied, capacity, entry, values, is_exhausted, is_offered_as, position_of, own_of, stand_at, without, answer}
-use Rattle.flow_law.specs.EmitRule.{append, suspend, drop_oldest}
-use Rattle.flow_law.specs.SharedStep.{settle, withdraw, advance, leave, enroll, keep_own, next_from, read, next}
-use Rattle.flow_law.specs.SharedHistory.{reply_by, answer_to, is_refused, Replies, after}
-use Rattle.flow_law.specs.Mailbox.{Beginning, began_by}
-use Rattle.flow_law.specs.Waiting.{from_flow_by}
+use Rattle.flow_law.specs.flow.SharedFlow.{SharedFlowState, Replied, capacity, entry, values, is_exhausted, is_offered_as, position_of, own_of, stand_at, without, answer}
+use Rattle.flow_law.specs.flow.EmitRule.{append, suspend, drop_oldest}
+use Rattle.flow_law.specs.flow.SharedStep.{settle, withdraw, advance, leave, enroll, keep_own, next_from, read, next}
+use Rattle.flow_law.specs.flow.SharedHistory.{reply_by, answer_to, is_refused, Replies, after}
+use Rattle.flow_law.specs.flow.Mailbox.{Beginning, began_by}
+use Rattle.flow_law.specs.laws.Waiting.{from_flow_by}
 use Rattle.flow_law.proofs.ReplyLemmas.{replies_cases}
 use Rattle.flow_law.proofs.Rows.{split, absent, position-snoc, position-snoc_other, position-move_to, position-move_to_other, position-without, position-without_other, position-map, position-with_own}
 use Rattle.flow_law.proofs.Sound.{Placed}
 use Rattle.flow_law.proofs.Boxes.{admit_subscribers, admit_values, admitted, log_from_values, stands_within}
-use Rattle.flow_law.proofs.Steps.{emit_split, try_emit_split}
+use Rattle.flow_law.proofs.MailboxSteps.{emit_split, try_emit_split}
 
 none_or_some : {A : Type 0} (a : A) → None ≡ Some a → ⊥
 none_or_some a e = cc

@@ -6,10 +6,10 @@ use Rattle.std.proofs.lemmas.List.Folds.{list_any-append}
 use Rattle.flow_law.specs.declared.config.Config.{Config}
 use Rattle.flow_law.specs.declared.config.Overflow.{Overflow}
 use Rattle.flow_law.specs.declared.config.Overflow.TheVariants.{Suspend, DropOldest, DropLatest}
-use Rattle.flow_law.specs.SharedFlow.{Numbered, SharedFlowState, first_state, is_blocked, is_offered_as, lag, window, stand_at, entry}
-use Rattle.flow_law.specs.SharedStep.{admit, settle, withdraw, advance, leave}
-use Rattle.flow_law.specs.SharedHistory.{History, state_after}
-use Rattle.flow_law.specs.Laws.{NoIdleQueue}
+use Rattle.flow_law.specs.flow.SharedFlow.{Numbered, SharedFlowState, first_state, is_blocked, is_offered_as, lag, window, stand_at, entry}
+use Rattle.flow_law.specs.flow.SharedStep.{admit, settle, withdraw, advance, leave}
+use Rattle.flow_law.specs.flow.SharedHistory.{History, state_after}
+use Rattle.flow_law.specs.laws.Laws.{NoIdleQueue}
 use Rattle.flow_law.proofs.Moves.{Keeps, history_keeps, admit_keeps}
 use Rattle.flow_law.proofs.Rows.{any-with_own}
 

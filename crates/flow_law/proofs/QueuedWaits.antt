@@ -13,10 +13,10 @@ use Rattle.flow_law.specs.declared.outcome.Emit.TheVariants.{Done, Queued}
 use Rattle.flow_law.specs.declared.call.SharedReply.{SharedReply}
 use Rattle.flow_law.specs.declared.call.SharedReply.TheVariants as reply
 use Rattle.flow_law.specs.declared.call.SharedCall.TheVariants as call
-use Rattle.flow_law.specs.SharedFlow.{Subscriber, SharedFlowState, Replied, answer, issuing, capacity, window, lag, is_blocked, is_offering, is_exhausted, newest}
-use Rattle.flow_law.specs.EmitRule.{EmitCase, appends, offers, when_blocked, is_open, emit_case, emit_in, numbered, append, suspend, drop_oldest}
-use Rattle.flow_law.specs.SharedStep.{is_waiting}
-use Rattle.flow_law.specs.SharedHistory.{reply_by, after, Replies}
+use Rattle.flow_law.specs.flow.SharedFlow.{Subscriber, SharedFlowState, Replied, answer, issuing, capacity, window, lag, is_blocked, is_offering, is_exhausted, newest}
+use Rattle.flow_law.specs.flow.EmitRule.{EmitCase, appends, offers, when_blocked, is_open, emit_case, emit_in, numbered, append, suspend, drop_oldest}
+use Rattle.flow_law.specs.flow.SharedStep.{is_waiting}
+use Rattle.flow_law.specs.flow.SharedHistory.{reply_by, after, Replies}
 use Rattle.flow_law.proofs.CoveringLemmas.{slice_get_last}
 use Rattle.flow_law.proofs.Sound.{Sound}
 

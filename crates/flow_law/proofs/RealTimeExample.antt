@@ -1,8 +1,8 @@
 -- Histories whose calls began in time, and some whose calls did not.
 use Rattle.std.proofs.Common.{◌≢◌, ℕ, ◌<◌, ◌≤◌, List, [], ◌∷◌, refl, arith}
 use Rattle.flow_law.specs.declared.history.HistoryEvent.{HistoryEvent}
-use Rattle.flow_law.specs.Growth.{event}
-use Rattle.flow_law.specs.RealTime.{IsTimed, WasThere}
+use Rattle.flow_law.specs.history.Growth.{event}
+use Rattle.flow_law.specs.history.RealTime.{IsTimed, WasThere}
 
 -- four callers: the call of 10 was over when those of 12 and 13 began, and those of 11, 12 and 13 overlapped in part
 abbrev four_calls : List (HistoryEvent ℕ)

@@ -6,9 +6,9 @@ use mathlib.Core.Logic.{dite}
 use native.Mathlib.Decide.{dec_le}
 use Rattle.flow_law.specs.declared.history.HistoryEvent.{HistoryEvent}
 use Rattle.flow_law.specs.declared.history.Said.{Said}
-use Rattle.flow_law.specs.Growth.{IsSilent, GrowsByOthers, event, after_events}
-use Rattle.flow_law.specs.History.{Kind, IsHistory}
-use Rattle.flow_law.specs.RealTime.{began_at, BeganSince, BeganInTime, IsTimedAfter, IsTimed, IsAt, WasThere, InRealTime, Linearizable}
+use Rattle.flow_law.specs.history.Growth.{IsSilent, GrowsByOthers, event, after_events}
+use Rattle.flow_law.specs.history.History.{Kind, IsHistory}
+use Rattle.flow_law.specs.history.RealTime.{began_at, BeganSince, BeganInTime, IsTimedAfter, IsTimed, IsAt, WasThere, InRealTime, Linearizable}
 
 module _ {X : Type 0} where
   every_drop : (P : X → Type 0) (n : ℕ) (xs : List X) → AllByRecursion P xs → AllByRecursion P (drop n xs)

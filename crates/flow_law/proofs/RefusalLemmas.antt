@@ -15,12 +15,12 @@ use Rattle.flow_law.specs.declared.call.StateCall.TheVariants as state_call
 use Rattle.flow_law.specs.declared.call.StateReply.{StateReply}
 use Rattle.flow_law.specs.declared.call.StateReply.TheVariants as state_reply
 use Rattle.flow_law.specs.declared.outcome.Next.TheVariants.{Value, Empty, Gone}
-use Rattle.flow_law.specs.SharedFlow.{SharedFlowState, Replied, answer, issuing, is_exhausted, values, position_of, own_of}
-use Rattle.flow_law.specs.EmitRule.{EmitCase, appends, offers, queues, drops_latest, drops_oldest, emit_case, emit_in, try_emit_in}
-use Rattle.flow_law.specs.SharedStep.{settle, advance, enroll, read, next_from, next}
-use Rattle.flow_law.specs.SharedHistory.{Replies, reply_by, answer_to}
-use Rattle.flow_law.specs.StateFlow.{StateFlowState, Receives, last_got_by}
-use Rattle.flow_law.specs.StateFlow as flow
+use Rattle.flow_law.specs.flow.SharedFlow.{SharedFlowState, Replied, answer, issuing, is_exhausted, values, position_of, own_of}
+use Rattle.flow_law.specs.flow.EmitRule.{EmitCase, appends, offers, queues, drops_latest, drops_oldest, emit_case, emit_in, try_emit_in}
+use Rattle.flow_law.specs.flow.SharedStep.{settle, advance, enroll, read, next_from, next}
+use Rattle.flow_law.specs.flow.SharedHistory.{Replies, reply_by, answer_to}
+use Rattle.flow_law.specs.flow.StateFlow.{StateFlowState, Receives, last_got_by}
+use Rattle.flow_law.specs.flow.StateFlow as flow
 use Rattle.flow_law.proofs.ReplyLemmas.{replies_cases, state_replies_cases}
 
 -- a call that may be refused as out of memory or, as is shown, for this

@@ -14,16 +14,16 @@ use Rattle.flow_law.specs.declared.call.SharedCall.{SharedCall}
 use Rattle.flow_law.specs.declared.call.SharedCall.TheVariants.{Subscribe, TakeNext}
 use Rattle.flow_law.specs.declared.call.SharedReply.{SharedReply}
 use Rattle.flow_law.specs.declared.call.SharedReply.TheVariants.{Subscribed, Received}
-use Rattle.flow_law.specs.SharedFlow.{Numbered, Subscriber, SharedFlowState, Replied, answer, first_state, window, lag, is_blocked, is_exhausted, entry, values, position_of, own_of, stand_at, move_to}
-use Rattle.flow_law.specs.SharedStep.{admit, settle, enroll, advance, keep_own, next_from, read, next}
-use Rattle.flow_law.specs.SharedHistory.{History, IsLegalShared, IsLegalFrom, Replies, shared_flow, is_refused, reply_by, after, shared_after_all, state_after}
-use Rattle.flow_law.specs.Mailbox.{found_at_entry, received, received_by}
-use Rattle.flow_law.specs.Replaying.{OnlyReads, first_or_empty, EachReplays}
+use Rattle.flow_law.specs.flow.SharedFlow.{Numbered, Subscriber, SharedFlowState, Replied, answer, first_state, window, lag, is_blocked, is_exhausted, entry, values, position_of, own_of, stand_at, move_to}
+use Rattle.flow_law.specs.flow.SharedStep.{admit, settle, enroll, advance, keep_own, next_from, read, next}
+use Rattle.flow_law.specs.flow.SharedHistory.{History, IsLegalShared, IsLegalFrom, Replies, shared_flow, is_refused, reply_by, after, shared_after_all, state_after}
+use Rattle.flow_law.specs.flow.Mailbox.{found_at_entry, received, received_by}
+use Rattle.flow_law.specs.laws.Replaying.{OnlyReads, first_or_empty, EachReplays}
 use Rattle.flow_law.proofs.Owners.{legal_right}
 use Rattle.flow_law.proofs.ReplyLemmas.{replies_cases}
 use Rattle.flow_law.proofs.Rows.{split, absent, any-with_own, position-snoc, position-move_to, position-with_own, own-snoc, own-with_own, own-move_to}
 use Rattle.flow_law.proofs.Sound.{Sound, always_sound}
-use Rattle.flow_law.proofs.Steps.{drop_here, past_here, greets}
+use Rattle.flow_law.proofs.MailboxSteps.{drop_here, past_here, greets}
 
 no_cons : {A : Type 0} (x : A) (xs : List A) → x ∷ xs ≡ [] → ⊥
 no_cons x xs e = cc

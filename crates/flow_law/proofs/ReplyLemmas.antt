@@ -8,10 +8,10 @@ use Rattle.flow_law.specs.declared.call.SharedReply.TheVariants as shared
 use Rattle.flow_law.specs.declared.call.StateCall.{StateCall}
 use Rattle.flow_law.specs.declared.call.StateReply.{StateReply}
 use Rattle.flow_law.specs.declared.call.StateReply.TheVariants as state
-use Rattle.flow_law.specs.SharedFlow.{SharedFlowState}
-use Rattle.flow_law.specs.SharedHistory.{answer_to, is_refused, may_need_memory, Replies}
-use Rattle.flow_law.specs.StateFlow.{StateFlowState, IsReply}
-use Rattle.flow_law.specs.StateFlow as flow
+use Rattle.flow_law.specs.flow.SharedFlow.{SharedFlowState}
+use Rattle.flow_law.specs.flow.SharedHistory.{answer_to, is_refused, may_need_memory, Replies}
+use Rattle.flow_law.specs.flow.StateFlow.{StateFlowState, IsReply}
+use Rattle.flow_law.specs.flow.StateFlow as flow
 
 module _ {T : Type 0} where
   pub replies_cases : (s : SharedFlowState T) (c : SharedCall T) (r : SharedReply T) → Replies s c r

@@ -7,20 +7,20 @@ use Rattle.std.proofs.lemmas.Bool.Decides.{Decides-eqb}
 use Rattle.flow_law.specs.declared.history.HistoryEvent.{HistoryEvent}
 use Rattle.flow_law.specs.declared.history.Knowledge.{Knowledge}
 use Rattle.flow_law.specs.declared.history.Said.{Said}
-use Rattle.flow_law.specs.Growth.{NamesOnlyMade, event}
+use Rattle.flow_law.specs.history.Growth.{NamesOnlyMade, event}
 use Rattle.flow_law.specs.declared.call.StateCall.TheVariants as call
 use Rattle.flow_law.specs.declared.call.StateReply.TheVariants as reply
 use Rattle.flow_law.specs.declared.states.StateFlowState.{StateFlowState}
-use Rattle.flow_law.specs.History.{Kind, IsHistory, after_all}
-use Rattle.flow_law.specs.Promise.{said, Token, CallsIn}
-use Rattle.flow_law.specs.StateFlow.{state_flow, state_after_all}
-use Rattle.flow_law.specs.Updates.{StateTokenOf}
+use Rattle.flow_law.specs.history.History.{Kind, IsHistory, after_all}
+use Rattle.flow_law.specs.history.Promise.{said, Token, CallsIn}
+use Rattle.flow_law.specs.flow.StateFlow.{state_flow, state_after_all}
+use Rattle.flow_law.specs.history.Updates.{StateTokenOf}
 use Rattle.flow_law.proofs.Names.{every_append}
 use Rattle.flow_law.proofs.Owners.{history_left, legal_right}
-use Rattle.flow_law.specs.Tokens.{MeetsIn}
-use Rattle.flow_law.specs.Done.{Extends}
-use Rattle.flow_law.specs.Closed.{Accounts, IsClosed}
-use Rattle.flow_law.specs.Rounds.{HasClosedHistory, OnlyMeets, MeetsInTurn, IsFinalValue}
+use Rattle.flow_law.specs.history.Tokens.{MeetsIn}
+use Rattle.flow_law.specs.history.Done.{Extends}
+use Rattle.flow_law.specs.laws.Closed.{Accounts, IsClosed}
+use Rattle.flow_law.specs.history.Rounds.{HasClosedHistory, OnlyMeets, MeetsInTurn, IsFinalValue}
 use Rattle.flow_law.proofs.DoneLemmas.{split, extends_refl, extends_trans, made_more, made_nothing, made_fits, accounts_between, accounts_before, said_by_others, names_left}
 
 module _ {Id T S C R : Type 0} (kind : Kind T S C R) (first : S) where

@@ -5,11 +5,11 @@ use Rattle.std.specs.List.{list_any}
 use Rattle.std.proofs.lemmas.Bool.{cond_both, or_cases, cond-true, cond-false}
 use Rattle.std.proofs.lemmas.List.{map-append}
 use Rattle.flow_law.specs.declared.config.Config.{Config}
-use Rattle.flow_law.specs.SharedFlow.{Subscriber, SharedFlowState, first_state, capacity, entry, is_offered_as, position_of, stand_at, move_to, with_own}
-use Rattle.flow_law.specs.EmitRule.{append}
-use Rattle.flow_law.specs.SharedStep.{settle, withdraw}
-use Rattle.flow_law.specs.SharedHistory.{History, state_after}
-use Rattle.flow_law.specs.Laws.{RisesTo}
+use Rattle.flow_law.specs.flow.SharedFlow.{Subscriber, SharedFlowState, first_state, capacity, entry, is_offered_as, position_of, stand_at, move_to, with_own}
+use Rattle.flow_law.specs.flow.EmitRule.{append}
+use Rattle.flow_law.specs.flow.SharedStep.{settle, withdraw}
+use Rattle.flow_law.specs.flow.SharedHistory.{History, state_after}
+use Rattle.flow_law.specs.laws.Laws.{RisesTo}
 use Rattle.flow_law.proofs.Moves.{Keeps, history_keeps, admit_keeps}
 use Rattle.flow_law.proofs.Rows.{rises_from, rises_more, rises_higher}
 

@@ -4,8 +4,8 @@ use Rattle.std.specs.Prelude.{filter, nat_le}
 use Rattle.std.specs.List.{AllByRecursion, list_any}
 use Rattle.std.proofs.lemmas.Bool.{cond_both, or_parts, cond-true, cond-false, leb-false}
 use Rattle.std.proofs.lemmas.Bool.Decides.{Decides-eqb, nat_tests}
-use Rattle.flow_law.specs.SharedFlow.{Numbered, Subscriber, position_of, stand_at, move_to, without, own_of, leave_own, with_own}
-use Rattle.flow_law.specs.Laws.{RisesTo}
+use Rattle.flow_law.specs.flow.SharedFlow.{Numbered, Subscriber, position_of, stand_at, move_to, without, own_of, leave_own, with_own}
+use Rattle.flow_law.specs.laws.Laws.{RisesTo}
 
 -- a goal about a test holds if it holds for true and for false
 pub split : (b : Bool) (P : Bool → Type 0) → (b ≡ true → P true) → (b ≡ false → P false) → P b

@@ -6,8 +6,8 @@ use mathlib.Core.Logic.{dite}
 use native.Mathlib.Decide.{ℕ_discrete}
 use lib.ListN.{get_elem?}
 use Rattle.flow_law.specs.declared.history.Knowledge.{Knowledge}
-use Rattle.flow_law.specs.Growth.{IsMadeBy, IsApartFrom, makes, child}
-use Rattle.flow_law.specs.Seats.{SeatAt, AllApart, SeatsFit}
+use Rattle.flow_law.specs.history.Growth.{IsMadeBy, IsApartFrom, makes, child}
+use Rattle.flow_law.specs.history.Seats.{SeatAt, AllApart, SeatsFit}
 use Rattle.flow_law.proofs.Names.{numbered_more, child_apart, apart_child, makes_child, child_makes}
 
 -- ---- places in a list

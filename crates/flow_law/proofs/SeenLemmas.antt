@@ -7,18 +7,18 @@ use Rattle.flow_law.specs.declared.call.StateCall.{StateCall}
 use Rattle.flow_law.specs.declared.call.StateReply.{StateReply}
 use Rattle.flow_law.specs.declared.history.Knowledge.{Knowledge}
 use Rattle.flow_law.specs.declared.history.Said.{Said}
-use Rattle.flow_law.specs.SharedFlow.{SharedFlowState, position_of}
-use Rattle.flow_law.specs.SharedHistory.{History, IsLegalShared, IsLegalFrom, shared_after_all, shared_flow, state_after}
-use Rattle.flow_law.specs.StateFlow.{StateFlowState, StateHistory, IsLegalState, IsStateHistory, state_after_all, state_flow}
-use Rattle.flow_law.specs.History.{IsHistory, IsSubscription}
-use Rattle.flow_law.specs.Conflation.{Conflates}
-use Rattle.flow_law.specs.Laws.{Delivers, NoIdleQueue}
-use Rattle.flow_law.specs.Waiting.{EachWaits}
-use Rattle.flow_law.specs.Lagging.{EachLags}
-use Rattle.flow_law.specs.Replaying.{EachReplays}
-use Rattle.flow_law.specs.Current.{Converges, IsThere}
+use Rattle.flow_law.specs.flow.SharedFlow.{SharedFlowState, position_of}
+use Rattle.flow_law.specs.flow.SharedHistory.{History, IsLegalShared, IsLegalFrom, shared_after_all, shared_flow, state_after}
+use Rattle.flow_law.specs.flow.StateFlow.{StateFlowState, StateHistory, IsLegalState, IsStateHistory, state_after_all, state_flow}
+use Rattle.flow_law.specs.history.History.{IsHistory, IsSubscription}
+use Rattle.flow_law.specs.laws.Conflation.{Conflates}
+use Rattle.flow_law.specs.laws.Laws.{Delivers, NoIdleQueue}
+use Rattle.flow_law.specs.laws.Waiting.{EachWaits}
+use Rattle.flow_law.specs.laws.Lagging.{EachLags}
+use Rattle.flow_law.specs.laws.Replaying.{EachReplays}
+use Rattle.flow_law.specs.laws.Current.{Converges, IsThere}
 use Rattle.flow_law.proofs.Admitted.{admits}
-use Rattle.flow_law.proofs.Lagging.{lags}
+use Rattle.flow_law.proofs.LaggedReads.{lags}
 use Rattle.flow_law.proofs.ReplayLemmas.{replays}
 use Rattle.flow_law.proofs.CurrentLemmas.{currents}
 use Rattle.flow_law.proofs.Conflating.{conflates}

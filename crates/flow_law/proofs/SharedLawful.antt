@@ -13,17 +13,17 @@ use Rattle.flow_law.specs.declared.call.SharedCall.{SharedCall}
 use Rattle.flow_law.specs.declared.call.SharedCall.TheVariants as call
 use Rattle.flow_law.specs.declared.call.SharedReply.{SharedReply}
 use Rattle.flow_law.specs.declared.call.SharedReply.TheVariants as reply
-use Rattle.flow_law.specs.Lawful.{Lawful, Subscribing, IsNew}
-use Rattle.flow_law.specs.SharedFlow.{Subscriber, SharedFlowState, Replied, capacity, values, is_exhausted, is_offered_as, answer, issuing, position_of, own_of, stand_at, move_to}
-use Rattle.flow_law.specs.EmitRule.{EmitCase, appends, offers, queues, drops_latest, drops_oldest, emit_case, emit_in, append, suspend, drop_oldest}
-use Rattle.flow_law.specs.SharedStep.{settle, withdraw, advance, leave, enroll, subscribe, read, next_from, next}
-use Rattle.flow_law.specs.SharedHistory.{reply_by, answer_to, is_refused, Replies, after, gives, speaks_of, shared_flow}
+use Rattle.flow_law.specs.history.Lawful.{Lawful, Subscribing, IsNew}
+use Rattle.flow_law.specs.flow.SharedFlow.{Subscriber, SharedFlowState, Replied, capacity, values, is_exhausted, is_offered_as, answer, issuing, position_of, own_of, stand_at, move_to}
+use Rattle.flow_law.specs.flow.EmitRule.{EmitCase, appends, offers, queues, drops_latest, drops_oldest, emit_case, emit_in, append, suspend, drop_oldest}
+use Rattle.flow_law.specs.flow.SharedStep.{settle, withdraw, advance, leave, enroll, subscribe, read, next_from, next}
+use Rattle.flow_law.specs.flow.SharedHistory.{reply_by, answer_to, is_refused, Replies, after, gives, speaks_of, shared_flow}
 use Rattle.flow_law.proofs.Moves.{event_keeps}
 use Rattle.flow_law.proofs.NeverBusy.{never_busy}
 use Rattle.flow_law.proofs.RefusalLemmas.{subscribe_refused, next_refused}
 use Rattle.flow_law.proofs.Boxes.{admit_subscribers}
 use Rattle.flow_law.proofs.Rows.{split, position-without_other, position-with_own}
-use Rattle.flow_law.proofs.Steps.{emit_split, try_emit_split}
+use Rattle.flow_law.proofs.MailboxSteps.{emit_split, try_emit_split}
 
 -- ---- whether there is a subscriber of this number
 

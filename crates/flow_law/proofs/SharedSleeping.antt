@@ -12,18 +12,18 @@ use Rattle.flow_law.specs.declared.call.SharedCall.{SharedCall}
 use Rattle.flow_law.specs.declared.call.SharedCall.TheVariants as call
 use Rattle.flow_law.specs.declared.call.SharedReply.{SharedReply}
 use Rattle.flow_law.specs.declared.call.SharedReply.TheVariants as reply
-use Rattle.flow_law.specs.SharedFlow.{Numbered, Subscriber, SharedFlowState, Replied, answer, values, is_offered_as, entry, position_of, own_of, stand_at}
-use Rattle.flow_law.specs.EmitRule.{numbered}
-use Rattle.flow_law.specs.SharedStep.{is_waiting, settle, withdraw, advance, leave, enroll, read, keep_own, next_from, next}
-use Rattle.flow_law.specs.SharedHistory.{reply_by, after, shared_flow}
+use Rattle.flow_law.specs.flow.SharedFlow.{Numbered, Subscriber, SharedFlowState, Replied, answer, values, is_offered_as, entry, position_of, own_of, stand_at}
+use Rattle.flow_law.specs.flow.EmitRule.{numbered}
+use Rattle.flow_law.specs.flow.SharedStep.{is_waiting, settle, withdraw, advance, leave, enroll, read, keep_own, next_from, next}
+use Rattle.flow_law.specs.flow.SharedHistory.{reply_by, after, shared_flow}
 use Rattle.flow_law.specs.declared.touch.Touch.TheVariants as touch
-use Rattle.flow_law.specs.Sleeping.{FindsNothing, Sleeping, first_waiting}
+use Rattle.flow_law.specs.history.Sleeping.{FindsNothing, Sleeping, first_waiting}
 use Rattle.flow_law.proofs.Boxes.{admit_subscribers}
 use Rattle.flow_law.proofs.Moves.{Keeps, event_keeps}
 use Rattle.flow_law.proofs.Rows.{split, position-move_to_other, position-without, position-without_other, position-with_own, position-map, own-with_own_other, own-move_to, own-map, own-without_other}
 use Rattle.flow_law.proofs.SharedLawful.{event_has}
 use Rattle.flow_law.proofs.SharedWaiting.{Lasting, touches, lasting_begins, lasting_keeps, event_goes, first_first}
-use Rattle.flow_law.proofs.Steps.{past_here}
+use Rattle.flow_law.proofs.MailboxSteps.{past_here}
 
 -- a new subscriber does not change the position of one that is subscribed
 position-snoc_some : {T : Type 0} (number : ℕ) (us : List (Subscriber T)) (v : Subscriber T) → IsSome (position_of number us) → position_of number (us ++ v ∷ []) ≡ position_of number us

@@ -11,14 +11,14 @@ use Rattle.flow_law.specs.declared.config.Overflow.TheVariants.{DropOldest}
 use Rattle.flow_law.specs.declared.call.SharedCall.{SharedCall}
 use Rattle.flow_law.specs.declared.call.SharedCall.TheVariants as call
 use Rattle.flow_law.specs.declared.call.SharedReply.{SharedReply}
-use Rattle.flow_law.specs.SharedFlow.{Numbered, Subscriber, SharedFlowState, answer, capacity, lag, is_blocked, is_offering, is_offered_as, is_queued, newest, is_exhausted, stand_at, entry, values, position_of, own_of}
-use Rattle.flow_law.specs.EmitRule.{numbered, append, suspend, drop_oldest}
-use Rattle.flow_law.specs.SharedStep.{admit, settle, is_waiting, withdraw, advance, leave, enroll, read, keep_own, next_from, next}
-use Rattle.flow_law.specs.SharedHistory.{is_refused, answer_to, after, MayBegin}
+use Rattle.flow_law.specs.flow.SharedFlow.{Numbered, Subscriber, SharedFlowState, answer, capacity, lag, is_blocked, is_offering, is_offered_as, is_queued, newest, is_exhausted, stand_at, entry, values, position_of, own_of}
+use Rattle.flow_law.specs.flow.EmitRule.{numbered, append, suspend, drop_oldest}
+use Rattle.flow_law.specs.flow.SharedStep.{admit, settle, is_waiting, withdraw, advance, leave, enroll, read, keep_own, next_from, next}
+use Rattle.flow_law.specs.flow.SharedHistory.{is_refused, answer_to, after, MayBegin}
 use Rattle.flow_law.specs.declared.touch.Touch.{Touch}
 use Rattle.flow_law.specs.declared.touch.Touch.TheVariants as touch
-use Rattle.flow_law.specs.Sleeping.{first_queued, first_waiting}
-use Rattle.flow_law.specs.Laws.{RisesTo, numbers}
+use Rattle.flow_law.specs.history.Sleeping.{first_queued, first_waiting}
+use Rattle.flow_law.specs.laws.Laws.{RisesTo, numbers}
 use Rattle.flow_law.proofs.CoveringLemmas.{slice_get_last}
 use Rattle.flow_law.proofs.Delivered.{usable}
 use Rattle.flow_law.proofs.Growing.{event_grown}
@@ -26,7 +26,7 @@ use Rattle.flow_law.proofs.Moves.{admit_keeps, event_keeps}
 use Rattle.flow_law.proofs.Queue.{fits_drops}
 use Rattle.flow_law.proofs.Rows.{split, any-with_own, rises_below, rises_from, rises_filter}
 use Rattle.flow_law.proofs.Sound.{Sound, sound_keeps, opened_sound}
-use Rattle.flow_law.proofs.Steps.{emit_split, try_emit_split}
+use Rattle.flow_law.proofs.MailboxSteps.{emit_split, try_emit_split}
 
 or_left : (a b : Bool) → a ≡ true → (a || b) ≡ true
 or_left true b e = refl

@@ -6,7 +6,7 @@ use Rattle.flow_law.specs.declared.sharing.Started.TheVariants.{WhileSubscribed}
 use Rattle.flow_law.specs.declared.sharing.Command.{Command}
 use Rattle.flow_law.specs.declared.sharing.Command.TheVariants.{Start, Stop, StopAndReset, Keep}
 use Rattle.flow_law.specs.declared.sharing.SharingObservation.{SharingObservation}
-use Rattle.flow_law.specs.Sharing.{never, idle_since, newest_command}
+use Rattle.flow_law.specs.sharing.Sharing.{never, idle_since, newest_command}
 
 -- every command, the newest one first
 commands : Started → List SharingObservation → List Command

@@ -13,12 +13,12 @@ use Rattle.flow_law.specs.declared.sharing.SharingObservation.{SharingObservatio
 use Rattle.flow_law.specs.declared.report.Report.{Report}
 use Rattle.flow_law.specs.declared.report.ShareFault.{ShareFault}
 use Rattle.flow_law.specs.declared.states.SharedFlowState.{SharedFlowState}
-use Rattle.flow_law.specs.SharedStep as flow
-use Rattle.flow_law.specs.SharedHistory.{reply_by}
-use Rattle.flow_law.specs.Steps.{After, Takes}
-use Rattle.flow_law.specs.SharingCalls.{HubCall, HubAnswer, TurnCall, TurnAnswer, to_hub, asks, rewinds, counts, puts, polls, cancels, resets, ChainAndHub, CallDoes}
-use Rattle.flow_law.specs.SharingTurn.{SharingState, Turned, refusal, reported, turn_steps}
-use Rattle.flow_law.specs.SharingFlows.{EmittingFlow, StateAndInitial, emitted, shared_reply, SharedDoes, state_reply, StateDoes, IsNotBusy, IsAtOnce, DocumentedTurn}
+use Rattle.flow_law.specs.flow.SharedStep as flow
+use Rattle.flow_law.specs.flow.SharedHistory.{reply_by}
+use Rattle.flow_law.specs.sharing.Steps.{After, Takes}
+use Rattle.flow_law.specs.sharing.SharingCalls.{HubCall, HubAnswer, TurnCall, TurnAnswer, to_hub, asks, rewinds, counts, puts, polls, cancels, resets, ChainAndHub, CallDoes}
+use Rattle.flow_law.specs.sharing.SharingTurn.{SharingState, Turned, refusal, reported, turn_steps}
+use Rattle.flow_law.specs.sharing.SharingFlows.{EmittingFlow, StateAndInitial, emitted, shared_reply, SharedDoes, state_reply, StateDoes, IsNotBusy, IsAtOnce, DocumentedTurn}
 use Rattle.flow_law.proofs.StepsLemmas.{always-takes}
 use Rattle.flow_law.proofs.NeverBusy.{never_busy}
 use Rattle.flow_law.proofs.TurnLemmas.{turn-plays}

@@ -2,7 +2,7 @@
 use Rattle.std.proofs.Common.{◌≡◌, ◌<◌, ℕ, Bool, true, false, if◌then◌else◌, List, [], ◌∷◌, ◌++◌, Some, None, refl, ap, ◌∙◌, subst, arith, lt-ltb, le-ltb, ltb-true, ltb-false}
 use Rattle.flow_law.specs.declared.sharing.SharingObservation.{SharingObservation}
 use Rattle.std.specs.List.{AllByRecursion}
-use Rattle.flow_law.specs.Sharing.{has_subscribers, is_subscribed, idle_since, IsIdleSince, LawIdleSince}
+use Rattle.flow_law.specs.sharing.Sharing.{has_subscribers, is_subscribed, idle_since, IsIdleSince, LawIdleSince}
 
 abbrev IsZero : SharingObservation → Type 0
 IsZero o = o.count ≡ 0

@@ -6,11 +6,11 @@ use Rattle.std.proofs.lemmas.Bool.{cond_both, or_parts, both_ways, cond-true, co
 use Rattle.std.proofs.lemmas.List.{map-append, length-map, length_push}
 use Rattle.std.proofs.lemmas.Option.{slice_get_past}
 use Rattle.flow_law.specs.declared.config.Config.{Config}
-use Rattle.flow_law.specs.SharedFlow.{Numbered, Subscriber, SharedFlowState, first_state, capacity, cache_start, entry, values, is_offering, is_offered_as, stand_at}
-use Rattle.flow_law.specs.EmitRule.{append, suspend, drop_oldest, numbered}
-use Rattle.flow_law.specs.SharedStep.{admit, settle, withdraw, advance, leave, keep_own}
-use Rattle.flow_law.specs.SharedHistory.{History, state_after}
-use Rattle.flow_law.specs.Laws.{RisesTo, numbers}
+use Rattle.flow_law.specs.flow.SharedFlow.{Numbered, Subscriber, SharedFlowState, first_state, capacity, cache_start, entry, values, is_offering, is_offered_as, stand_at}
+use Rattle.flow_law.specs.flow.EmitRule.{append, suspend, drop_oldest, numbered}
+use Rattle.flow_law.specs.flow.SharedStep.{admit, settle, withdraw, advance, leave, keep_own}
+use Rattle.flow_law.specs.flow.SharedHistory.{History, state_after}
+use Rattle.flow_law.specs.laws.Laws.{RisesTo, numbers}
 use Rattle.flow_law.proofs.Moves.{Keeps, history_keeps, admit_keeps}
 use Rattle.flow_law.proofs.Queue.{Calm, fits_drops, calm_keeps, opened_fits}
 use Rattle.flow_law.proofs.Rows.{every_weaker, every_snoc, every_filter, every_map, every_move, every_with_own, rises_more, rises_filter}

@@ -9,7 +9,7 @@ use Rattle.flow_law.specs.declared.call.StateCall.{StateCall}
 use Rattle.flow_law.specs.declared.call.StateCall.TheVariants as call
 use Rattle.flow_law.specs.declared.call.StateReply.{StateReply}
 use Rattle.flow_law.specs.declared.call.StateReply.TheVariants as reply
-use Rattle.flow_law.specs.StateFlow.{StateSubscriber, StateFlowState, StateHistory, first_state_flow, last_got_by, with_last, without_subscriber, is_state_exhausted, state_flow_after, StateFlowReplies, state_after_all, IsLegalState}
+use Rattle.flow_law.specs.flow.StateFlow.{StateSubscriber, StateFlowState, StateHistory, first_state_flow, last_got_by, with_last, without_subscriber, is_state_exhausted, state_flow_after, StateFlowReplies, state_after_all, IsLegalState}
 use Rattle.flow_law.proofs.Rows.{split}
 use Rattle.flow_law.proofs.StateLawful.{enrolls, some-with_last}
 use Rattle.flow_law.proofs.StateSubscriberLemmas.{last-snoc_other, last-without, last-without_other}

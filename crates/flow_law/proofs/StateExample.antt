@@ -9,7 +9,7 @@ use Rattle.flow_law.specs.declared.call.StateCall.{StateCall}
 use Rattle.flow_law.specs.declared.call.StateCall.TheVariants.{GetValue, Set, TryEmit, CompareAndSet, Subscribe, TakeNext, SubscriptionCount, ReplayCache, ResetReplayCache}
 use Rattle.flow_law.specs.declared.call.StateReply.{StateReply}
 use Rattle.flow_law.specs.declared.call.StateReply.TheVariants.{Done, Got, Answered, Subscribed, Received, Counted, Cached, Refused}
-use Rattle.flow_law.specs.StateFlow.{StateHistory, first_state_flow, IsLegalState}
+use Rattle.flow_law.specs.flow.StateFlow.{StateHistory, first_state_flow, IsLegalState}
 
 abbrev pub event : StateCall ℕ → StateReply ℕ → HistoryEvent (Said (StateCall ℕ) (StateReply ℕ))
 event call reply = record { name = []; began = 0; what = record { call = call; reply = reply } }

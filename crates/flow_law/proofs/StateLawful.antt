@@ -9,8 +9,8 @@ use Rattle.flow_law.specs.declared.call.StateCall.{StateCall}
 use Rattle.flow_law.specs.declared.call.StateCall.TheVariants as call
 use Rattle.flow_law.specs.declared.call.StateReply.{StateReply}
 use Rattle.flow_law.specs.declared.call.StateReply.TheVariants as reply
-use Rattle.flow_law.specs.Lawful.{Lawful, IsNew}
-use Rattle.flow_law.specs.StateFlow.{StateSubscriber, StateFlowState, last_got_by, with_last, without_subscriber, is_state_exhausted, state_flow_after, Receives, StateFlowReplies, state_flow_gives, state_flow_speaks_of, state_flow}
+use Rattle.flow_law.specs.history.Lawful.{Lawful, IsNew}
+use Rattle.flow_law.specs.flow.StateFlow.{StateSubscriber, StateFlowState, last_got_by, with_last, without_subscriber, is_state_exhausted, state_flow_after, Receives, StateFlowReplies, state_flow_gives, state_flow_speaks_of, state_flow}
 use Rattle.flow_law.proofs.RefusalLemmas.{state_subscribe_refused, state_next_refused}
 use Rattle.flow_law.proofs.Rows.{split}
 use Rattle.flow_law.proofs.StateSubscriberLemmas.{last-without_other}

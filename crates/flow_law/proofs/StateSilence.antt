@@ -5,9 +5,9 @@ use Rattle.flow_law.specs.declared.call.StateCall.{StateCall}
 use Rattle.flow_law.specs.declared.call.StateCall.TheVariants as call
 use Rattle.flow_law.specs.declared.call.StateReply.{StateReply}
 use Rattle.flow_law.specs.declared.call.StateReply.TheVariants as reply
-use Rattle.flow_law.specs.Growth.{IsSilent}
-use Rattle.flow_law.specs.History.{subscriber, IsGiven}
-use Rattle.flow_law.specs.StateFlow.{StateSubscriber, StateFlowState, StateHistory, last_got_by, state_flow_after, state_flow_speaks_of, state_flow, state_after_all, IsStateHistory}
+use Rattle.flow_law.specs.history.Growth.{IsSilent}
+use Rattle.flow_law.specs.history.History.{subscriber, IsGiven}
+use Rattle.flow_law.specs.flow.StateFlow.{StateSubscriber, StateFlowState, StateHistory, last_got_by, state_flow_after, state_flow_speaks_of, state_flow, state_after_all, IsStateHistory}
 use Rattle.flow_law.proofs.Owners.{kept_while_silent}
 use Rattle.flow_law.proofs.Rows.{split}
 use Rattle.flow_law.proofs.StateLawful.{state_lawful}

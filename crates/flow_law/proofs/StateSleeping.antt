@@ -9,8 +9,8 @@ use Rattle.flow_law.specs.declared.call.StateReply.{StateReply}
 use Rattle.flow_law.specs.declared.call.StateReply.TheVariants as reply
 use Rattle.flow_law.specs.declared.touch.Touch.{Touch}
 use Rattle.flow_law.specs.declared.touch.Touch.TheVariants as touch
-use Rattle.flow_law.specs.Sleeping.{FindsNothing, Sleeping}
-use Rattle.flow_law.specs.StateFlow.{StateSubscriber, StateFlowState, last_got_by, state_flow_after, Receives, StateFlowReplies, state_flow}
+use Rattle.flow_law.specs.history.Sleeping.{FindsNothing, Sleeping}
+use Rattle.flow_law.specs.flow.StateFlow.{StateSubscriber, StateFlowState, last_got_by, state_flow_after, Receives, StateFlowReplies, state_flow}
 use Rattle.flow_law.proofs.Rows.{split}
 use Rattle.flow_law.proofs.StateSubscriberLemmas.{last-with_other, last-without_other}
 

@@ -2,7 +2,7 @@
 use Rattle.std.proofs.Common.{◌≡◌, ℕ, false, not, ◌==◌, cond, List, [], ◌∷◌, ◌++◌, Option, Some, None, refl, sym, ap, ◌∙◌, subst, arith}
 use Rattle.std.proofs.lemmas.Bool.{cond_both, cond-true, cond-false}
 use Rattle.std.proofs.lemmas.Bool.Decides.{Decides-eqb, nat_tests}
-use Rattle.flow_law.specs.StateFlow.{StateSubscriber, last_got_by, with_last, without_subscriber}
+use Rattle.flow_law.specs.flow.StateFlow.{StateSubscriber, last_got_by, with_last, without_subscriber}
 use Rattle.flow_law.proofs.Rows.{split}
 
 module _ {T : Type 0} where

@@ -1,7 +1,7 @@
 -- Facts of all steps: `takes-along` carries them to other states, `always-takes` says what holds of the result, and `takes-plays`
 -- that calls which answer by a function lead to what `plays` gives.
 use Rattle.std.proofs.Common.{◌≡◌, ◌⊎◌, inl, inr, sym, refl, ap, ◌∙◌, subst}
-use Rattle.flow_law.specs.Steps.{Steps, answers, calls, After, Takes, plays}
+use Rattle.flow_law.specs.sharing.Steps.{Steps, answers, calls, After, Takes, plays}
 
 module _ {C : Type 0} {Answer : C → Type 0} {Res : Type 0} where
   -- if each call does the same to the states on the other side, the steps do the same

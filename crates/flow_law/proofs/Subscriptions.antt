@@ -2,10 +2,10 @@
 use Rattle.std.proofs.Common.{ℕ, List, [], ◌∷◌, ◌++◌, sym, subst}
 use Rattle.flow_law.specs.declared.history.HistoryEvent.{HistoryEvent}
 use Rattle.flow_law.specs.declared.history.Said.{Said}
-use Rattle.flow_law.specs.Growth.{event, GrowsByOthers}
-use Rattle.flow_law.specs.Promise.{said}
-use Rattle.flow_law.specs.History.{Kind, Number, subscriber, after_all, IsLegal, IsHistory, IsGiven, IsSubscribed}
-use Rattle.flow_law.specs.Lawful.{Lawful, Subscribing}
+use Rattle.flow_law.specs.history.Growth.{event, GrowsByOthers}
+use Rattle.flow_law.specs.history.Promise.{said}
+use Rattle.flow_law.specs.history.History.{Kind, Number, subscriber, after_all, IsLegal, IsHistory, IsGiven, IsSubscribed}
+use Rattle.flow_law.specs.history.Lawful.{Lawful, Subscribing}
 use Rattle.flow_law.proofs.HistoryLemmas.{after_all-snoc}
 use Rattle.flow_law.proofs.Owners.{legal_left, legal_right, last_given, given_stays, kept_in_silence}
 

@@ -7,12 +7,12 @@ use Rattle.flow_law.specs.declared.history.Knowledge.{Knowledge}
 use Rattle.flow_law.specs.declared.history.Said.{Said}
 use Rattle.flow_law.specs.declared.outcome.Next.{Next}
 use Rattle.flow_law.specs.declared.outcome.Next.TheVariants.{Gone}
-use Rattle.flow_law.specs.Growth.{event, sees, child, child_name, Fits, GrowsByOthers}
-use Rattle.flow_law.specs.Promise.{said, AddsOne, CallsAtOnceIn}
-use Rattle.flow_law.specs.History.{Kind, Number, Owner, subscriber, after_all, owners_all, IsHistory, replied, MaySpeak, MayCall, IsGiven, IsSubscribed, IsSubscription}
-use Rattle.flow_law.specs.Lawful.{Lawful, Subscribing}
-use Rattle.flow_law.specs.Standing.{Documents, StandsForHistory}
-use Rattle.flow_law.specs.Tokens.{NumberedToken, NextsNowIn}
+use Rattle.flow_law.specs.history.Growth.{event, sees, child, child_name, Fits, GrowsByOthers}
+use Rattle.flow_law.specs.history.Promise.{said, AddsOne, CallsAtOnceIn}
+use Rattle.flow_law.specs.history.History.{Kind, Number, Owner, subscriber, after_all, owners_all, IsHistory, replied, MaySpeak, MayCall, IsGiven, IsSubscribed, IsSubscription}
+use Rattle.flow_law.specs.history.Lawful.{Lawful, Subscribing}
+use Rattle.flow_law.specs.flow.Standing.{Documents, StandsForHistory}
+use Rattle.flow_law.specs.history.Tokens.{NumberedToken, NextsNowIn}
 use Rattle.flow_law.proofs.HistoryLemmas.{after_all-snoc, IsHistory-snoc}
 use Rattle.flow_law.proofs.Owners.{history_left, legal_right, last_given, given_stays}
 use Rattle.flow_law.proofs.Subscriptions.{given_grows, subscription_grows, subscription_next, subscription_given}

@@ -1,7 +1,7 @@
 -- How many items were accepted, and which.
 use Rattle.std.proofs.Common.{◌≡◌, ◌+◌, List, ◌++◌, length, take, Option, sym, ap, ◌∙◌, arith, length-append}
 use Rattle.std.proofs.Math.Seq.{take-append_seam}
-use Rattle.flow_law.specs.TurnAccount.{kept_items, accepted_count, LawTurnAccount}
+use Rattle.flow_law.specs.sharing.TurnAccount.{kept_items, accepted_count, LawTurnAccount}
 
 module _ {T : Type 0} (whole : List T) (kept : Option T) (rest accepted : List T) where
   count-is : whole ≡ accepted ++ (kept_items kept ++ rest) → length accepted ≡ accepted_count whole kept rest

@@ -11,9 +11,9 @@ use Rattle.flow_law.specs.declared.report.Event.TheVariants.{Idle, Put, Queued, 
 use Rattle.flow_law.specs.declared.report.Report.{Report}
 use Rattle.flow_law.specs.declared.report.ShareFault.{ShareFault}
 use Rattle.flow_law.specs.declared.report.ShareFault.TheVariants.{Backwards, Ended, Chain}
-use Rattle.flow_law.specs.Sharing.{newest_command, last_moment}
-use Rattle.flow_law.specs.SharingCalls.{HubCall, HubAnswer, TurnCall, TurnAnswer, ChainAnswer, to_hub, asks, rewinds, counts, puts, polls, cancels, resets, item, pending, end}
-use Rattle.flow_law.specs.SharingTurn.{SharingState, Turned, TurnSteps, refusal, reported, after_put, after_ask, send, after_poll, collect, collect_while_running, after_reset, reset_if_due, after_cancel, work, begin, after_count, turn_steps}
+use Rattle.flow_law.specs.sharing.Sharing.{newest_command, last_moment}
+use Rattle.flow_law.specs.sharing.SharingCalls.{HubCall, HubAnswer, TurnCall, TurnAnswer, ChainAnswer, to_hub, asks, rewinds, counts, puts, polls, cancels, resets, item, pending, end}
+use Rattle.flow_law.specs.sharing.SharingTurn.{SharingState, Turned, TurnSteps, refusal, reported, after_put, after_ask, send, after_poll, collect, collect_while_running, after_reset, reset_if_due, after_cancel, work, begin, after_count, turn_steps}
 use Rattle.flow_law.proofs.StepsLemmas.{Always}
 use Rattle.flow_law.proofs.TurnLemmas.{by-if, neither-due}
 

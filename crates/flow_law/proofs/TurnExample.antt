@@ -5,14 +5,14 @@ use Rattle.flow_law.specs.declared.sharing.Started.TheVariants.{Eagerly}
 use Rattle.flow_law.specs.declared.sharing.Command.TheVariants.{Start, Keep}
 use Rattle.flow_law.specs.declared.report.Event.TheVariants.{Queued, Waiting, Completed}
 use Rattle.flow_law.specs.declared.report.ShareFault.TheVariants.{Backwards}
-use Rattle.flow_law.specs.SharedFlow.{first_state}
-use Rattle.flow_law.specs.SharedStep.{subscribe, next}
-use Rattle.flow_law.specs.StateFlow.{first_state_flow}
-use Rattle.flow_law.specs.ChainRun.{ChainRun, list_run}
-use Rattle.flow_law.specs.Steps.{After}
-use Rattle.flow_law.specs.SharingCalls.{ChainAndHub}
-use Rattle.flow_law.specs.SharingTurn.{Turned, at_rest}
-use Rattle.flow_law.specs.SharingFlows.{EmittingFlow, shared_reply, state_reply, flow_turn}
+use Rattle.flow_law.specs.flow.SharedFlow.{first_state}
+use Rattle.flow_law.specs.flow.SharedStep.{subscribe, next}
+use Rattle.flow_law.specs.flow.StateFlow.{first_state_flow}
+use Rattle.flow_law.specs.chain.ChainRun.{ChainRun, list_run}
+use Rattle.flow_law.specs.sharing.Steps.{After}
+use Rattle.flow_law.specs.sharing.SharingCalls.{ChainAndHub}
+use Rattle.flow_law.specs.sharing.SharingTurn.{Turned, at_rest}
+use Rattle.flow_law.specs.sharing.SharingFlows.{EmittingFlow, shared_reply, state_reply, flow_turn}
 
 abbrev Shared : Type 0
 Shared = After (Turned ℕ) (ChainAndHub ℕ (EmittingFlow ℕ))

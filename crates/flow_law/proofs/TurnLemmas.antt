@@ -9,12 +9,12 @@ use Rattle.flow_law.specs.declared.sharing.Started.{Started}
 use Rattle.flow_law.specs.declared.sharing.Command.{Command}
 use Rattle.flow_law.specs.declared.sharing.Command.TheVariants.{Start, Stop, StopAndReset, Keep}
 use Rattle.flow_law.specs.declared.sharing.SharingObservation.{SharingObservation}
-use Rattle.flow_law.specs.ChainRun.{ChainRun}
-use Rattle.flow_law.specs.Sharing.{newest_command, last_moment}
-use Rattle.flow_law.specs.Steps.{answers, calls, After, Takes}
-use Rattle.flow_law.specs.SharingCalls.{HubCall, HubAnswer, TurnCall, TurnAnswer, ChainAnswer, to_hub, asks, rewinds, counts, puts, polls, cancels, resets, item, pending, end, first_answer, rest_after, AskDoes, ChainAndHub, with_hub, CallDoes, call_reply}
-use Rattle.flow_law.specs.SharingTurn.{SharingState, Turned, TurnSteps, after_put, after_ask, send, after_poll, collect, collect_while_running, after_reset, reset_if_due, after_cancel, work, begin, after_count, turn_steps}
-use Rattle.flow_law.specs.SharingFlows.{HadMemory, flow_turn}
+use Rattle.flow_law.specs.chain.ChainRun.{ChainRun}
+use Rattle.flow_law.specs.sharing.Sharing.{newest_command, last_moment}
+use Rattle.flow_law.specs.sharing.Steps.{answers, calls, After, Takes}
+use Rattle.flow_law.specs.sharing.SharingCalls.{HubCall, HubAnswer, TurnCall, TurnAnswer, ChainAnswer, to_hub, asks, rewinds, counts, puts, polls, cancels, resets, item, pending, end, first_answer, rest_after, AskDoes, ChainAndHub, with_hub, CallDoes, call_reply}
+use Rattle.flow_law.specs.sharing.SharingTurn.{SharingState, Turned, TurnSteps, after_put, after_ask, send, after_poll, collect, collect_while_running, after_reset, reset_if_due, after_cancel, work, begin, after_count, turn_steps}
+use Rattle.flow_law.specs.sharing.SharingFlows.{HadMemory, flow_turn}
 use Rattle.flow_law.proofs.StepsLemmas.{Always, Tells, takes-along, takes-plays}
 
 pub by-if : {X : Type 0} (P : X → Type 0) (b : Bool) (x y : X) → (b ≡ true → P x) → (b ≡ false → P y) → P (if b then x else y)

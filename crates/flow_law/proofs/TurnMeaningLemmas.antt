@@ -11,13 +11,13 @@ use Rattle.flow_law.specs.declared.report.Event.{Event}
 use Rattle.flow_law.specs.declared.report.Event.TheVariants.{Busy, Idle, Put, Queued, Waiting, Pending, Completed}
 use Rattle.flow_law.specs.declared.report.ShareFault.{ShareFault}
 use Rattle.flow_law.specs.declared.report.ShareFault.TheVariants.{Backwards, Ended, Chain, Flow}
-use Rattle.flow_law.specs.ChainRun.{ChainRun, items}
-use Rattle.flow_law.specs.TurnAccount.{kept_items}
-use Rattle.flow_law.specs.Sharing.{newest_command, last_moment, command_of, is_running}
-use Rattle.flow_law.specs.Steps.{Takes}
-use Rattle.flow_law.specs.SharingCalls.{HubCall, HubAnswer, ChainAnswer, counts, puts, polls, cancels, resets, item, pending, end, AskDoes, ChainAndHub, CallDoes}
-use Rattle.flow_law.specs.SharingTurn.{SharingState, Turned, refusal, reported, after_put, after_ask, send, after_poll, collect_while_running, after_reset, reset_if_due, after_cancel, work, begin, after_count, turn_steps}
-use Rattle.flow_law.specs.TurnMeaning.{ChainAccounts, HasAccount, BetweenTurns, since_start, rest_at, WasRefused, OutcomeMeans, TurnMeans}
+use Rattle.flow_law.specs.chain.ChainRun.{ChainRun, items}
+use Rattle.flow_law.specs.sharing.TurnAccount.{kept_items}
+use Rattle.flow_law.specs.sharing.Sharing.{newest_command, last_moment, command_of, is_running}
+use Rattle.flow_law.specs.sharing.Steps.{Takes}
+use Rattle.flow_law.specs.sharing.SharingCalls.{HubCall, HubAnswer, ChainAnswer, counts, puts, polls, cancels, resets, item, pending, end, AskDoes, ChainAndHub, CallDoes}
+use Rattle.flow_law.specs.sharing.SharingTurn.{SharingState, Turned, refusal, reported, after_put, after_ask, send, after_poll, collect_while_running, after_reset, reset_if_due, after_cancel, work, begin, after_count, turn_steps}
+use Rattle.flow_law.specs.sharing.TurnMeaning.{ChainAccounts, HasAccount, BetweenTurns, since_start, rest_at, WasRefused, OutcomeMeans, TurnMeans}
 use Rattle.flow_law.proofs.TurnLemmas.{by-if, Leads, leads-takes, leads-so}
 
 pub not-both : {b : Bool} → b ≡ true → b ≡ false → ⊥

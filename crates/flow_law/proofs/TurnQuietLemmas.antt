@@ -10,11 +10,11 @@ use Rattle.flow_law.specs.declared.sharing.SharingObservation.{SharingObservatio
 use Rattle.flow_law.specs.declared.report.Event.TheVariants.{Busy, Idle, Put, Queued, Waiting, Pending, Completed}
 use Rattle.flow_law.specs.declared.report.Report.{Report}
 use Rattle.flow_law.specs.declared.report.ShareFault.{ShareFault}
-use Rattle.flow_law.specs.Sharing.{newest_command, last_moment}
-use Rattle.flow_law.specs.Steps.{Takes}
-use Rattle.flow_law.specs.SharingCalls.{HubCall, HubAnswer, ChainAnswer, counts, cancels, resets, item, pending, end, ChainAndHub, CallDoes, HubStep}
-use Rattle.flow_law.specs.SharingTurn.{SharingState, Turned, TurnSteps, refusal, reported, after_put, after_ask, send, after_poll, collect, collect_while_running, after_reset, reset_if_due, after_cancel, work, begin, after_count, turn_steps}
-use Rattle.flow_law.specs.TurnMeaning.{IsQuiet}
+use Rattle.flow_law.specs.sharing.Sharing.{newest_command, last_moment}
+use Rattle.flow_law.specs.sharing.Steps.{Takes}
+use Rattle.flow_law.specs.sharing.SharingCalls.{HubCall, HubAnswer, ChainAnswer, counts, cancels, resets, item, pending, end, ChainAndHub, CallDoes, HubStep}
+use Rattle.flow_law.specs.sharing.SharingTurn.{SharingState, Turned, TurnSteps, refusal, reported, after_put, after_ask, send, after_poll, collect, collect_while_running, after_reset, reset_if_due, after_cancel, work, begin, after_count, turn_steps}
+use Rattle.flow_law.specs.sharing.TurnMeaning.{IsQuiet}
 use Rattle.flow_law.proofs.StepsLemmas.{Always}
 use Rattle.flow_law.proofs.TurnLemmas.{by-if, neither-due, Leads, leads-takes, always-leads}
 use Rattle.flow_law.proofs.TurnMeaningLemmas.{not-both}

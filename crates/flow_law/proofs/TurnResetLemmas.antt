@@ -11,11 +11,11 @@ use Rattle.flow_law.specs.declared.report.Event.{Event}
 use Rattle.flow_law.specs.declared.report.Report.{Report}
 use Rattle.flow_law.specs.declared.report.ShareFault.{ShareFault}
 use Rattle.flow_law.specs.declared.report.ShareFault.TheVariants.{Backwards, Ended}
-use Rattle.flow_law.specs.Sharing.{newest_command, last_moment}
-use Rattle.flow_law.specs.Steps.{answers, calls, Takes}
-use Rattle.flow_law.specs.SharingCalls.{HubCall, HubAnswer, ChainAnswer, to_hub, asks, rewinds, counts, cancels, resets, item, pending, end, ChainAndHub, CallDoes}
-use Rattle.flow_law.specs.SharingTurn.{SharingState, Turned, TurnSteps, refusal, reported, after_put, after_ask, send, after_poll, collect_while_running, after_reset, after_cancel, work, begin, after_count, turn_steps}
-use Rattle.flow_law.specs.TurnMeaning.{resets_at, IsCommand, IsNoReset, CallsLead, WasNotReset, WasReset, MayLeaveDue, HadCommand, ResetMeans, TurnResets}
+use Rattle.flow_law.specs.sharing.Sharing.{newest_command, last_moment}
+use Rattle.flow_law.specs.sharing.Steps.{answers, calls, Takes}
+use Rattle.flow_law.specs.sharing.SharingCalls.{HubCall, HubAnswer, ChainAnswer, to_hub, asks, rewinds, counts, cancels, resets, item, pending, end, ChainAndHub, CallDoes}
+use Rattle.flow_law.specs.sharing.SharingTurn.{SharingState, Turned, TurnSteps, refusal, reported, after_put, after_ask, send, after_poll, collect_while_running, after_reset, after_cancel, work, begin, after_count, turn_steps}
+use Rattle.flow_law.specs.sharing.TurnMeaning.{resets_at, IsCommand, IsNoReset, CallsLead, WasNotReset, WasReset, MayLeaveDue, HadCommand, ResetMeans, TurnResets}
 use Rattle.flow_law.proofs.StepsLemmas.{Always}
 use Rattle.flow_law.proofs.TurnLemmas.{by-if, neither-due, Leads, leads-takes, leads-so, leads-both, always-leads}
 

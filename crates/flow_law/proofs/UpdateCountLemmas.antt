@@ -9,14 +9,14 @@ use Rattle.flow_law.specs.declared.call.StateCall.TheVariants as call
 use Rattle.flow_law.specs.declared.call.StateReply.{StateReply}
 use Rattle.flow_law.specs.declared.call.StateReply.TheVariants as reply
 use Rattle.flow_law.specs.declared.outcome.Next.TheVariants.{Value, Empty, Gone}
-use Rattle.flow_law.specs.Promise.{said}
-use Rattle.flow_law.specs.History.{IsHistory}
+use Rattle.flow_law.specs.history.Promise.{said}
+use Rattle.flow_law.specs.history.History.{IsHistory}
 use Rattle.flow_law.specs.declared.states.StateFlowState.{StateFlowState}
-use Rattle.flow_law.specs.StateFlow.{StateHistory, state_flow, state_after_all, IsLegalState, state_flow_after, StateFlowReplies}
-use Rattle.flow_law.specs.Updates.{StateTokenOf, IsRound, LosesRounds, none_lost, one_lost, Updates}
-use Rattle.flow_law.specs.Done.{total, done_by}
-use Rattle.flow_law.specs.Closed.{AreAll, IsClosed}
-use Rattle.flow_law.specs.UpdateCounts.{iterate, update_by, updates, UpdatesBy, OnlyUpdates, UpdatesTimes}
+use Rattle.flow_law.specs.flow.StateFlow.{StateHistory, state_flow, state_after_all, IsLegalState, state_flow_after, StateFlowReplies}
+use Rattle.flow_law.specs.history.Updates.{StateTokenOf, IsRound, LosesRounds, none_lost, one_lost, Updates}
+use Rattle.flow_law.specs.history.Done.{total, done_by}
+use Rattle.flow_law.specs.laws.Closed.{AreAll, IsClosed}
+use Rattle.flow_law.specs.laws.UpdateCounts.{iterate, update_by, updates, UpdatesBy, OnlyUpdates, UpdatesTimes}
 use Rattle.flow_law.proofs.DoneLemmas.{total-append, every_append, made_nothing, made_more, made_one}
 use Rattle.flow_law.proofs.ClosedLemmas.{all_done, every_done}
 

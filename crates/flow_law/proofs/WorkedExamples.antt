@@ -9,9 +9,9 @@ use Rattle.flow_law.specs.declared.call.SharedCall.{SharedCall}
 use Rattle.flow_law.specs.declared.call.SharedCall.TheVariants.{TryEmit, Emit, Poll, Cancel, Subscribe, TakeNext, Unsubscribe, ReplayCache, ResetReplayCache}
 use Rattle.flow_law.specs.declared.call.SharedReply.{SharedReply}
 use Rattle.flow_law.specs.declared.call.SharedReply.TheVariants.{Emitted, Tested, Subscribed, Received, Cached, Reset, Refused}
-use Rattle.flow_law.specs.SharedFlow.{SharedFlowState, first_state, config_fault, position_of, values}
-use Rattle.flow_law.specs.SharedHistory.{answer_to, History, state_after}
-use Rattle.flow_law.specs.Mailbox.{mailbox}
+use Rattle.flow_law.specs.flow.SharedFlow.{SharedFlowState, first_state, config_fault, position_of, values}
+use Rattle.flow_law.specs.flow.SharedHistory.{answer_to, History, state_after}
+use Rattle.flow_law.specs.flow.Mailbox.{mailbox}
 
 abbrev replies_from : SharedFlowState ℕ → List (SharedCall ℕ) → List (SharedReply ℕ)
 replies_from s [] = []

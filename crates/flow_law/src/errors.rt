@@ -1,6 +1,6 @@
 //! The errors of handles. Each kind of call has an error type with only the faults that the call can return.
 ghost use Rattle.std.specs.Prelude.{◌≡◌};
-ghost use Rattle.flow_law.specs.HandleFaults.{memory_fault, limit_fault, busy_fault, unsupported_fault, number_fault, emit_now_fault, try_next_fault};
+ghost use Rattle.flow_law.specs.history.HandleFaults.{memory_fault, limit_fault, busy_fault, unsupported_fault, number_fault, emit_now_fault, try_next_fault};
 
 use crate::fault::FlowFault;
 use std::fmt::{Debug, Display};

@@ -17,7 +17,7 @@ pub struct Subscriber<T> {
     pub position: u64,
 }
 
-/// The state of a documented shared flow. `specs/SharedFlow.antt` has a drawing of it.
+/// The state of a documented shared flow. `specs/flow/SharedFlow.antt` has a drawing of it.
 pub struct SharedFlowState<T> {
     pub config: Config,
     /// Every value ever emitted, in order. It is never cut.

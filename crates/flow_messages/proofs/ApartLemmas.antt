@@ -4,10 +4,10 @@ use Rattle.flow_law.specs.declared.call.StateCall.TheVariants.{Set, GetValue}
 use Rattle.flow_law.specs.declared.call.StateReply.TheVariants.{Done, Got}
 use Rattle.flow_law.specs.declared.history.HistoryEvent.{HistoryEvent}
 use Rattle.flow_law.specs.declared.states.StateFlowState.{StateFlowState}
-use Rattle.flow_law.specs.Promise.{Token, CallsIn}
-use Rattle.flow_law.specs.RealTime.{IsAt, InRealTime}
-use Rattle.flow_law.specs.StateFlow.{StateHistory, state_flow}
-use Rattle.flow_law.specs.Tokens.{MeetsIn, HasSeenMore}
+use Rattle.flow_law.specs.history.Promise.{Token, CallsIn}
+use Rattle.flow_law.specs.history.RealTime.{IsAt, InRealTime}
+use Rattle.flow_law.specs.flow.StateFlow.{StateHistory, state_flow}
+use Rattle.flow_law.specs.history.Tokens.{MeetsIn, HasSeenMore}
 use Rattle.flow_messages.specs.Apart.{SeesBoth}
 use Rattle.flow_messages.specs.Before.{SaysNumber, set_by, read_event}
 

@@ -3,10 +3,10 @@ use Rattle.std.proofs.Common.{◌≡◌, ℕ, [], ◌∷◌, ◌++◌, sym, ap, 
 use Rattle.flow_law.specs.declared.call.StateCall.TheVariants.{GetValue}
 use Rattle.flow_law.specs.declared.call.StateReply.TheVariants.{Got}
 use Rattle.flow_law.specs.declared.states.StateFlowState.{StateFlowState}
-use Rattle.flow_law.specs.Growth.{event}
-use Rattle.flow_law.specs.Promise.{said, Token, CallsIn}
-use Rattle.flow_law.specs.StateFlow.{state_flow}
-use Rattle.flow_law.specs.Tokens.{MeetsIn}
+use Rattle.flow_law.specs.history.Growth.{event}
+use Rattle.flow_law.specs.history.Promise.{said, Token, CallsIn}
+use Rattle.flow_law.specs.flow.StateFlow.{state_flow}
+use Rattle.flow_law.specs.history.Tokens.{MeetsIn}
 use Rattle.flow_messages.specs.Before.{SaysNumber, set_by, IsSetByMaker, ReadsAfterSet}
 
 module _ {Id : Type 0} (first : StateFlowState ℕ) where

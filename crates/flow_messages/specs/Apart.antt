@@ -1,7 +1,7 @@
 -- What a caller can conclude of a `set` and a `value` by two callers that never met, after it has met both. Begin with `SeesBoth`.
 use Rattle.std.specs.Prelude.{ℕ, ◌<◌, List}
-use Rattle.flow_law.specs.RealTime.{IsAt, WasThere}
-use Rattle.flow_law.specs.StateFlow.{StateHistory}
+use Rattle.flow_law.specs.history.RealTime.{IsAt, WasThere}
+use Rattle.flow_law.specs.flow.StateFlow.{StateHistory}
 use Rattle.flow_messages.specs.Before.{set_by, read_event}
 
 -- the history has both calls; if one of them had returned when the other one began, it comes first

@@ -7,8 +7,8 @@ use Rattle.flow_law.specs.declared.call.StateReply.TheVariants.{Done, Got}
 use Rattle.flow_law.specs.declared.history.HistoryEvent.{HistoryEvent}
 use Rattle.flow_law.specs.declared.history.Knowledge.{Knowledge}
 use Rattle.flow_law.specs.declared.history.Said.{Said}
-use Rattle.flow_law.specs.Growth.{child_name, event}
-use Rattle.flow_law.specs.Promise.{said}
+use Rattle.flow_law.specs.history.Growth.{child_name, event}
+use Rattle.flow_law.specs.history.Promise.{said}
 
 -- what the events of a state flow of numbers say
 abbrev pub SaysNumber : Type 0

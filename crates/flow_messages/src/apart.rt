@@ -1,7 +1,7 @@
 //! A `set` and a `value` of two callers that never meet, and a third caller that meets both later.
 ghost use Rattle.std.specs.Prelude.{◌≡◌};
-ghost use Rattle.flow_law.specs.StateFlow.{IsStateHistory};
-ghost use Rattle.flow_law.specs.Tokens.{HasSeenMore};
+ghost use Rattle.flow_law.specs.flow.StateFlow.{IsStateHistory};
+ghost use Rattle.flow_law.specs.history.Tokens.{HasSeenMore};
 ghost use Rattle.flow_messages.specs.Apart.{SeesBoth};
 
 use flow_law::law_linearizable;

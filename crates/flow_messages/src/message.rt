@@ -1,7 +1,7 @@
 //! A message, and what its type says.
 ghost use Rattle.std.specs.Prelude.{◌≡◌, ℕ, Option, Some, None};
-ghost use Rattle.flow_law.specs.StateFlow.{IsStateHistory};
-ghost use Rattle.flow_law.specs.Tokens.{HasSeenMore};
+ghost use Rattle.flow_law.specs.flow.StateFlow.{IsStateHistory};
+ghost use Rattle.flow_law.specs.history.Tokens.{HasSeenMore};
 ghost use Rattle.flow_word.specs.Tokens.{WordId};
 ghost use Rattle.flow_messages.specs.Before.{IsSetByMaker, ReadsAfterSet};
 

@@ -1,7 +1,7 @@
 //! Passing a message from one thread to another.
 ghost use Rattle.std.specs.Prelude.{◌≡◌, Some, IfSome};
-ghost use Rattle.flow_law.specs.StateFlow.{IsStateHistory};
-ghost use Rattle.flow_law.specs.Tokens.{HasSeenMore};
+ghost use Rattle.flow_law.specs.flow.StateFlow.{IsStateHistory};
+ghost use Rattle.flow_law.specs.history.Tokens.{HasSeenMore};
 ghost use Rattle.flow_messages.specs.Before.{ReadsAfterSet};
 
 use crate::message::{Message, OneFlow};

@@ -1,6 +1,6 @@
 -- How an ask shortens the rest of a run.
 use Rattle.std.proofs.Common.{◌<◌, inl, inr, ap, arith}
-use Rattle.flow_law.specs.ChainRun.{ChainRun, entries, asks}
+use Rattle.flow_law.specs.chain.ChainRun.{ChainRun, entries, asks}
 use Rattle.flow_law.proofs.ChainLemmas.{asks_entries}
 use Rattle.flow_operators.specs.declared.cold.Asked.{Asked}
 use Rattle.flow_operators.specs.declared.cold.Asked.TheVariants.{Item, Pending, End, Fault}

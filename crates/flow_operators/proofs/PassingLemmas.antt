@@ -1,8 +1,8 @@
 -- What a `filter` and a `dropWhile` make of the first item that they emit. Begin with `filter-item` and `drop_while-item`.
 use Rattle.std.proofs.Common.{◌≡◌, Bool, true, false, cond, not, inl, inr, refl, ap, ◌∙◌, arith}
 use Rattle.std.proofs.lemmas.Grind.{common_steps}
-use Rattle.flow_law.specs.ChainRun.{ChainRun, gives, pends, ends}
-use Rattle.flow_law.specs.OperatorRuns.{filter_run, drop_while_run}
+use Rattle.flow_law.specs.chain.ChainRun.{ChainRun, gives, pends, ends}
+use Rattle.flow_law.specs.chain.OperatorRuns.{filter_run, drop_while_run}
 use Rattle.flow_operators.specs.declared.cold.Asked.{Asked}
 use Rattle.flow_operators.specs.declared.cold.Asked.TheVariants.{Item, Pending, End as Ended, Fault}
 use Rattle.flow_operators.specs.Asking.{AskGives}

@@ -4,7 +4,7 @@ use Rattle.std.specs.Prelude.{IfOk, IfErr, IfSome}
 use Rattle.std.proofs.lemmas.List.{append_assoc, length-append}
 use Rattle.std.proofs.lemmas.Grind.{common_steps}
 use Rattle.flow_law.specs.declared.chain.ChainFault.{ChainFault}
-use Rattle.flow_law.specs.ChainRun.{ChainRun, gives, pends, ends, items}
+use Rattle.flow_law.specs.chain.ChainRun.{ChainRun, gives, pends, ends, items}
 use Rattle.flow_operators.specs.Behind.{rest_after_ask}
 use Rattle.flow_operators.specs.Collecting.{IsRestOf}
 use Rattle.flow_operators.specs.Terminal.{GivesItem}

@@ -7,7 +7,7 @@ use Rattle.flow_law.specs.declared.chain.ChainFault.{ChainFault}
 use Rattle.flow_law.specs.declared.chain.ChainFault.TheVariants.{OutOfMemory}
 use Rattle.flow_law.specs.declared.chain.End.{End}
 use Rattle.flow_law.specs.declared.chain.End.TheVariants.{Completed, Failed}
-use Rattle.flow_law.specs.ChainRun.{ChainRun, items, ending}
+use Rattle.flow_law.specs.chain.ChainRun.{ChainRun, items, ending}
 use Rattle.flow_operators.specs.Collecting.{IsRestOf}
 use Rattle.flow_operators.specs.Closures.{Follows}
 use Rattle.flow_operators.specs.Terminal.{FollowsRun, GivesItem, Visits, all_of, any_of, first_of}

@@ -1,6 +1,6 @@
 -- What is left of a chain's run after some of its items were taken.
 use Rattle.std.specs.Prelude.{◌≡◌, List, ◌∷◌, ◌++◌}
-use Rattle.flow_law.specs.ChainRun.{ChainRun, items, ending}
+use Rattle.flow_law.specs.chain.ChainRun.{ChainRun, items, ending}
 
 module _ {T : Type 0} where
   -- `rest` has the last items of `whole`, and its end

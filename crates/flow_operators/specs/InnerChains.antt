@@ -1,5 +1,5 @@
 -- The open inner chain of a `flatMapConcat`. It has the reading of the item that the closure made it of.
-use Rattle.flow_law.specs.ChainRun.{ChainRun}
+use Rattle.flow_law.specs.chain.ChainRun.{ChainRun}
 use Rattle.flow_operators.specs.declared.operators.flat_map_concat.InnerChain.{InnerChain}
 
 module _ {A D : Type 0} where

@@ -2,8 +2,8 @@
 use Rattle.std.specs.Prelude.{ℕ, Bool, true, false, cond, Option, Some, None, Result, List, [], reverse}
 use Rattle.flow_law.specs.declared.chain.ChainFault.{ChainFault}
 use Rattle.flow_law.specs.declared.chain.End.TheVariants.{Completed}
-use Rattle.flow_law.specs.ChainRun.{ChainRun, gives, ends}
-use Rattle.flow_law.specs.OperatorRuns.{drop_while_run, scan_run}
+use Rattle.flow_law.specs.chain.ChainRun.{ChainRun, gives, ends}
+use Rattle.flow_law.specs.chain.OperatorRuns.{drop_while_run, scan_run}
 
 -- nothing if the chain has ended, else r
 abbrev pub unless_ended : {T : Type 0} → Bool → ChainRun T → ChainRun T

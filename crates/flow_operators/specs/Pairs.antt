@@ -1,8 +1,8 @@
 -- The rest of a `zip`, by its two sides and the left item that it keeps. L and R are the types of the chains, A and B those of their items.
 use Rattle.std.specs.Prelude.{◌≡◌, ◌+◌, ℕ, Bool, false, Result, Ok, Err}
 use Rattle.flow_law.specs.declared.chain.ChainFault.{ChainFault}
-use Rattle.flow_law.specs.ChainRun.{ChainRun, gives}
-use Rattle.flow_law.specs.OperatorRuns.{zip_run}
+use Rattle.flow_law.specs.chain.ChainRun.{ChainRun, gives}
+use Rattle.flow_law.specs.chain.OperatorRuns.{zip_run}
 use Rattle.flow_operators.specs.declared.cold.Asked.{Asked}
 use Rattle.flow_operators.specs.declared.operators.pairs.Pairs.{Pairs}
 use Rattle.flow_operators.specs.Asking.{AskGives}

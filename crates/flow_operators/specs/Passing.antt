@@ -4,7 +4,7 @@
 --   gives 1 (pends (gives 2 (ends e)))   pends (gives 2 (ends e))
 --   gives 1 (ends e)                     ends e
 use Rattle.std.specs.Prelude.{Bool, cond}
-use Rattle.flow_law.specs.ChainRun.{ChainRun, gives, pends, ends}
+use Rattle.flow_law.specs.chain.ChainRun.{ChainRun, gives, pends, ends}
 
 -- the run from its first item that passes; from a pending turn or from the end if that is earlier
 abbrev pub from_passing : {A : Type 0} → (A → Bool) → ChainRun A → ChainRun A

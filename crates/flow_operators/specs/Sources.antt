@@ -2,7 +2,7 @@
 use Rattle.std.specs.Prelude.{ℕ, zero, suc, ◌+◌, ◌-◌, ℤ, pos, ◌+ℤ◌, ◌-ℤ◌, int_lt, nat_abs, cond, List, [], ◌∷◌, drop}
 use Rattle.flow_law.specs.declared.chain.ChainFault.TheVariants.{Source}
 use Rattle.flow_law.specs.declared.chain.End.TheVariants.{Completed, Failed}
-use Rattle.flow_law.specs.ChainRun.{ChainRun, gives, pends, ends, list_run}
+use Rattle.flow_law.specs.chain.ChainRun.{ChainRun, gives, pends, ends, list_run}
 use Rattle.flow_operators.specs.declared.sources.of_range.OfRange.{OfRange}
 use Rattle.flow_operators.specs.declared.sources.scripted.Entry.{Entry}
 use Rattle.flow_operators.specs.declared.sources.scripted.Entry.TheVariants.{Item, Pending, Fault}

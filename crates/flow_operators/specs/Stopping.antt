@@ -8,7 +8,7 @@
 -- If no item settles the answer, the chain is over (`IsOver` of `Cold`).
 use Rattle.std.specs.Prelude.{◌≡◌, ◌⊎◌, ◌≤◌, ◌^◌, Bool, not, List, ◌++◌, length, Result, Ok, Err}
 use Rattle.flow_law.specs.declared.chain.ChainFault.{ChainFault}
-use Rattle.flow_law.specs.ChainRun.{ChainRun, gives, pends, ends, items, ending}
+use Rattle.flow_law.specs.chain.ChainRun.{ChainRun, gives, pends, ends, items, ending}
 
 module _ {T : Type 0} where
   -- the run from its first item, or from its end if it has no item

@@ -6,7 +6,7 @@ use Rattle.futures.specs.declared.task.Poll.TheVariants.{Ready, Pending}
 use Rattle.flow_law.specs.declared.chain.ChainFault.{ChainFault}
 use Rattle.flow_law.specs.declared.chain.ChainFault.TheVariants.{OutOfMemory}
 use Rattle.flow_law.specs.declared.chain.End.TheVariants.{Completed, Failed}
-use Rattle.flow_law.specs.ChainRun.{ChainRun, gives, pends, ends}
+use Rattle.flow_law.specs.chain.ChainRun.{ChainRun, gives, pends, ends}
 use Rattle.flow_operators.specs.declared.cold.Asked.{Asked}
 use Rattle.flow_operators.specs.declared.cold.Asked.TheVariants as asked
 use Rattle.flow_operators.specs.declared.cold.Asked.TheVariants.{Item, End as Ended, Fault}

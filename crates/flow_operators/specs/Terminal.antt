@@ -12,7 +12,7 @@ use Rattle.flow_law.specs.declared.chain.ChainFault.{ChainFault}
 use Rattle.flow_law.specs.declared.chain.ChainFault.TheVariants.{OutOfMemory, Overflow}
 use Rattle.flow_law.specs.declared.chain.End.{End}
 use Rattle.flow_law.specs.declared.chain.End.TheVariants.{Completed, Failed}
-use Rattle.flow_law.specs.ChainRun.{ChainRun, ends, items, ending}
+use Rattle.flow_law.specs.chain.ChainRun.{ChainRun, ends, items, ending}
 use Rattle.flow_operators.specs.Closures.{Follows}
 
 -- the result is `meant` of the run's items and its ending, or out of memory

@@ -5,10 +5,10 @@
 ghost use Rattle.std.specs.Prelude.{◌≡◌, ◌↔◌, None, Ok, Bool, List, Result, IfOk, IfErr};
 ghost use Rattle.std.specs.Fn.{FnReturnsAt};
 ghost use Rattle.flow_law.specs.declared.chain.ChainFault.{ChainFault};
-ghost use Rattle.flow_law.specs.ChainRun.{ChainRun, gives};
-ghost use Rattle.flow_law.specs.Chain as means;
-ghost use Rattle.flow_law.specs.Chain.{meaning_of};
-ghost use Rattle.flow_law.specs.OperatorRuns as runs;
+ghost use Rattle.flow_law.specs.chain.ChainRun.{ChainRun, gives};
+ghost use Rattle.flow_law.specs.chain.Chain as means;
+ghost use Rattle.flow_law.specs.chain.Chain.{meaning_of};
+ghost use Rattle.flow_law.specs.chain.OperatorRuns as runs;
 ghost use Rattle.flow_operators.specs.Closures.{Computes, ComputesBy, ComputesPairs, Decides, Makes, NeverRefuses, NeverRefusesPairs, Opens, OpensOnly};
 ghost use Rattle.flow_operators.specs.Taking.{items_left};
 

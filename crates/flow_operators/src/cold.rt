@@ -1,6 +1,6 @@
 //! The trait of cold chains.
 ghost use Rattle.std.specs.Prelude.{◌≡◌, ◌≢◌, ◌⊎◌, ◌<◌, ◌≤◌};
-ghost use Rattle.flow_law.specs.ChainRun.{ChainRun};
+ghost use Rattle.flow_law.specs.chain.ChainRun.{ChainRun};
 ghost use Rattle.flow_operators.specs.Asking.{AskGives, IsFinal, OnEnd};
 ghost use Rattle.flow_operators.specs.Bound.{Bound};
 

@@ -1,6 +1,6 @@
 //! Collecting a chain to its end.
 ghost use Rattle.std.specs.Prelude.{◌≡◌, ◌≢◌, IfOk, IfErr};
-ghost use Rattle.flow_law.specs.ChainRun.{Collects};
+ghost use Rattle.flow_law.specs.chain.ChainRun.{Collects};
 ghost use Rattle.flow_operators.specs.Collecting.{StandsAfterItem};
 ghost use Rattle.flow_operators.specs.SameChain.{StaysChain};
 

@@ -3,7 +3,7 @@ ghost use Rattle.std.specs.Prelude.{◌≢◌, ◌⊎◌, ◌<◌, Bool, Result,
 ghost use Rattle.std.specs.Fn.{FnReturnsAt};
 ghost use Rattle.flow_law.specs.declared.chain.ChainFault.{ChainFault};
 ghost use Rattle.flow_law.specs.declared.chain.End.{End};
-ghost use Rattle.flow_law.specs.ChainRun.{items, ending};
+ghost use Rattle.flow_law.specs.chain.ChainRun.{items, ending};
 ghost use Rattle.flow_operators.specs.Closures.{ComputesPairs, Decides, Follows, NeverRefusesPairs};
 ghost use Rattle.flow_operators.specs.SameChain.{StaysChain};
 ghost use Rattle.flow_operators.specs.Stopping.{StandsAfterFailed, StandsAfterFirst, StandsAfterFound};

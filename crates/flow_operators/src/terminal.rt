@@ -10,7 +10,7 @@ ghost use Rattle.std.specs.Bool.{OnFalse, OnTrue};
 ghost use Rattle.std.specs.Prelude.{◌≡◌, ◌≢◌, ◌⊎◌, true, false, Bool, Result, filter, IfOk, IfErr, IfSome};
 ghost use Rattle.std.specs.Fn.{FnReturnsAt};
 ghost use Rattle.flow_law.specs.declared.chain.ChainFault.{ChainFault};
-ghost use Rattle.flow_law.specs.ChainRun.{Collects, items, ending};
+ghost use Rattle.flow_law.specs.chain.ChainRun.{Collects, items, ending};
 ghost use Rattle.flow_operators.specs.Closures.{ComputesPairs, Decides, NeverRefusesPairs, NeverRefusesVisits};
 ghost use Rattle.flow_operators.specs.Collecting.{StandsAfterItem};
 ghost use Rattle.flow_operators.specs.SameChain.{StaysChain};

@@ -12,11 +12,11 @@ use Rattle.flow_law.specs.declared.call.SharedCall.{SharedCall}
 use Rattle.flow_law.specs.declared.call.SharedCall.TheVariants as call
 use Rattle.flow_law.specs.declared.call.SharedReply.{SharedReply}
 use Rattle.flow_law.specs.declared.call.SharedReply.TheVariants as reply
-use Rattle.flow_law.specs.Accepted.{accepted_by, accepted}
-use Rattle.flow_law.specs.Done.{done_by}
-use Rattle.flow_law.specs.Mailbox.{received_by}
-use Rattle.flow_law.specs.Growth.{IsMadeBy, NamesOnlyMade, child, child_name}
-use Rattle.flow_law.specs.Promise.{said, AddsOne}
+use Rattle.flow_law.specs.laws.Accepted.{accepted_by, accepted}
+use Rattle.flow_law.specs.history.Done.{done_by}
+use Rattle.flow_law.specs.flow.Mailbox.{received_by}
+use Rattle.flow_law.specs.history.Growth.{IsMadeBy, NamesOnlyMade, child, child_name}
+use Rattle.flow_law.specs.history.Promise.{said, AddsOne}
 use Rattle.flow_law.proofs.DoneLemmas.{every_append, made_nothing, made_more, made_one, said_by_silent}
 use Rattle.flow_law.proofs.Names.{every_weaker}
 use Rattle.flow_program.specs.Callers.{Says, IsEmitting, taken_by, OnlyEmits, Reads}

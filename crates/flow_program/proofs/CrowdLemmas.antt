@@ -9,12 +9,12 @@ use Rattle.flow_law.specs.declared.call.SharedCall.{SharedCall}
 use Rattle.flow_law.specs.declared.call.SharedCall.TheVariants as call
 use Rattle.flow_law.specs.declared.call.SharedReply.{SharedReply}
 use Rattle.flow_law.specs.declared.states.SharedFlowState.{SharedFlowState}
-use Rattle.flow_law.specs.Growth.{child_name}
-use Rattle.flow_law.specs.SharedHistory.{History, shared_flow}
-use Rattle.flow_law.specs.Accepted.{accepted_by, accepted}
-use Rattle.flow_law.specs.Done.{total, done_by}
-use Rattle.flow_law.specs.Closed.{Accounts, AreAll, AreNumbered, IsClosed}
-use Rattle.flow_law.specs.Rounds.{HasClosedHistory}
+use Rattle.flow_law.specs.history.Growth.{child_name}
+use Rattle.flow_law.specs.flow.SharedHistory.{History, shared_flow}
+use Rattle.flow_law.specs.laws.Accepted.{accepted_by, accepted}
+use Rattle.flow_law.specs.history.Done.{total, done_by}
+use Rattle.flow_law.specs.laws.Closed.{Accounts, AreAll, AreNumbered, IsClosed}
+use Rattle.flow_law.specs.history.Rounds.{HasClosedHistory}
 use Rattle.flow_law.proofs.ClosedLemmas.{first_and_made}
 use Rattle.flow_law.proofs.DoneLemmas.{split, every_append, every_left, total-append}
 use Rattle.flow_law.proofs.Names.{every_weaker, every_right}

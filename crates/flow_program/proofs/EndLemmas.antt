@@ -4,11 +4,11 @@ use Rattle.atomic_table.specs.Seated.{TableId}
 use Rattle.flow_law.specs.declared.config.Overflow.TheVariants.{Suspend}
 use Rattle.flow_law.specs.declared.history.Knowledge.{Knowledge}
 use Rattle.flow_law.specs.declared.states.SharedFlowState.{SharedFlowState}
-use Rattle.flow_law.specs.Done.{done_by}
-use Rattle.flow_law.specs.Rounds.{HasClosedHistory}
-use Rattle.flow_law.specs.SharedHistory.{shared_flow}
-use Rattle.flow_law.specs.Tokens.{NumberedToken}
-use Rattle.flow_law.specs.Promise.{Token}
+use Rattle.flow_law.specs.history.Done.{done_by}
+use Rattle.flow_law.specs.history.Rounds.{HasClosedHistory}
+use Rattle.flow_law.specs.flow.SharedHistory.{shared_flow}
+use Rattle.flow_law.specs.history.Tokens.{NumberedToken}
+use Rattle.flow_law.specs.history.Promise.{Token}
 use Rattle.flow_gate.specs.Tokens.{GateOrigin}
 use Rattle.flow_program.specs.declared.crowd.emitters.EmitsAll.{EmitsAll}
 use Rattle.flow_program.specs.declared.crowd.size.CrowdSize.{CrowdSize}

@@ -6,11 +6,11 @@ use Rattle.flow_law.specs.declared.config.Overflow.TheVariants.{Suspend}
 use Rattle.flow_law.specs.declared.history.HistoryEvent.{HistoryEvent}
 use Rattle.flow_law.specs.declared.history.Knowledge.{Knowledge}
 use Rattle.flow_law.specs.declared.states.SharedFlowState.{SharedFlowState}
-use Rattle.flow_law.specs.History.{IsHistory}
-use Rattle.flow_law.specs.SharedHistory.{History, shared_flow}
-use Rattle.flow_law.specs.Accepted.{accepted_by, accepted}
-use Rattle.flow_law.specs.Done.{total, said_by, done_by}
-use Rattle.flow_law.specs.Closed.{Accounts, AreAll, IsClosed}
+use Rattle.flow_law.specs.history.History.{IsHistory}
+use Rattle.flow_law.specs.flow.SharedHistory.{History, shared_flow}
+use Rattle.flow_law.specs.laws.Accepted.{accepted_by, accepted}
+use Rattle.flow_law.specs.history.Done.{total, said_by, done_by}
+use Rattle.flow_law.specs.laws.Closed.{Accounts, AreAll, IsClosed}
 use Rattle.flow_law.proofs.ClosedLemmas.{all_done, every_done, every_named}
 use Rattle.flow_law.proofs.DoneLemmas.{flat_alone}
 use Rattle.flow_law.proofs.Names.{every_weaker}

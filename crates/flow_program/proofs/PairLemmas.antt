@@ -6,14 +6,14 @@ use Rattle.flow_law.specs.declared.history.Knowledge.{Knowledge}
 use Rattle.flow_law.specs.declared.call.SharedCall.TheVariants as call
 use Rattle.flow_law.specs.declared.call.SharedReply.TheVariants as reply
 use Rattle.flow_law.specs.declared.states.SharedFlowState.{SharedFlowState}
-use Rattle.flow_law.specs.Growth.{first_knowledge, child_name, makes, child}
-use Rattle.flow_law.specs.History.{IsHistory}
-use Rattle.flow_law.specs.Promise.{said, AddsOne}
-use Rattle.flow_law.specs.SharedHistory.{shared_flow}
-use Rattle.flow_law.specs.Accepted.{accepted_by, accepted}
-use Rattle.flow_law.specs.Done.{done_by}
-use Rattle.flow_law.specs.Closed.{AreAll}
-use Rattle.flow_law.specs.Rounds.{HasClosedHistory}
+use Rattle.flow_law.specs.history.Growth.{first_knowledge, child_name, makes, child}
+use Rattle.flow_law.specs.history.History.{IsHistory}
+use Rattle.flow_law.specs.history.Promise.{said, AddsOne}
+use Rattle.flow_law.specs.flow.SharedHistory.{shared_flow}
+use Rattle.flow_law.specs.laws.Accepted.{accepted_by, accepted}
+use Rattle.flow_law.specs.history.Done.{done_by}
+use Rattle.flow_law.specs.laws.Closed.{AreAll}
+use Rattle.flow_law.specs.history.Rounds.{HasClosedHistory}
 use Rattle.flow_law.proofs.ClosedLemmas.{first_and_made}
 use Rattle.flow_law.proofs.DoneLemmas.{made_one}
 use Rattle.flow_program.specs.Callers.{Says, taken_by, OnlyEmits, Reads, HasSubscribed}

@@ -3,7 +3,7 @@ use Rattle.std.proofs.Common.{◌≡◌, ℕ, zero, suc, ◌+◌, ◌*◌, ◌<�
 use Rattle.std.specs.List.{AllByRecursion}
 use Rattle.std.proofs.Math.ListN.{get_or-append}
 use Rattle.std.proofs.Math.Seq.{get_or-append_seam}
-use Rattle.flow_law.specs.Done.{total}
+use Rattle.flow_law.specs.history.Done.{total}
 
 module _ {W K : Type 0} (k : W → K) where
   pub every_place : (P : K → Type 0) (ws : List W) → ((i : ℕ) (d : W) → i < length ws → P (k (get_or ws i d))) → AllByRecursion P (map k ws)

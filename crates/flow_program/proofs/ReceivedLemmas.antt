@@ -14,15 +14,15 @@ use Rattle.flow_law.specs.declared.call.SharedCall.{SharedCall}
 use Rattle.flow_law.specs.declared.call.SharedCall.TheVariants as call
 use Rattle.flow_law.specs.declared.call.SharedReply.{SharedReply}
 use Rattle.flow_law.specs.declared.call.SharedReply.TheVariants as reply
-use Rattle.flow_law.specs.History.{Owner, owner_of, subscriber, owners_all, owners_after, IsHistory, IsOwned, IsGiven, MaySpeak}
-use Rattle.flow_law.specs.Growth.{event}
-use Rattle.flow_law.specs.Promise.{said}
+use Rattle.flow_law.specs.history.History.{Owner, owner_of, subscriber, owners_all, owners_after, IsHistory, IsOwned, IsGiven, MaySpeak}
+use Rattle.flow_law.specs.history.Growth.{event}
+use Rattle.flow_law.specs.history.Promise.{said}
 use Rattle.flow_law.specs.declared.states.SharedFlowState.{SharedFlowState}
-use Rattle.flow_law.specs.SharedFlow.{first_state, entry, values, position_of}
-use Rattle.flow_law.specs.SharedHistory.{History, IsLegalFrom, shared_flow, after, shared_after_all, state_after}
-use Rattle.flow_law.specs.Mailbox.{Beginning, began, began_by, began_from, own, box, received_by, received}
-use Rattle.flow_law.specs.Accepted.{accepted, is_cancel, NoneCancelled}
-use Rattle.flow_law.specs.Done.{is_same_name, said_by}
+use Rattle.flow_law.specs.flow.SharedFlow.{first_state, entry, values, position_of}
+use Rattle.flow_law.specs.flow.SharedHistory.{History, IsLegalFrom, shared_flow, after, shared_after_all, state_after}
+use Rattle.flow_law.specs.flow.Mailbox.{Beginning, began, began_by, began_from, own, box, received_by, received}
+use Rattle.flow_law.specs.laws.Accepted.{accepted, is_cancel, NoneCancelled}
+use Rattle.flow_law.specs.history.Done.{is_same_name, said_by}
 use Rattle.flow_law.proofs.AcceptedLemmas.{accepts}
 use Rattle.flow_law.proofs.DoneLemmas.{split, same_is, flat_alone}
 use Rattle.flow_law.proofs.Growing.{history_grown}

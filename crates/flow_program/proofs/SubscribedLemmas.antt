@@ -5,13 +5,13 @@ use Rattle.flow_law.specs.declared.history.Knowledge.{Knowledge}
 use Rattle.flow_law.specs.declared.call.SharedCall.TheVariants as call
 use Rattle.flow_law.specs.declared.call.SharedReply.TheVariants as reply
 use Rattle.flow_law.specs.declared.states.SharedFlowState.{SharedFlowState}
-use Rattle.flow_law.specs.Closed.{makes_many}
-use Rattle.flow_law.specs.Done.{done_by}
-use Rattle.flow_law.specs.Growth.{child_name, first_knowledge, makes, child}
-use Rattle.flow_law.specs.History.{IsHistory}
-use Rattle.flow_law.specs.Promise.{said, AddsOne, Token}
-use Rattle.flow_law.specs.SharedHistory.{shared_flow}
-use Rattle.flow_law.specs.Tokens.{NumberedToken, SubscribesIn, token, numbered_token}
+use Rattle.flow_law.specs.laws.Closed.{makes_many}
+use Rattle.flow_law.specs.history.Done.{done_by}
+use Rattle.flow_law.specs.history.Growth.{child_name, first_knowledge, makes, child}
+use Rattle.flow_law.specs.history.History.{IsHistory}
+use Rattle.flow_law.specs.history.Promise.{said, AddsOne, Token}
+use Rattle.flow_law.specs.flow.SharedHistory.{shared_flow}
+use Rattle.flow_law.specs.history.Tokens.{NumberedToken, SubscribesIn, token, numbered_token}
 use Rattle.flow_law.proofs.DoneLemmas.{every_append, made_one}
 use Rattle.flow_program.specs.Callers.{Says, Reads, HasSubscribed, taken_by}
 use Rattle.flow_program.specs.Crowds.{IsMaker, IsSubscribing, IsNewSubscription, HasRead}

@@ -8,10 +8,10 @@ use Rattle.flow_law.specs.declared.call.SharedCall.TheVariants as call
 use Rattle.flow_law.specs.declared.call.SharedReply.TheVariants as reply
 use Rattle.flow_law.specs.declared.states.SharedFlowState.{SharedFlowState}
 use Rattle.flow_law.specs.declared.config.Overflow.TheVariants.{Suspend}
-use Rattle.flow_law.specs.Growth.{first_knowledge}
-use Rattle.flow_law.specs.Rounds.{HasClosedHistory}
-use Rattle.flow_law.specs.History.{IsHistory}
-use Rattle.flow_law.specs.SharedHistory.{shared_flow}
+use Rattle.flow_law.specs.history.Growth.{first_knowledge}
+use Rattle.flow_law.specs.history.Rounds.{HasClosedHistory}
+use Rattle.flow_law.specs.history.History.{IsHistory}
+use Rattle.flow_law.specs.flow.SharedHistory.{shared_flow}
 use Rattle.flow_gate.specs.Tokens.{GateOrigin}
 use Rattle.flow_shared.specs.Calls.{GateNumbered, Subscribes}
 use Rattle.flow_shared.specs.EmitFutures.{EndsAfter, EmitsOnce}

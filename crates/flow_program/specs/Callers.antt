@@ -7,10 +7,10 @@ use Rattle.flow_law.specs.declared.call.SharedCall.{SharedCall}
 use Rattle.flow_law.specs.declared.call.SharedCall.TheVariants as call
 use Rattle.flow_law.specs.declared.call.SharedReply.{SharedReply}
 use Rattle.flow_law.specs.declared.call.SharedReply.TheVariants as reply
-use Rattle.flow_law.specs.Accepted.{accepted}
-use Rattle.flow_law.specs.Done.{Made}
-use Rattle.flow_law.specs.Mailbox.{received_by}
-use Rattle.flow_law.specs.Promise.{said}
+use Rattle.flow_law.specs.laws.Accepted.{accepted}
+use Rattle.flow_law.specs.history.Done.{Made}
+use Rattle.flow_law.specs.flow.Mailbox.{received_by}
+use Rattle.flow_law.specs.history.Promise.{said}
 
 -- one call with its reply
 abbrev pub Says : Type 0 → Type 0

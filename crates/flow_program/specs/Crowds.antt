@@ -8,12 +8,12 @@ use Rattle.flow_law.specs.declared.history.Knowledge.{Knowledge}
 use Rattle.flow_law.specs.declared.states.SharedFlowState.{SharedFlowState}
 use Rattle.flow_law.specs.declared.call.SharedCall.{SharedCall}
 use Rattle.flow_law.specs.declared.call.SharedCall.TheVariants as call
-use Rattle.flow_law.specs.Growth.{child_name, first_knowledge}
-use Rattle.flow_law.specs.Handles.{CallerOf, ReaderOf}
-use Rattle.flow_law.specs.Tokens.{NumberedToken}
-use Rattle.flow_law.specs.Promise.{Token}
-use Rattle.flow_law.specs.Closed.{nth_child}
-use Rattle.flow_law.specs.Done.{done_by}
+use Rattle.flow_law.specs.history.Growth.{child_name, first_knowledge}
+use Rattle.flow_law.specs.history.Handles.{CallerOf, ReaderOf}
+use Rattle.flow_law.specs.history.Tokens.{NumberedToken}
+use Rattle.flow_law.specs.history.Promise.{Token}
+use Rattle.flow_law.specs.laws.Closed.{nth_child}
+use Rattle.flow_law.specs.history.Done.{done_by}
 use Rattle.flow_program.specs.declared.crowd.emitters.EmitsAll.{EmitsAll}
 use Rattle.flow_program.specs.declared.crowd.size.CrowdSize.{CrowdSize}
 use Rattle.flow_program.specs.declared.crowd.subscribers.ReadsAll.{ReadsAll}

@@ -1,7 +1,7 @@
 //! A value that refuses one of its copies.
 ghost use Rattle.std.specs.Prelude.{◌≡◌};
 ghost use Rattle.std.specs.Ordering.{int_eq};
-ghost use Rattle.flow_law.specs.Values.{whole_exact};
+ghost use Rattle.flow_law.specs.flow.Values.{whole_exact};
 
 use flow_law::{FlowFault, FlowValue};
 use std::cell::Cell;

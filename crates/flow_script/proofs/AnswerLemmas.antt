@@ -12,8 +12,8 @@ use Rattle.flow_law.specs.declared.call.StateReply.{StateReply}
 use Rattle.flow_law.specs.declared.call.StateReply.TheVariants as state_reply
 use Rattle.flow_law.specs.declared.states.SharedFlowState.{SharedFlowState}
 use Rattle.flow_law.specs.declared.states.StateFlowState.{StateFlowState}
-use Rattle.flow_law.specs.SharedHistory as shared
-use Rattle.flow_law.specs.StateFlow as state
+use Rattle.flow_law.specs.flow.SharedHistory as shared
+use Rattle.flow_law.specs.flow.StateFlow as state
 use Rattle.flow_script.specs.FlowMeaning.{HasAnswers, IsAnswer, given}
 use Rattle.flow_script.specs.Answers as answer
 use Rattle.flow_script.specs.Memory.{IsToldFlowFault}

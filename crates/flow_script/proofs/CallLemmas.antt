@@ -1,8 +1,8 @@
 -- A call of a core, as the documented flow's call with its answer.
 use Rattle.std.proofs.Common.{◌≡◌, ℤ, Option, Some, sym, ap, subst, ◌∙◌}
 use Rattle.flow_law.specs.declared.fault.FlowFault.{FlowFault}
-use Rattle.flow_law.specs.History.{Kind}
-use Rattle.flow_law.specs.Standing.{Documents}
+use Rattle.flow_law.specs.history.History.{Kind}
+use Rattle.flow_law.specs.flow.Standing.{Documents}
 use Rattle.script_format.specs.declared.script.FlowStep.{FlowStep}
 use Rattle.flow_script.specs.declared.answer.Answer.{Answer as Given}
 use Rattle.flow_script.specs.Answers.{Answer, as_answer}

@@ -6,7 +6,7 @@ use Rattle.flow_core.specs.declared.state.StateCore.{StateCore}
 use Rattle.flow_cold.specs.declared.script_chain.ScriptChain.{ScriptChain}
 use Rattle.flow_law.specs.declared.states.SharedFlowState.{SharedFlowState}
 use Rattle.flow_law.specs.declared.states.StateFlowState.{StateFlowState}
-use Rattle.flow_law.specs.Standing.{StandsFor}
+use Rattle.flow_law.specs.flow.Standing.{StandsFor}
 use Rattle.flow_turns.specs.declared.core_hub.CoreHub.{CoreHub}
 use Rattle.flow_turns.specs.declared.sharing.Sharing.{Sharing}
 use Rattle.flow_turns.specs.declared.state_hub.StateHub.{StateHub}

@@ -8,11 +8,11 @@ use Rattle.flow_law.specs.declared.fault.FlowFault.TheVariants as flow_fault
 use Rattle.flow_law.specs.declared.report.Report.{Report}
 use Rattle.flow_law.specs.declared.report.ShareFault.{ShareFault}
 use Rattle.flow_law.specs.declared.report.ShareFault.TheVariants.{Backwards, Ended, Chain, Flow}
-use Rattle.flow_law.specs.ChainRun.{ChainRun}
-use Rattle.flow_law.specs.SharingCalls.{HubCall, HubAnswer, HubStep, ChainAndHub, CallDoes, with_hub}
-use Rattle.flow_law.specs.SharingFlows.{HadMemory, flow_turn}
-use Rattle.flow_law.specs.SharingTurn.{Turned, turn_steps, at_rest}
-use Rattle.flow_law.specs.Steps.{After, Takes}
+use Rattle.flow_law.specs.chain.ChainRun.{ChainRun}
+use Rattle.flow_law.specs.sharing.SharingCalls.{HubCall, HubAnswer, HubStep, ChainAndHub, CallDoes, with_hub}
+use Rattle.flow_law.specs.sharing.SharingFlows.{HadMemory, flow_turn}
+use Rattle.flow_law.specs.sharing.SharingTurn.{Turned, turn_steps, at_rest}
+use Rattle.flow_law.specs.sharing.Steps.{After, Takes}
 use Rattle.flow_cold.specs.declared.script_chain.ScriptChain.{ScriptChain}
 use Rattle.flow_turns.specs.declared.sharing.Sharing.{Sharing}
 use Rattle.flow_turns.specs.SharingViews.{sharing_state, HasObserved}

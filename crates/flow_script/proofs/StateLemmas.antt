@@ -8,8 +8,8 @@ use Rattle.flow_law.specs.declared.call.StateCall.TheVariants as call
 use Rattle.flow_law.specs.declared.call.StateReply.{StateReply}
 use Rattle.flow_law.specs.declared.call.StateReply.TheVariants as reply
 use Rattle.flow_law.specs.declared.states.StateFlowState.{StateFlowState}
-use Rattle.flow_law.specs.StateFlow.{last_got_by}
-use Rattle.flow_law.specs.StateFlow as documented
+use Rattle.flow_law.specs.flow.StateFlow.{last_got_by}
+use Rattle.flow_law.specs.flow.StateFlow as documented
 use Rattle.flow_script.specs.StateMeaning.{documented_state_reply, received_by_state, is_last}
 
 pub same : (a b : ℤ) → a ≡ b → int_eq a b ≡ true

@@ -2,7 +2,7 @@
 -- refused.
 -- Begin with `Answer`. The line of an answer is `line_of` in Lines.
 use Rattle.std.specs.Prelude.{ℕ, ℤ, Bool, List, Result, Ok, Err}
-use Rattle.flow_law.specs.ChainRun.{items, ending}
+use Rattle.flow_law.specs.chain.ChainRun.{items, ending}
 use Rattle.flow_law.specs.declared.call.SharedCall.{SharedCall}
 use Rattle.flow_law.specs.declared.call.SharedCall.TheVariants.{Poll}
 use Rattle.flow_law.specs.declared.call.SharedReply.{SharedReply}

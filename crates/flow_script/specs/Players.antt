@@ -1,6 +1,6 @@
 -- What a player stands for, and how it is made. No public clause cites this module.
 use Rattle.std.specs.Prelude.{◌≡◌, ◌⊎◌, Result, Ok, Err}
-use Rattle.flow_law.specs.Standing.{StandsFor}
+use Rattle.flow_law.specs.flow.Standing.{StandsFor}
 use Rattle.flow_cold.specs.declared.script_chain.ScriptChain.{ScriptChain}
 use Rattle.flow_cold.specs.ScriptChain.{node_whole, node_rest}
 use Rattle.flow_law.specs.declared.report.ShareFault.{ShareFault}

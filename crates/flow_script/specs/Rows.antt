@@ -2,7 +2,7 @@
 use Rattle.std.specs.Prelude.{◌≡◌, Bool, true, false, List, [], map, Option, Some, None, Vec}
 use Rattle.std.specs.List.{AllZip}
 use Rattle.std.specs.declared.alloc.Global.{Global}
-use Rattle.flow_law.specs.Steps.{After}
+use Rattle.flow_law.specs.sharing.Steps.{After}
 use Rattle.script_format.specs.Actions.{Action}
 use Rattle.script_format.specs.Heads.{NamedHead}
 use Rattle.flow_script.specs.declared.row.PlayedFlow.{PlayedFlow as Kept}

@@ -2,7 +2,7 @@
 -- Begin with `script_meaning`: the checks of Checks, then the steps over the documented flows, each with its answer.
 use Rattle.std.specs.Prelude.{ℕ, ℤ, List, [], ◌∷◌, ◌++◌, slice_get, slice_set, Option, Some, None, option_and_then, Result, Ok, Err, codes}
 use Rattle.std.specs.Option.{option_map_or}
-use Rattle.flow_law.specs.SharedFlow.{config_fault, first_state}
+use Rattle.flow_law.specs.flow.SharedFlow.{config_fault, first_state}
 use Rattle.script_chain_format.specs.declared.reading.fault.ScriptFault.{ScriptFault}
 use Rattle.script_format.specs.Heads.{Head, NamedHead, shared_chain, state_chain}
 use Rattle.script_format.specs.Heads as head
@@ -17,10 +17,10 @@ use Rattle.flow_law.specs.declared.states.EmittingFlow.{EmittingFlow}
 use Rattle.flow_law.specs.declared.states.SharedFlowState.{SharedFlowState}
 use Rattle.flow_law.specs.declared.states.StateFlowState.{StateFlowState}
 use Rattle.flow_law.specs.declared.states.StateAndInitial.{StateAndInitial}
-use Rattle.flow_law.specs.SharedHistory.{shared_flow}
-use Rattle.flow_law.specs.Steps.{After}
-use Rattle.flow_law.specs.SharingFlows.{shared_reply, state_reply}
-use Rattle.flow_law.specs.StateFlow.{first_state_flow, state_flow}
+use Rattle.flow_law.specs.flow.SharedHistory.{shared_flow}
+use Rattle.flow_law.specs.sharing.Steps.{After}
+use Rattle.flow_law.specs.sharing.SharingFlows.{shared_reply, state_reply}
+use Rattle.flow_law.specs.flow.StateFlow.{first_state_flow, state_flow}
 use Rattle.script_format.specs.declared.script.FlowStep.{FlowStep}
 use Rattle.script_format.specs.declared.script.FlowStep.TheVariants as step
 use Rattle.flow_script.specs.FlowMeaning.{Turn, as_part, flow_step_turn, without_call}

@@ -8,11 +8,11 @@ use Rattle.flow_law.specs.declared.states.EmittingFlow.{EmittingFlow}
 use Rattle.flow_law.specs.declared.states.SharedFlowState.{SharedFlowState}
 use Rattle.flow_law.specs.declared.states.StateAndInitial.{StateAndInitial}
 use Rattle.flow_law.specs.declared.states.StateFlowState.{StateFlowState}
-use Rattle.flow_law.specs.ChainRun.{ChainRun}
-use Rattle.flow_law.specs.SharingCalls.{HubCall, HubAnswer, ChainAndHub, with_hub}
-use Rattle.flow_law.specs.SharingFlows as sharing
-use Rattle.flow_law.specs.SharingTurn.{SharingState, at_rest}
-use Rattle.flow_law.specs.Steps.{After}
+use Rattle.flow_law.specs.chain.ChainRun.{ChainRun}
+use Rattle.flow_law.specs.sharing.SharingCalls.{HubCall, HubAnswer, ChainAndHub, with_hub}
+use Rattle.flow_law.specs.sharing.SharingFlows as sharing
+use Rattle.flow_law.specs.sharing.SharingTurn.{SharingState, at_rest}
+use Rattle.flow_law.specs.sharing.Steps.{After}
 use Rattle.script_format.specs.declared.script.FlowStep.{FlowStep}
 use Rattle.script_format.specs.declared.script.FlowStep.TheVariants as step
 use Rattle.flow_script.specs.FlowMeaning.{Turn, as_part}

@@ -2,10 +2,10 @@
 use Rattle.std.specs.Prelude.{◌≡◌, ℕ, ℤ, Bool, List}
 use Rattle.flow_law.specs.declared.sharing.Started.{Started}
 use Rattle.flow_law.specs.declared.sharing.SharingObservation.{SharingObservation}
-use Rattle.flow_law.specs.SharingCalls.{HubCall, HubAnswer, HubStep, ChainAndHub, CallDoes, with_hub}
-use Rattle.flow_law.specs.SharingFlows.{HadMemory, flow_turn}
-use Rattle.flow_law.specs.SharingTurn.{SharingState, Turned, turn_steps}
-use Rattle.flow_law.specs.Steps.{After, Takes}
+use Rattle.flow_law.specs.sharing.SharingCalls.{HubCall, HubAnswer, HubStep, ChainAndHub, CallDoes, with_hub}
+use Rattle.flow_law.specs.sharing.SharingFlows.{HadMemory, flow_turn}
+use Rattle.flow_law.specs.sharing.SharingTurn.{SharingState, Turned, turn_steps}
+use Rattle.flow_law.specs.sharing.Steps.{After, Takes}
 use Rattle.flow_cold.specs.declared.script_chain.ScriptChain.{ScriptChain}
 use Rattle.flow_cold.specs.ScriptChain.{node_whole, node_rest}
 use Rattle.flow_turns.specs.declared.sharing.Sharing.{Sharing}

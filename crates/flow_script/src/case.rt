@@ -1,7 +1,7 @@
 //! The case of its documented flow that a step takes, before it is played.
 ghost use Rattle.std.specs.Prelude.{◌≡◌, ℤ};
 ghost use Rattle.flow_core.specs.SharedCore.{case_of};
-ghost use Rattle.flow_law.specs.Standing.{StandsFor};
+ghost use Rattle.flow_law.specs.flow.Standing.{StandsFor};
 ghost use Rattle.flow_law.specs.declared.states.SharedFlowState.{SharedFlowState};
 ghost use Rattle.flow_script.specs.Cases as meaning;
 

@@ -1,7 +1,7 @@
 //! The calls that the steps of scripts make on flows for one thread, of any kind.
 ghost use Rattle.std.specs.Prelude.{◌≡◌, IfOk, IfErr};
-ghost use Rattle.flow_law.specs.History.{replied};
-ghost use Rattle.flow_law.specs.Standing.{Documents};
+ghost use Rattle.flow_law.specs.history.History.{replied};
+ghost use Rattle.flow_law.specs.flow.Standing.{Documents};
 ghost use Rattle.flow_script.specs.FlowMeaning.{Played, HasAnswers, own_turn};
 ghost use Rattle.flow_script.specs.Shown.{FollowsStep};
 

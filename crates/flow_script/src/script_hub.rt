@@ -1,8 +1,8 @@
 //! The flows of sharings, as scripts play on them.
 ghost use Rattle.std.specs.Prelude.{◌≡◌, ℤ, IfOk, IfErr};
-ghost use Rattle.flow_law.specs.SharingCalls.{HubCall, HubAnswer};
-ghost use Rattle.flow_law.specs.SharingFlows.{shared_reply, state_reply};
-ghost use Rattle.flow_law.specs.Steps.{After};
+ghost use Rattle.flow_law.specs.sharing.SharingCalls.{HubCall, HubAnswer};
+ghost use Rattle.flow_law.specs.sharing.SharingFlows.{shared_reply, state_reply};
+ghost use Rattle.flow_law.specs.sharing.Steps.{After};
 ghost use Rattle.script_format.specs.declared.script.FlowStep.{FlowStep};
 ghost use Rattle.flow_script.specs.Numbers.{Numbers};
 ghost use Rattle.flow_script.specs.FlowMeaning.{Turn, flow_step_turn};
@@ -45,7 +45,7 @@ pub trait ScriptHub: Hub<Item = i64> {
 impl ScriptHub for CoreHub<i64> {
     type State = EmittingFlow<i64>;
 
-    ghost use Rattle.flow_law.specs.SharedHistory.{shared_flow};
+    ghost use Rattle.flow_law.specs.flow.SharedHistory.{shared_flow};
     ghost use Rattle.flow_turns.specs.OverCores.{StandsForEmitting};
     ghost use Rattle.flow_script.specs.SharedMeaning.{plays_shared};
     ghost use Rattle.flow_script.specs.SharingMeaning.{beside_emission};
@@ -68,7 +68,7 @@ impl ScriptHub for CoreHub<i64> {
 impl ScriptHub for StateHub<i64> {
     type State = StateAndInitial<i64>;
 
-    ghost use Rattle.flow_law.specs.StateFlow.{state_flow};
+    ghost use Rattle.flow_law.specs.flow.StateFlow.{state_flow};
     ghost use Rattle.flow_turns.specs.StateHub.{state_flow_of};
     ghost use Rattle.flow_script.specs.SharingMeaning.{beside_initial};
     ghost use Rattle.flow_script.specs.StateMeaning.{plays_state};

@@ -1,7 +1,7 @@
 //! The steps of shared flows that not every kind of flow has, each with its answer.
 ghost use Rattle.std.specs.Prelude.{◌≡◌, IfOk, IfErr};
-ghost use Rattle.flow_law.specs.Standing.{StandsFor};
-ghost use Rattle.flow_law.specs.SharedHistory.{shared_flow};
+ghost use Rattle.flow_law.specs.flow.Standing.{StandsFor};
+ghost use Rattle.flow_law.specs.flow.SharedHistory.{shared_flow};
 ghost use Rattle.flow_script.specs.FlowMeaning.{own_turn};
 ghost use Rattle.flow_script.specs.SharedMeaning.{plays_shared, subscribes_with};
 ghost use Rattle.flow_script.specs.Shown.{FollowsStep};

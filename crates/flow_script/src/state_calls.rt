@@ -1,6 +1,6 @@
 //! The steps of state flows that not every kind of flow has, each with its answer.
 ghost use Rattle.std.specs.Prelude.{◌≡◌, IfOk, IfErr};
-ghost use Rattle.flow_law.specs.StateFlow.{state_flow};
+ghost use Rattle.flow_law.specs.flow.StateFlow.{state_flow};
 ghost use Rattle.flow_script.specs.FlowMeaning.{own_turn};
 ghost use Rattle.flow_script.specs.StateMeaning.{IsState, plays_state};
 ghost use Rattle.flow_script.specs.Shown.{FollowsStep};

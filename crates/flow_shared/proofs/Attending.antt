@@ -6,9 +6,9 @@ use Rattle.std.proofs.lemmas.Bool.{not-true}
 use Rattle.std.proofs.lemmas.List.Elements.{All-nil, All-cons, All-append, All-take, All-drop, All-weaker, All-filter, filter_passes}
 use Rattle.flow_law.specs.declared.touch.Touch.{Touch}
 use Rattle.flow_law.specs.declared.touch.Touch.TheVariants as touch
-use Rattle.flow_law.specs.History.{Kind}
-use Rattle.flow_law.specs.Sleeping.{FindsNothing, Sleeping}
-use Rattle.flow_law.specs.Standing.{Documents}
+use Rattle.flow_law.specs.history.History.{Kind}
+use Rattle.flow_law.specs.history.Sleeping.{FindsNothing, Sleeping}
+use Rattle.flow_law.specs.flow.Standing.{Documents}
 use Rattle.flow_sleepers.specs.Sleepers.{AddsSleeper}
 use Rattle.flow_shared.specs.declared.attended.Attended.{Attended}
 use Rattle.flow_shared.specs.Attended.{Attends, AttendedAs, attended_stands, IsAlone, Rests, Lasts, Watches, HasSubscribers, without_reader, without_emitter}

@@ -6,10 +6,10 @@ use Rattle.flow_law.specs.declared.fault.FlowFault.TheVariants as why
 use Rattle.flow_law.specs.declared.history.Said.{Said}
 use Rattle.flow_law.specs.declared.outcome.Drained.{Drained}
 use Rattle.flow_law.specs.declared.errors.OutOfMemory.{OutOfMemory}
-use Rattle.flow_law.specs.Draining.{DrainsBy, EndsBy}
-use Rattle.flow_law.specs.HandleFaults.{answer_by, memory_fault}
-use Rattle.flow_law.specs.History.{Kind}
-use Rattle.flow_law.specs.Lawful.{Lawful}
+use Rattle.flow_law.specs.flow.Draining.{DrainsBy, EndsBy}
+use Rattle.flow_law.specs.history.HandleFaults.{answer_by, memory_fault}
+use Rattle.flow_law.specs.history.History.{Kind}
+use Rattle.flow_law.specs.history.Lawful.{Lawful}
 use Rattle.flow_law.proofs.TokenLemmas.{next_fault}
 use Rattle.flow_gate.specs.Tokens.{GateOrigin}
 use Rattle.flow_shared.specs.Calls.{GateNumbered, NextsOf}

@@ -10,14 +10,14 @@ use Rattle.flow_law.specs.declared.outcome.Next.{Next}
 use Rattle.flow_law.specs.declared.outcome.Next.TheVariants as next
 use Rattle.flow_law.specs.declared.outcome.Drained.{Drained}
 use Rattle.flow_law.specs.declared.outcome.Drained.TheVariants as drained
-use Rattle.flow_law.specs.Draining.{NextsGive, DrainsBy, TakesBy, EndsBy, EndsByCall}
-use Rattle.flow_law.specs.Growth.{Fits, NamesOnlyMade, adds, event, after_events, knowledge}
-use Rattle.flow_law.specs.History.{Kind, MayCall, IsSubscription, subscriber, replied}
-use Rattle.flow_law.specs.Lawful.{Lawful}
-use Rattle.flow_law.specs.Promise.{said, CallsIn}
-use Rattle.flow_law.specs.RealTime.{IsTimed}
-use Rattle.flow_law.specs.Standing.{Documents, StandsForHistory}
-use Rattle.flow_law.specs.Tokens.{knowing, numbered_token, origin}
+use Rattle.flow_law.specs.flow.Draining.{NextsGive, DrainsBy, TakesBy, EndsBy, EndsByCall}
+use Rattle.flow_law.specs.history.Growth.{Fits, NamesOnlyMade, adds, event, after_events, knowledge}
+use Rattle.flow_law.specs.history.History.{Kind, MayCall, IsSubscription, subscriber, replied}
+use Rattle.flow_law.specs.history.Lawful.{Lawful}
+use Rattle.flow_law.specs.history.Promise.{said, CallsIn}
+use Rattle.flow_law.specs.history.RealTime.{IsTimed}
+use Rattle.flow_law.specs.flow.Standing.{Documents, StandsForHistory}
+use Rattle.flow_law.specs.history.Tokens.{knowing, numbered_token, origin}
 use Rattle.flow_law.proofs.DrainingLemmas.{HasTaken}
 use Rattle.flow_law.proofs.Names.{fits_own, grew_refl}
 use Rattle.flow_law.proofs.RealTimeLemmas.{grown_longer, before_own, began_now, IsTimed-snoc, after_events-append}

@@ -8,8 +8,8 @@ use Rattle.flow_law.specs.declared.outcome.Emit.TheVariants.{Done, Queued}
 use Rattle.flow_law.specs.declared.call.SharedCall.TheVariants as call
 use Rattle.flow_law.specs.declared.call.SharedReply.TheVariants as reply
 use Rattle.flow_law.specs.declared.states.SharedFlowState.{SharedFlowState}
-use Rattle.flow_law.specs.History.{IsGiven, emission}
-use Rattle.flow_law.specs.SharedHistory.{shared_flow}
+use Rattle.flow_law.specs.history.History.{IsGiven, emission}
+use Rattle.flow_law.specs.flow.SharedHistory.{shared_flow}
 use Rattle.flow_law.proofs.SharedLawful.{shared_lawful}
 use Rattle.flow_law.proofs.TokenLemmas.{given_by, busy_is_no_event}
 use Rattle.flow_core.specs.SharedCore.{emit_reply}

@@ -8,12 +8,12 @@ use Rattle.flow_law.specs.declared.call.SharedCall.TheVariants as call
 use Rattle.flow_law.specs.declared.call.SharedReply.{SharedReply}
 use Rattle.flow_law.specs.declared.call.SharedReply.TheVariants as reply
 use Rattle.flow_law.specs.declared.states.SharedFlowState.{SharedFlowState}
-use Rattle.flow_law.specs.Done.{is_same_name}
-use Rattle.flow_law.specs.Growth.{event, IsSilent}
-use Rattle.flow_law.specs.Promise.{said}
-use Rattle.flow_law.specs.SharedHistory.{History}
-use Rattle.flow_law.specs.Tokens.{IsBusy}
-use Rattle.flow_law.specs.Values.{numbers_exact}
+use Rattle.flow_law.specs.history.Done.{is_same_name}
+use Rattle.flow_law.specs.history.Growth.{event, IsSilent}
+use Rattle.flow_law.specs.history.Promise.{said}
+use Rattle.flow_law.specs.flow.SharedHistory.{History}
+use Rattle.flow_law.specs.history.Tokens.{IsBusy}
+use Rattle.flow_law.specs.flow.Values.{numbers_exact}
 use Rattle.flow_gate.specs.Tokens.{GateOrigin}
 use Rattle.flow_shared.specs.declared.emit_future.EmitStage.{EmitStage}
 use Rattle.flow_shared.specs.declared.emit_future.EmitStage.TheVariants.{Fresh, Waiting, Ended}

@@ -2,13 +2,13 @@
 use Rattle.std.proofs.Common.{◌≡◌, ℕ, ◌≤◌, List, [], ◌∷◌, ◌++◌, length, le_refl, refl, sym, ap, ◌∙◌, subst, arith, Option, Some, None, IfSome}
 use Rattle.flow_law.specs.declared.history.HistoryEvent.{HistoryEvent}
 use Rattle.flow_law.specs.declared.history.Said.{Said}
-use Rattle.flow_law.specs.Growth.{event, knowledge, adds, GrowsByOthers}
-use Rattle.flow_law.specs.History.{Kind, IsHistory, MayCall}
-use Rattle.flow_law.specs.Lawful.{Lawful}
-use Rattle.flow_law.specs.Promise.{said, AddsOne, CallsIn}
-use Rattle.flow_law.specs.RealTime.{IsTimed}
-use Rattle.flow_law.specs.Standing.{Documents, StandsForHistory}
-use Rattle.flow_law.specs.Tokens.{knowing, origin, subscription_name}
+use Rattle.flow_law.specs.history.Growth.{event, knowledge, adds, GrowsByOthers}
+use Rattle.flow_law.specs.history.History.{Kind, IsHistory, MayCall}
+use Rattle.flow_law.specs.history.Lawful.{Lawful}
+use Rattle.flow_law.specs.history.Promise.{said, AddsOne, CallsIn}
+use Rattle.flow_law.specs.history.RealTime.{IsTimed}
+use Rattle.flow_law.specs.flow.Standing.{Documents, StandsForHistory}
+use Rattle.flow_law.specs.history.Tokens.{knowing, origin, subscription_name}
 use Rattle.flow_law.proofs.Names.{fits_own}
 use Rattle.flow_law.proofs.Owners.{history_left}
 use Rattle.flow_law.proofs.RealTimeLemmas.{grown_longer, before_own, began_now, IsTimed-snoc, IsTimed-seen}

@@ -12,11 +12,11 @@ use Rattle.flow_law.specs.declared.call.SharedCall.TheVariants as call
 use Rattle.flow_law.specs.declared.call.SharedReply.{SharedReply}
 use Rattle.flow_law.specs.declared.call.SharedReply.TheVariants as reply
 use Rattle.flow_law.specs.declared.states.SharedFlowState.{SharedFlowState}
-use Rattle.flow_law.specs.Tokens.{IsBusy}
+use Rattle.flow_law.specs.history.Tokens.{IsBusy}
 use Rattle.flow_gate.specs.Tokens.{GateOrigin}
 use Rattle.flow_shared.specs.Futures.{SharedNumbered, OneEach, PollsOnce}
 use Rattle.flow_shared.specs.NextFutures.{Receiving, Received, ReceivedRefusedIfDue, NextPolls, FindsAfter, FindsInTheEnd, FutureReceives, GivesReceived, SaysReceived, held_by_next, token_after_next, given_by}
-use Rattle.flow_law.specs.SharedHistory.{shared_flow}
+use Rattle.flow_law.specs.flow.SharedHistory.{shared_flow}
 use Rattle.flow_shared.specs.Calls.{NextsNow}
 use Rattle.flow_shared.specs.CoreCalls.{IsWait}
 use Rattle.flow_shared.specs.SharedReplies.{SharedToken, SharedCallsAtOnce}

@@ -7,9 +7,9 @@ use Rattle.flow_law.specs.declared.fault.FlowFault.TheVariants.{OutOfMemory, Too
 use Rattle.flow_law.specs.declared.history.Said.{Said}
 use Rattle.flow_law.specs.declared.outcome.Next.{Next}
 use Rattle.flow_law.specs.declared.outcome.Next.TheVariants.{Value, Empty, Gone}
-use Rattle.flow_law.specs.History.{Kind, IsSubscription, replied}
-use Rattle.flow_law.specs.Lawful.{Lawful}
-use Rattle.flow_law.specs.Tokens.{numbered_token, IsBusy}
+use Rattle.flow_law.specs.history.History.{Kind, IsSubscription, replied}
+use Rattle.flow_law.specs.history.Lawful.{Lawful}
+use Rattle.flow_law.specs.history.Tokens.{numbered_token, IsBusy}
 use Rattle.flow_law.proofs.TokenLemmas.{subscription_after_next, busy_is_no_event, never_gone, next_fault}
 use Rattle.flow_gate.specs.Tokens.{GateToken, GateOrigin}
 use Rattle.flow_shared.specs.Calls.{GateNumbered, Calls, CallsBy, Nexts, NextsBy, NextsNow}

@@ -9,12 +9,12 @@ use Rattle.flow_law.specs.declared.fault.FlowFault.TheVariants.{OutOfMemory, Too
 use Rattle.flow_law.specs.declared.history.Said.{Said}
 use Rattle.flow_law.specs.declared.outcome.Next.{Next}
 use Rattle.flow_law.specs.declared.outcome.Next.TheVariants.{Value, Empty, Gone}
-use Rattle.flow_law.specs.HandleFaults.{answer_by, memory_fault}
-use Rattle.flow_law.specs.Handles.{ReaderOf}
-use Rattle.flow_law.specs.History.{Kind, replied}
-use Rattle.flow_law.specs.Lawful.{Lawful}
-use Rattle.flow_law.specs.Tokens.{IsBusy}
-use Rattle.flow_law.specs.Promise.{CallsIn, CallsAtOnceIn}
+use Rattle.flow_law.specs.history.HandleFaults.{answer_by, memory_fault}
+use Rattle.flow_law.specs.history.Handles.{ReaderOf}
+use Rattle.flow_law.specs.history.History.{Kind, replied}
+use Rattle.flow_law.specs.history.Lawful.{Lawful}
+use Rattle.flow_law.specs.history.Tokens.{IsBusy}
+use Rattle.flow_law.specs.history.Promise.{CallsIn, CallsAtOnceIn}
 use Rattle.flow_law.proofs.TokenLemmas.{next_fault}
 use Rattle.flow_gate.specs.Tokens.{GateOrigin}
 use Rattle.flow_shared.specs.Calls.{GateNumbered, NextsOf, NextsNow}

@@ -10,11 +10,11 @@ use Rattle.flow_law.specs.declared.call.StateCall.TheVariants as state_call
 use Rattle.flow_law.specs.declared.states.SharedFlowState.{SharedFlowState}
 use Rattle.flow_law.specs.declared.states.StateFlowState.{StateFlowState}
 use Rattle.flow_law.specs.declared.history.Said.{Said}
-use Rattle.flow_law.specs.History.{Kind}
-use Rattle.flow_law.specs.Lawful.{Lawful}
-use Rattle.flow_law.specs.Promise.{CallsAtOnceIn}
-use Rattle.flow_law.specs.SharedHistory.{shared_flow}
-use Rattle.flow_law.specs.StateFlow.{state_flow}
+use Rattle.flow_law.specs.history.History.{Kind}
+use Rattle.flow_law.specs.history.Lawful.{Lawful}
+use Rattle.flow_law.specs.history.Promise.{CallsAtOnceIn}
+use Rattle.flow_law.specs.flow.SharedHistory.{shared_flow}
+use Rattle.flow_law.specs.flow.StateFlow.{state_flow}
 use Rattle.flow_law.proofs.RefusalLemmas.{emit_refused, try_emit_refused, cache_refused, next_refused, subscribe_refused, value_refused, state_cache_refused}
 use Rattle.flow_law.proofs.SharedLawful.{shared_lawful}
 use Rattle.flow_law.proofs.StateLawful.{state_lawful}

@@ -7,10 +7,10 @@ use Rattle.flow_law.specs.declared.call.StateCall.TheVariants.{GetValue, Compare
 use Rattle.flow_law.specs.declared.call.StateReply.{StateReply}
 use Rattle.flow_law.specs.declared.call.StateReply.TheVariants.{Got, Answered}
 use Rattle.flow_law.specs.declared.states.StateFlowState.{StateFlowState}
-use Rattle.flow_law.specs.Handles.{CallerOf}
-use Rattle.flow_law.specs.StateFlow.{state_flow}
-use Rattle.flow_law.specs.Promise.{CallsIn}
-use Rattle.flow_law.specs.Updates.{IsRound, LosesRounds, one_lost, Updates, ReadsInVain, StopsAt, Refuses, RefusesOrKeepsNone}
+use Rattle.flow_law.specs.history.Handles.{CallerOf}
+use Rattle.flow_law.specs.flow.StateFlow.{state_flow}
+use Rattle.flow_law.specs.history.Promise.{CallsIn}
+use Rattle.flow_law.specs.history.Updates.{IsRound, LosesRounds, one_lost, Updates, ReadsInVain, StopsAt, Refuses, RefusesOrKeepsNone}
 use Rattle.flow_gate.specs.Tokens.{GateOrigin}
 use Rattle.flow_shared.specs.StateReplies.{StateToken}
 

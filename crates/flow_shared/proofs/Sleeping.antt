@@ -9,9 +9,9 @@ use Rattle.flow_law.specs.declared.outcome.Next.TheVariants.{Value, Empty, Gone}
 use Rattle.flow_law.specs.declared.call.SharedCall.TheVariants as call
 use Rattle.flow_law.specs.declared.call.SharedReply.TheVariants as reply
 use Rattle.flow_law.specs.declared.states.SharedFlowState.{SharedFlowState}
-use Rattle.flow_law.specs.History.{Kind, replied}
-use Rattle.flow_law.specs.SharedHistory.{Replies, after}
-use Rattle.flow_law.specs.Sleeping.{Sleeping}
+use Rattle.flow_law.specs.history.History.{Kind, replied}
+use Rattle.flow_law.specs.flow.SharedHistory.{Replies, after}
+use Rattle.flow_law.specs.history.Sleeping.{Sleeping}
 use Rattle.flow_law.proofs.QueuedWaits.{queued_waits, polled_waits}
 use Rattle.flow_law.proofs.SharedWaiting.{Lasting}
 use Rattle.flow_law.proofs.SharedSleeping.{shared_sleeping}

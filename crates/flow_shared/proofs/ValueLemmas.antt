@@ -7,10 +7,10 @@ use Rattle.flow_law.specs.declared.call.StateCall.{StateCall}
 use Rattle.flow_law.specs.declared.call.StateCall.TheVariants.{GetValue}
 use Rattle.flow_law.specs.declared.call.StateReply.{StateReply}
 use Rattle.flow_law.specs.declared.states.StateFlowState.{StateFlowState}
-use Rattle.flow_law.specs.Growth.{event}
-use Rattle.flow_law.specs.History.{subscriber, after_all, IsGiven, IsSubscribed, IsSubscription}
-use Rattle.flow_law.specs.Promise.{said, AddsOne}
-use Rattle.flow_law.specs.StateFlow.{StateHistory, state_flow, IsStateHistory}
+use Rattle.flow_law.specs.history.Growth.{event}
+use Rattle.flow_law.specs.history.History.{subscriber, after_all, IsGiven, IsSubscribed, IsSubscription}
+use Rattle.flow_law.specs.history.Promise.{said, AddsOne}
+use Rattle.flow_law.specs.flow.StateFlow.{StateHistory, state_flow, IsStateHistory}
 use Rattle.flow_law.proofs.HistoryLemmas.{after_all-snoc}
 use Rattle.flow_law.proofs.Owners.{history_left, legal_left, given_stays}
 use Rattle.flow_law.proofs.StateLawful.{state_lawful}

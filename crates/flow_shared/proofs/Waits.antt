@@ -8,9 +8,9 @@ use Rattle.flow_law.specs.declared.call.SharedCall.TheVariants as call
 use Rattle.flow_law.specs.declared.call.SharedReply.TheVariants as reply
 use Rattle.flow_law.specs.declared.outcome.Emit.TheVariants.{Queued}
 use Rattle.flow_law.specs.declared.states.SharedFlowState.{SharedFlowState}
-use Rattle.flow_law.specs.History.{Kind}
-use Rattle.flow_law.specs.Handles.{next_of}
-use Rattle.flow_law.specs.Tokens.{IsBusy}
+use Rattle.flow_law.specs.history.History.{Kind}
+use Rattle.flow_law.specs.history.Handles.{next_of}
+use Rattle.flow_law.specs.history.Tokens.{IsBusy}
 use Rattle.flow_gate.specs.Tokens.{GateToken, GateOrigin}
 use Rattle.flow_shared.specs.Calls as flows
 use Rattle.flow_shared.specs.Calls.{GateNumbered, NextsOf}

@@ -4,9 +4,9 @@ use Rattle.flow_law.specs.declared.touch.Touch.{Touch}
 use Rattle.flow_law.specs.declared.touch.Touch.TheVariants as touch
 use Rattle.flow_law.specs.declared.history.HistoryEvent.{HistoryEvent}
 use Rattle.flow_law.specs.declared.history.Said.{Said}
-use Rattle.flow_law.specs.History.{Kind}
-use Rattle.flow_law.specs.Sleeping.{FindsNothing, Sleeping}
-use Rattle.flow_law.specs.Standing.{StandsForHistory}
+use Rattle.flow_law.specs.history.History.{Kind}
+use Rattle.flow_law.specs.history.Sleeping.{FindsNothing, Sleeping}
+use Rattle.flow_law.specs.flow.Standing.{StandsForHistory}
 use Rattle.flow_shared.specs.declared.attended.Attended.{Attended}
 use Rattle.flow_shared.specs.declared.core_call.Then.{Then}
 use Rattle.flow_shared.specs.declared.core_call.Then.TheVariants.{AwaitValue, AwaitEnd, Watch}

@@ -8,7 +8,7 @@ use Rattle.flow_law.specs.declared.outcome.Drained.TheVariants as drained
 use Rattle.flow_law.specs.declared.call.SharedCall.{SharedCall}
 use Rattle.flow_law.specs.declared.call.SharedReply.{SharedReply}
 use Rattle.flow_law.specs.declared.states.SharedFlowState.{SharedFlowState}
-use Rattle.flow_law.specs.Handles.{CallerOf, ReaderOf}
+use Rattle.flow_law.specs.history.Handles.{CallerOf, ReaderOf}
 use Rattle.flow_gate.specs.Tokens.{GateOrigin, GateToken}
 use Rattle.flow_shared.specs.Calls.{GateNumbered}
 use Rattle.flow_shared.specs.SharedReplies.{SharedToken}

@@ -8,12 +8,12 @@ use Rattle.flow_law.specs.declared.history.Said.{Said}
 use Rattle.flow_law.specs.declared.fault.FlowFault.TheVariants.{Busy}
 use Rattle.flow_law.specs.declared.outcome.Next.{Next}
 use Rattle.flow_law.specs.declared.outcome.Next.TheVariants.{Gone}
-use Rattle.flow_law.specs.Growth.{Fits, adds, event}
-use Rattle.flow_law.specs.History.{Kind, IsHistory}
-use Rattle.flow_law.specs.Promise.{said, CallsIn, CallsAtOnceIn}
-use Rattle.flow_law.specs.Standing.{StandsForHistory}
-use Rattle.flow_law.specs.Tokens.{NextsIn, UnsubscribesIn, CountsIn, MeetsIn, SubscribesIn, NextsNowIn, CountsNowIn, IsBusy}
-use Rattle.flow_law.specs.Tokens as flows
+use Rattle.flow_law.specs.history.Growth.{Fits, adds, event}
+use Rattle.flow_law.specs.history.History.{Kind, IsHistory}
+use Rattle.flow_law.specs.history.Promise.{said, CallsIn, CallsAtOnceIn}
+use Rattle.flow_law.specs.flow.Standing.{StandsForHistory}
+use Rattle.flow_law.specs.history.Tokens.{NextsIn, UnsubscribesIn, CountsIn, MeetsIn, SubscribesIn, NextsNowIn, CountsNowIn, IsBusy}
+use Rattle.flow_law.specs.history.Tokens as flows
 use Rattle.flow_gate.specs.Tokens.{GateToken, GateOrigin, SeatState, idle_seat}
 
 -- a subscription to a flow, or an emission

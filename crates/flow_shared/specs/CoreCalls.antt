@@ -8,8 +8,8 @@ use Rattle.flow_law.specs.declared.outcome.Emit.TheVariants.{Queued}
 use Rattle.flow_law.specs.declared.outcome.Next.{Next}
 use Rattle.flow_law.specs.declared.outcome.Next.TheVariants.{Empty}
 use Rattle.flow_law.specs.declared.touch.Touch.{Touch}
-use Rattle.flow_law.specs.History.{Kind}
-use Rattle.flow_law.specs.Sleeping.{FindsNothing, Sleeping}
+use Rattle.flow_law.specs.history.History.{Kind}
+use Rattle.flow_law.specs.history.Sleeping.{FindsNothing, Sleeping}
 use Rattle.flow_shared.specs.declared.core_call.Made.{Made}
 use Rattle.flow_shared.specs.declared.core_call.Then.{Then}
 use Rattle.flow_shared.specs.declared.core_call.Then.TheVariants.{Leave, AwaitValue, AwaitEnd, Watch}

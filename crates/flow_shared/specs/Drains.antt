@@ -6,12 +6,12 @@ use Rattle.flow_law.specs.declared.outcome.Next.{Next}
 use Rattle.flow_law.specs.declared.outcome.Next.TheVariants as next
 use Rattle.flow_law.specs.declared.outcome.Drained.{Drained}
 use Rattle.flow_law.specs.declared.outcome.Drained.TheVariants as drained
-use Rattle.flow_law.specs.Draining.{TakesBy}
-use Rattle.flow_law.specs.Growth.{adds}
-use Rattle.flow_law.specs.History.{Kind, replied}
-use Rattle.flow_law.specs.Promise.{said}
-use Rattle.flow_law.specs.Standing.{Documents}
-use Rattle.flow_law.specs.Tokens.{knowing}
+use Rattle.flow_law.specs.flow.Draining.{TakesBy}
+use Rattle.flow_law.specs.history.Growth.{adds}
+use Rattle.flow_law.specs.history.History.{Kind, replied}
+use Rattle.flow_law.specs.history.Promise.{said}
+use Rattle.flow_law.specs.flow.Standing.{Documents}
+use Rattle.flow_law.specs.history.Tokens.{knowing}
 use Rattle.flow_gate.specs.Tokens.{SeatState, idle_seat}
 
 module _ {T S C R : Type 0} (kind : Kind T S C R) (number : ℕ) where

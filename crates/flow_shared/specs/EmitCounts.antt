@@ -5,7 +5,7 @@ use Rattle.flow_law.specs.declared.history.Said.{Said}
 use Rattle.flow_law.specs.declared.call.SharedCall.{SharedCall}
 use Rattle.flow_law.specs.declared.call.SharedCall.TheVariants.{Emit}
 use Rattle.flow_law.specs.declared.call.SharedReply.{SharedReply}
-use Rattle.flow_law.specs.Done.{is_same_name}
+use Rattle.flow_law.specs.history.Done.{is_same_name}
 use Rattle.flow_shared.specs.SharedReplies.{SharedToken}
 
 module _ {T : Type 0} where

@@ -10,7 +10,7 @@ use Rattle.flow_law.specs.declared.call.SharedCall.TheVariants as call
 use Rattle.flow_law.specs.declared.call.SharedReply.{SharedReply}
 use Rattle.flow_law.specs.declared.call.SharedReply.TheVariants as reply
 use Rattle.flow_law.specs.declared.states.SharedFlowState.{SharedFlowState}
-use Rattle.flow_law.specs.Tokens.{IsBusy}
+use Rattle.flow_law.specs.history.Tokens.{IsBusy}
 use Rattle.flow_gate.specs.Tokens.{GateOrigin}
 use Rattle.flow_shared.specs.declared.emit_future.EmitStage.{EmitStage}
 use Rattle.flow_shared.specs.declared.emit_future.EmitStage.TheVariants.{Fresh, Waiting, Ended}

@@ -10,7 +10,7 @@ use Rattle.flow_law.specs.declared.call.SharedCall.{SharedCall}
 use Rattle.flow_law.specs.declared.call.SharedReply.{SharedReply}
 use Rattle.flow_law.specs.declared.call.SharedReply.TheVariants as reply
 use Rattle.flow_law.specs.declared.states.SharedFlowState.{SharedFlowState}
-use Rattle.flow_law.specs.Tokens.{IsBusy}
+use Rattle.flow_law.specs.history.Tokens.{IsBusy}
 use Rattle.flow_gate.specs.Tokens.{GateOrigin}
 use Rattle.flow_shared.specs.Calls.{GateNumbered}
 use Rattle.flow_shared.specs.SharedReplies.{SharedToken, SharedCallsAtOnce}

@@ -4,9 +4,9 @@ use Rattle.atomic_table.specs.Seated.{TableId}
 use Rattle.flow_law.specs.declared.errors.OutOfMemory.{OutOfMemory as MemoryError}
 use Rattle.flow_law.specs.declared.history.Said.{Said}
 use Rattle.flow_law.specs.declared.outcome.Next.TheVariants.{Empty}
-use Rattle.flow_law.specs.HandleFaults.{answer_by, memory_fault}
-use Rattle.flow_law.specs.Handles.{ReaderOf}
-use Rattle.flow_law.specs.History.{Kind}
+use Rattle.flow_law.specs.history.HandleFaults.{answer_by, memory_fault}
+use Rattle.flow_law.specs.history.Handles.{ReaderOf}
+use Rattle.flow_law.specs.history.History.{Kind}
 use Rattle.flow_shared.specs.Receiving.{FlowReceives, NextsUntil}
 
 module _ {T S C R : Type 0} (kind : Kind T S C R) where

@@ -12,7 +12,7 @@ use Rattle.flow_law.specs.declared.call.SharedCall.TheVariants as call
 use Rattle.flow_law.specs.declared.call.SharedReply.{SharedReply}
 use Rattle.flow_law.specs.declared.call.SharedReply.TheVariants as reply
 use Rattle.flow_law.specs.declared.states.SharedFlowState.{SharedFlowState}
-use Rattle.flow_law.specs.Tokens.{IsBusy}
+use Rattle.flow_law.specs.history.Tokens.{IsBusy}
 use Rattle.flow_gate.specs.Tokens.{GateOrigin}
 use Rattle.flow_shared.specs.Futures.{SharedNumbered}
 use Rattle.flow_shared.specs.SharedReplies.{SharedToken, SharedCalls, SharedCallsAtOnce}

@@ -10,10 +10,10 @@ use Rattle.flow_law.specs.declared.fault.FlowFault.TheVariants.{Busy}
 use Rattle.flow_law.specs.declared.history.Said.{Said}
 use Rattle.flow_law.specs.declared.outcome.Next.{Next}
 use Rattle.flow_law.specs.declared.outcome.Next.TheVariants.{Value, Empty}
-use Rattle.flow_law.specs.HandleFaults.{answer_by, memory_fault}
-use Rattle.flow_law.specs.Handles.{ReaderOf}
-use Rattle.flow_law.specs.History.{Kind}
-use Rattle.flow_law.specs.Tokens.{IsBusy}
+use Rattle.flow_law.specs.history.HandleFaults.{answer_by, memory_fault}
+use Rattle.flow_law.specs.history.Handles.{ReaderOf}
+use Rattle.flow_law.specs.history.History.{Kind}
+use Rattle.flow_law.specs.history.Tokens.{IsBusy}
 use Rattle.flow_gate.specs.Tokens.{GateOrigin}
 use Rattle.flow_shared.specs.Calls.{GateNumbered, NextsOf}
 use Rattle.flow_shared.specs.Receiving.{FlowReceives, as_next}

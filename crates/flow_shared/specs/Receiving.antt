@@ -5,7 +5,7 @@ use Rattle.flow_law.specs.declared.fault.FlowFault.{FlowFault}
 use Rattle.flow_law.specs.declared.history.Said.{Said}
 use Rattle.flow_law.specs.declared.outcome.Next.{Next}
 use Rattle.flow_law.specs.declared.outcome.Next.TheVariants.{Value, Empty}
-use Rattle.flow_law.specs.History.{Kind}
+use Rattle.flow_law.specs.history.History.{Kind}
 use Rattle.flow_gate.specs.Tokens.{GateOrigin}
 use Rattle.flow_shared.specs.Calls.{GateNumbered, NextsOf}
 

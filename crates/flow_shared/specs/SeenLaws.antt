@@ -8,16 +8,16 @@ use Rattle.flow_law.specs.declared.history.HistoryEvent.{HistoryEvent}
 use Rattle.flow_law.specs.declared.history.Said.{Said}
 use Rattle.flow_law.specs.declared.states.SharedFlowState.{SharedFlowState}
 use Rattle.flow_law.specs.declared.states.StateFlowState.{StateFlowState}
-use Rattle.flow_law.specs.Conflation.{Conflates}
-use Rattle.flow_law.specs.Current.{Converges}
-use Rattle.flow_law.specs.History.{IsHistory}
-use Rattle.flow_law.specs.Lagging.{EachLags}
-use Rattle.flow_law.specs.Laws.{Delivers, NoIdleQueue}
-use Rattle.flow_law.specs.RealTime.{InRealTime}
-use Rattle.flow_law.specs.Replaying.{EachReplays}
-use Rattle.flow_law.specs.SharedHistory.{shared_flow, state_after}
-use Rattle.flow_law.specs.StateFlow.{IsStateHistory}
-use Rattle.flow_law.specs.Waiting.{EachWaits}
+use Rattle.flow_law.specs.laws.Conflation.{Conflates}
+use Rattle.flow_law.specs.laws.Current.{Converges}
+use Rattle.flow_law.specs.history.History.{IsHistory}
+use Rattle.flow_law.specs.laws.Lagging.{EachLags}
+use Rattle.flow_law.specs.laws.Laws.{Delivers, NoIdleQueue}
+use Rattle.flow_law.specs.history.RealTime.{InRealTime}
+use Rattle.flow_law.specs.laws.Replaying.{EachReplays}
+use Rattle.flow_law.specs.flow.SharedHistory.{shared_flow, state_after}
+use Rattle.flow_law.specs.flow.StateFlow.{IsStateHistory}
+use Rattle.flow_law.specs.laws.Waiting.{EachWaits}
 
 module _ {T : Type 0} where
   -- it is a history of the shared flow that began with this state, and the laws of shared flows hold of it

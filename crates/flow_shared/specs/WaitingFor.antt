@@ -9,7 +9,7 @@ use Rattle.flow_law.specs.declared.history.Said.{Said}
 use Rattle.flow_law.specs.declared.outcome.Next.{Next}
 use Rattle.flow_law.specs.declared.outcome.Next.TheVariants.{Value, Empty}
 use Rattle.flow_law.specs.declared.states.StateFlowState.{StateFlowState}
-use Rattle.flow_law.specs.StateFlow.{state_flow}
+use Rattle.flow_law.specs.flow.StateFlow.{state_flow}
 use Rattle.flow_core.specs.StateCore.{value_reply}
 use Rattle.flow_gate.specs.Tokens.{GateOrigin}
 use Rattle.flow_shared.specs.Calls.{GateNumbered, NextsOf}

@@ -1,7 +1,7 @@
 //! The state that a flow's gate guards: the core, and the callers that sleep until the core has something for them.
 ghost use Rattle.std.specs.Prelude.{◌≡◌, ℕ, List, false};
 ghost use Rattle.std.specs.Bool.{OnTrue};
-ghost use Rattle.flow_law.specs.Standing.{Documents};
+ghost use Rattle.flow_law.specs.flow.Standing.{Documents};
 ghost use Rattle.flow_shared.specs.CoreCalls.{IsSleep, MaySleep};
 ghost use Rattle.flow_shared.specs.Attended.{Attends, AttendedAs, attended_stands, IsAlone, IsListed};
 

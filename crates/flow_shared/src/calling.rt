@@ -1,9 +1,9 @@
 //! The one path of a call: enter the gate, call the core, leave with the event that names the call.
 ghost use Rattle.std.specs.Prelude.{◌≡◌, ◌≤◌, ◌∷◌, [], ⊤, IfOk, IfErr, MatchResult, true, false};
-ghost use Rattle.flow_law.specs.Growth.{loses};
-ghost use Rattle.flow_law.specs.History.{MayCall};
-ghost use Rattle.flow_law.specs.Promise.{said};
-ghost use Rattle.flow_law.specs.Tokens.{subscription_name, knowing, IsBusy};
+ghost use Rattle.flow_law.specs.history.Growth.{loses};
+ghost use Rattle.flow_law.specs.history.History.{MayCall};
+ghost use Rattle.flow_law.specs.history.Promise.{said};
+ghost use Rattle.flow_law.specs.history.Tokens.{subscription_name, knowing, IsBusy};
 ghost use Rattle.flow_gate.specs.Tokens.{idle_seat, IsIdle, Finds};
 ghost use Rattle.flow_shared.specs.Attended.{AttendedAs};
 ghost use Rattle.flow_shared.specs.Calls.{Calls, HoldsFor, SaysIn};

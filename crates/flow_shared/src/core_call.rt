@@ -1,6 +1,6 @@
 //! One call of a core: its arguments, what it gave, and what that means for callers that sleep.
 ghost use Rattle.std.specs.Prelude.{◌≡◌, ℕ, List};
-ghost use Rattle.flow_law.specs.Standing.{Documents};
+ghost use Rattle.flow_law.specs.flow.Standing.{Documents};
 ghost use Rattle.flow_law.specs.declared.touch.Touch.TheVariants.{NoSleeper};
 ghost use Rattle.flow_shared.specs.declared.core_call.Then.TheVariants.{Leave};
 ghost use Rattle.flow_shared.specs.CoreCalls.{made, after_next, after_emit, after_polling, MaySleep};

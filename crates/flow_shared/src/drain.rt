@@ -2,10 +2,10 @@
 ghost use Rattle.std.specs.Prelude.{◌≡◌, ◌≢◌, ◌+◌, ◌≤◌, Ok, IsOk, IfErr};
 ghost use Rattle.std.specs.Result.{OnErr};
 ghost use Rattle.std.specs.Vec.{vec_len, vec_capacity};
-ghost use Rattle.flow_law.specs.Draining.{DrainsBy, TakesBy, IsFull};
-ghost use Rattle.flow_law.specs.HandleFaults.{answer_by, memory_fault};
-ghost use Rattle.flow_law.specs.History.{IsSubscription};
-ghost use Rattle.flow_law.specs.Tokens.{numbered_token};
+ghost use Rattle.flow_law.specs.flow.Draining.{DrainsBy, TakesBy, IsFull};
+ghost use Rattle.flow_law.specs.history.HandleFaults.{answer_by, memory_fault};
+ghost use Rattle.flow_law.specs.history.History.{IsSubscription};
+ghost use Rattle.flow_law.specs.history.Tokens.{numbered_token};
 ghost use Rattle.flow_law.specs.declared.outcome.Drained.TheVariants.{Gone, Most};
 ghost use Rattle.flow_core.specs.SubId.{number_of};
 ghost use Rattle.flow_shared.specs.Attended.{AttendedAs};

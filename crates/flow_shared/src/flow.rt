@@ -1,9 +1,9 @@
 //! A flow of any kind for several threads.
 ghost use Rattle.std.specs.Prelude.{◌≡◌, IfOk, IfErr, IfSome};
-ghost use Rattle.flow_law.specs.History.{IsHistory};
-ghost use Rattle.flow_law.specs.Growth.{makes, child};
-ghost use Rattle.flow_law.specs.RealTime.{IsTimed};
-ghost use Rattle.flow_law.specs.Tokens.{Begins, knowing};
+ghost use Rattle.flow_law.specs.history.History.{IsHistory};
+ghost use Rattle.flow_law.specs.history.Growth.{makes, child};
+ghost use Rattle.flow_law.specs.history.RealTime.{IsTimed};
+ghost use Rattle.flow_law.specs.history.Tokens.{Begins, knowing};
 ghost use Rattle.flow_law.specs.declared.fault.FlowFault.TheVariants.{OutOfMemory};
 ghost use Rattle.flow_shared.specs.Calls.{ClosesAs, Meets};
 
@@ -34,7 +34,7 @@ impl<S: FlowCore + Drop, A: Allocator + Copy> Drop for Flow<S, A> {
 }
 
 impl<S: FlowCore, A: Allocator + Copy> Model for Flow<S, A> {
-    ghost use Rattle.flow_law.specs.Tokens.{origin};
+    ghost use Rattle.flow_law.specs.history.Tokens.{origin};
     ghost use Rattle.flow_gate.specs.Tokens.{GateOrigin};
 
     ghost Value = { GateOrigin S.State };

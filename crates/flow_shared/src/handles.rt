@@ -12,7 +12,7 @@
 //! `BoundSeat` and `BoundSubscription` hold their flow as a `&Flow` or as an `Arc<Flow>` (`HoldsFlow`), and most calls
 //! are written once for both. `another` is written twice: one more owner may be refused.
 ghost use Rattle.std.specs.Prelude.{◌≡◌, ◌⊎◌};
-ghost use Rattle.flow_law.specs.HandleFaults.{number_fault, emit_now_fault, try_next_fault};
+ghost use Rattle.flow_law.specs.history.HandleFaults.{number_fault, emit_now_fault, try_next_fault};
 ghost use Rattle.flow_shared.specs.SharedReplies.{IsEmitFault};
 
 mod bound_emission;

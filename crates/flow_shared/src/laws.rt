@@ -1,9 +1,9 @@
 //! The laws of what a token or a handle has seen.
 ghost use Rattle.std.specs.Prelude.{◌≡◌, IsSome};
-ghost use Rattle.flow_law.specs.Current.{IsThere};
-ghost use Rattle.flow_law.specs.SharedFlow.{position_of};
-ghost use Rattle.flow_law.specs.SharedHistory.{state_after};
-ghost use Rattle.flow_law.specs.StateFlow.{state_after_all};
+ghost use Rattle.flow_law.specs.laws.Current.{IsThere};
+ghost use Rattle.flow_law.specs.flow.SharedFlow.{position_of};
+ghost use Rattle.flow_law.specs.flow.SharedHistory.{state_after};
+ghost use Rattle.flow_law.specs.flow.StateFlow.{state_after_all};
 ghost use Rattle.flow_shared.specs.SeenLaws.{SharedLaws, StateLaws};
 
 use crate::flow::Flow;

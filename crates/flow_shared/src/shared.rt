@@ -1,9 +1,9 @@
 //! A shared flow for several threads.
 ghost use Rattle.std.specs.Prelude.{◌≡◌, ◌⊎◌, None, IfErr, MatchResult};
-ghost use Rattle.flow_law.specs.History.{fault_alone};
-ghost use Rattle.flow_law.specs.Tokens.{Begins};
-ghost use Rattle.flow_law.specs.SharedFlow.{NoFlow, config_fault, first_state};
-ghost use Rattle.flow_law.specs.SharedHistory.{shared_flow};
+ghost use Rattle.flow_law.specs.history.History.{fault_alone};
+ghost use Rattle.flow_law.specs.history.Tokens.{Begins};
+ghost use Rattle.flow_law.specs.flow.SharedFlow.{NoFlow, config_fault, first_state};
+ghost use Rattle.flow_law.specs.flow.SharedHistory.{shared_flow};
 ghost use Rattle.flow_law.specs.declared.fault.FlowFault.TheVariants.{OutOfMemory, Exhausted};
 ghost use Rattle.flow_law.specs.declared.call.SharedCall.TheVariants as call;
 ghost use Rattle.flow_law.specs.declared.call.SharedReply.TheVariants as reply;

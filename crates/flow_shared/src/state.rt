@@ -1,7 +1,7 @@
 //! A state flow for several threads.
 ghost use Rattle.std.specs.Prelude.{◌≡◌, Err, IfOk, IfErr, IsOk};
-ghost use Rattle.flow_law.specs.Tokens.{Begins};
-ghost use Rattle.flow_law.specs.StateFlow.{first_state_flow};
+ghost use Rattle.flow_law.specs.history.Tokens.{Begins};
+ghost use Rattle.flow_law.specs.flow.StateFlow.{first_state_flow};
 ghost use Rattle.flow_law.specs.declared.fault.FlowFault.TheVariants.{OutOfMemory, Unsupported};
 ghost use Rattle.flow_law.specs.declared.call.StateCall.TheVariants as call;
 ghost use Rattle.flow_law.specs.declared.call.StateReply.TheVariants as reply;

@@ -1,6 +1,6 @@
 //! The calls of subscribers, for every kind of flow.
 ghost use Rattle.std.specs.Prelude.{◌≡◌, ◌≢◌, ◌⊎◌, ℕ, true, Ok, IsOk, IfErr, ⊤};
-ghost use Rattle.flow_law.specs.History.{replied};
+ghost use Rattle.flow_law.specs.history.History.{replied};
 ghost use Rattle.flow_law.specs.declared.fault.FlowFault.TheVariants.{OutOfMemory, Exhausted};
 ghost use Rattle.flow_law.specs.declared.outcome.Next.TheVariants.{Gone};
 ghost use Rattle.flow_core.specs.SubId.{number_of};

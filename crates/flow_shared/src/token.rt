@@ -2,9 +2,9 @@
 ghost use Rattle.flow_law.specs.declared.call.SharedCall.{SharedCall};
 ghost use Rattle.flow_law.specs.declared.call.SharedReply.{SharedReply};
 ghost use Rattle.flow_law.specs.declared.history.Said.{Said};
-ghost use Rattle.flow_law.specs.History.{IsEmission, IsSubscription};
-ghost use Rattle.flow_law.specs.SharedHistory.{shared_flow};
-ghost use Rattle.flow_law.specs.Tokens.{numbered_token};
+ghost use Rattle.flow_law.specs.history.History.{IsEmission, IsSubscription};
+ghost use Rattle.flow_law.specs.flow.SharedHistory.{shared_flow};
+ghost use Rattle.flow_law.specs.history.Tokens.{numbered_token};
 ghost use Rattle.flow_gate.specs.Tokens.{GateToken, IsIdle, idle_seat};
 ghost use Rattle.flow_shared.specs.Calls.{GateNumbered};
 ghost use Rattle.flow_core.specs.SubId.{number_of};

@@ -6,20 +6,20 @@ use Rattle.flow_law.specs.declared.fault.FlowFault.{FlowFault}
 use Rattle.flow_law.specs.declared.fault.FlowFault.TheVariants.{OutOfMemory, TooLarge, NeedsBuffer, Exhausted, Unsupported, Busy}
 use Rattle.flow_law.specs.declared.history.Said.{Said}
 use Rattle.flow_law.specs.declared.states.SharedFlowState.{SharedFlowState}
-use Rattle.flow_law.specs.SharedHistory.{shared_flow}
-use Rattle.flow_law.specs.StateFlow.{state_flow}
-use Rattle.flow_law.specs.History.{Kind}
-use Rattle.flow_law.specs.SharingCalls.{HubCall, HubAnswer, HubStep, counts, puts, polls, cancels, resets, ChainAndHub, CallDoes}
+use Rattle.flow_law.specs.flow.SharedHistory.{shared_flow}
+use Rattle.flow_law.specs.flow.StateFlow.{state_flow}
+use Rattle.flow_law.specs.history.History.{Kind}
+use Rattle.flow_law.specs.sharing.SharingCalls.{HubCall, HubAnswer, HubStep, counts, puts, polls, cancels, resets, ChainAndHub, CallDoes}
 use Rattle.flow_law.specs.declared.report.Report.{Report}
 use Rattle.flow_law.specs.declared.report.ShareFault.{ShareFault}
-use Rattle.flow_law.specs.SharingFlows.{IsNotBusy}
-use Rattle.flow_law.specs.SharingTurn.{SharingState, Turned, turn_steps}
-use Rattle.flow_law.specs.Steps.{Takes}
+use Rattle.flow_law.specs.sharing.SharingFlows.{IsNotBusy}
+use Rattle.flow_law.specs.sharing.SharingTurn.{SharingState, Turned, turn_steps}
+use Rattle.flow_law.specs.sharing.Steps.{Takes}
 use Rattle.flow_law.specs.declared.sharing.Started.{Started}
 use Rattle.flow_law.specs.declared.sharing.SharingObservation.{SharingObservation}
 use Rattle.std.specs.Result.{is_ok}
-use Rattle.flow_law.specs.Tokens.{IsBusy, HasSeenMore}
-use Rattle.flow_law.specs.Promise.{Token, CallsAtOnceIn}
+use Rattle.flow_law.specs.history.Tokens.{IsBusy, HasSeenMore}
+use Rattle.flow_law.specs.history.Promise.{Token, CallsAtOnceIn}
 use Rattle.flow_sharing.specs.SeatedHub.{SeatedHub, nothing_waits, OnlySends, CountDoes}
 use Rattle.flow_sharing.specs.SharedFlowHub.{SharedSeats, SenderToken, PutBy, PollBy, CancelBy, ResetBy, SharedFlowHubDoes, SharedSays}
 use Rattle.flow_sharing.specs.StateFlowHub.{StateSeats, StateFlowHubDoes, StateSays}

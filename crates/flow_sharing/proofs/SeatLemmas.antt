@@ -1,10 +1,10 @@
 -- What a hub's seats have seen after a call begins with what they had seen before. Begin with `follows-on`.
 use Rattle.std.proofs.Common.{[], ◌∷◌, ◌++◌, sym, refl, ap, ◌∙◌, append_assoc, append-nil}
 use Rattle.flow_law.specs.declared.history.Said.{Said}
-use Rattle.flow_law.specs.Growth.{event}
-use Rattle.flow_law.specs.History.{Kind}
-use Rattle.flow_law.specs.Promise.{said, Token, CallsAtOnceIn}
-use Rattle.flow_law.specs.Tokens.{IsBusy, HasSeenMore}
+use Rattle.flow_law.specs.history.Growth.{event}
+use Rattle.flow_law.specs.history.History.{Kind}
+use Rattle.flow_law.specs.history.Promise.{said, Token, CallsAtOnceIn}
+use Rattle.flow_law.specs.history.Tokens.{IsBusy, HasSeenMore}
 use Rattle.flow_sharing.specs.SeatedHub.{SeatedHub}
 use Rattle.flow_sharing.specs.OverThreads.{FollowsInTurn}
 

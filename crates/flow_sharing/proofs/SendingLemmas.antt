@@ -3,10 +3,10 @@ use Rattle.std.proofs.Common.{◌≡◌, ◌≢◌, ◌⊎◌, inl, inr, ℕ, Bo
 use Rattle.std.specs.List.{AllByRecursion}
 use Rattle.flow_law.specs.declared.report.Report.{Report}
 use Rattle.flow_law.specs.declared.report.ShareFault.{ShareFault}
-use Rattle.flow_law.specs.Promise.{Grows}
-use Rattle.flow_law.specs.SharingCalls.{HubCall, HubAnswer, counts, puts, polls, cancels, resets}
-use Rattle.flow_law.specs.SharingTurn.{SharingState}
-use Rattle.flow_law.specs.TurnMeaning.{IsNoReset, CallsLead, WasReset, ResetMeans}
+use Rattle.flow_law.specs.history.Promise.{Grows}
+use Rattle.flow_law.specs.sharing.SharingCalls.{HubCall, HubAnswer, counts, puts, polls, cancels, resets}
+use Rattle.flow_law.specs.sharing.SharingTurn.{SharingState}
+use Rattle.flow_law.specs.sharing.TurnMeaning.{IsNoReset, CallsLead, WasReset, ResetMeans}
 use Rattle.flow_sharing.specs.SeatedHub.{SeatedHub}
 use Rattle.flow_sharing.specs.OverThreads.{FollowsInTurn, InTurn, AddsFor, makes_reset, SendsInTurn}
 

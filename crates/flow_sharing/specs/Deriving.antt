@@ -8,7 +8,7 @@ use Rattle.flow_law.specs.declared.call.StateReply.TheVariants.{Done}
 use Rattle.flow_law.specs.declared.fault.FlowFault.{FlowFault}
 use Rattle.flow_law.specs.declared.history.Said.{Said}
 use Rattle.flow_law.specs.declared.states.StateFlowState.{StateFlowState}
-use Rattle.flow_law.specs.Handles.{CallerOf}
+use Rattle.flow_law.specs.history.Handles.{CallerOf}
 use Rattle.flow_shared.specs.StateReplies.{StateCalls}
 
 -- a handle that sets a state

@@ -11,17 +11,17 @@ use Rattle.flow_law.specs.declared.report.Event.{Event}
 use Rattle.flow_law.specs.declared.report.Event.TheVariants.{Busy}
 use Rattle.flow_law.specs.declared.report.Report.{Report}
 use Rattle.flow_law.specs.declared.report.ShareFault.{ShareFault}
-use Rattle.flow_law.specs.Promise.{Grows, Token, CallsAtOnceIn}
-use Rattle.flow_law.specs.History.{Kind}
-use Rattle.flow_law.specs.Sharing.{is_running}
-use Rattle.flow_law.specs.SharedHistory.{shared_flow}
-use Rattle.flow_law.specs.SharingCalls.{HubCall, HubAnswer, cancels, resets, ChainAndHub, CallDoes, HubStep}
-use Rattle.flow_law.specs.SharingFlows.{IsNotBusy}
-use Rattle.flow_law.specs.SharingTurn.{SharingState, Turned, turn_steps}
-use Rattle.flow_law.specs.StateFlow.{state_flow}
-use Rattle.flow_law.specs.Steps.{Takes}
-use Rattle.flow_law.specs.Tokens.{HasSeenMore}
-use Rattle.flow_law.specs.TurnMeaning.{HasAccount, BetweenTurns, resets_at, HadCommand, IsCommand, TurnMeans, TurnResets}
+use Rattle.flow_law.specs.history.Promise.{Grows, Token, CallsAtOnceIn}
+use Rattle.flow_law.specs.history.History.{Kind}
+use Rattle.flow_law.specs.sharing.Sharing.{is_running}
+use Rattle.flow_law.specs.flow.SharedHistory.{shared_flow}
+use Rattle.flow_law.specs.sharing.SharingCalls.{HubCall, HubAnswer, cancels, resets, ChainAndHub, CallDoes, HubStep}
+use Rattle.flow_law.specs.sharing.SharingFlows.{IsNotBusy}
+use Rattle.flow_law.specs.sharing.SharingTurn.{SharingState, Turned, turn_steps}
+use Rattle.flow_law.specs.flow.StateFlow.{state_flow}
+use Rattle.flow_law.specs.sharing.Steps.{Takes}
+use Rattle.flow_law.specs.history.Tokens.{HasSeenMore}
+use Rattle.flow_law.specs.sharing.TurnMeaning.{HasAccount, BetweenTurns, resets_at, HadCommand, IsCommand, TurnMeans, TurnResets}
 use Rattle.flow_sharing.specs.SeatedHub.{SeatedHub, has_emission, nothing_waits}
 use Rattle.flow_sharing.specs.SharedFlowHub.{SharedSeats, SharedFlowHubDoes, SharedSays}
 use Rattle.flow_sharing.specs.StateFlowHub.{StateSeats, StateFlowHubDoes, StateSays}

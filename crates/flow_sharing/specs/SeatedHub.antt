@@ -2,10 +2,10 @@
 use Rattle.std.specs.Prelude.{◌≡◌, ℕ, Bool, false, Option, None, is_some, Result}
 use Rattle.flow_law.specs.declared.fault.FlowFault.{FlowFault}
 use Rattle.flow_law.specs.declared.history.Said.{Said}
-use Rattle.flow_law.specs.Growth.{makes, child}
-use Rattle.flow_law.specs.History.{Kind}
-use Rattle.flow_law.specs.Tokens.{Origin, knowing, CountsNowIn}
-use Rattle.flow_law.specs.Promise.{Token}
+use Rattle.flow_law.specs.history.Growth.{makes, child}
+use Rattle.flow_law.specs.history.History.{Kind}
+use Rattle.flow_law.specs.history.Tokens.{Origin, knowing, CountsNowIn}
+use Rattle.flow_law.specs.history.Promise.{Token}
 
 -- The borrowed flow, and the hub's two seats at it. One counts the subscribers. The other emits; while an emission of the hub waits, the
 -- emission holds it.

@@ -9,10 +9,10 @@ use Rattle.flow_law.specs.declared.call.SharedReply.{SharedReply}
 use Rattle.flow_law.specs.declared.call.SharedReply.TheVariants as reply
 use Rattle.flow_law.specs.declared.outcome.Emit.TheVariants.{Done, Queued}
 use Rattle.flow_law.specs.declared.states.SharedFlowState.{SharedFlowState}
-use Rattle.flow_law.specs.SharedHistory.{shared_flow}
-use Rattle.flow_law.specs.SharingCalls.{HubCall, HubAnswer, counts, puts, polls, cancels, resets}
-use Rattle.flow_law.specs.Promise.{said, Token, CallsAtOnceIn}
-use Rattle.flow_law.specs.Tokens.{Origin, IsBusy}
+use Rattle.flow_law.specs.flow.SharedHistory.{shared_flow}
+use Rattle.flow_law.specs.sharing.SharingCalls.{HubCall, HubAnswer, counts, puts, polls, cancels, resets}
+use Rattle.flow_law.specs.history.Promise.{said, Token, CallsAtOnceIn}
+use Rattle.flow_law.specs.history.Tokens.{Origin, IsBusy}
 use Rattle.flow_turns.specs.CoreHub.{still}
 use Rattle.flow_sharing.specs.SeatedHub.{SeatedHub, OnlySends, CountDoes}
 

@@ -5,9 +5,9 @@ use Rattle.flow_law.specs.declared.call.StateCall.{StateCall}
 use Rattle.flow_law.specs.declared.call.StateReply.{StateReply}
 use Rattle.flow_law.specs.declared.history.Said.{Said}
 use Rattle.flow_law.specs.declared.states.StateFlowState.{StateFlowState}
-use Rattle.flow_law.specs.Promise.{Token}
-use Rattle.flow_law.specs.SharingCalls.{HubCall, HubAnswer}
-use Rattle.flow_law.specs.StateFlow.{state_after_all}
+use Rattle.flow_law.specs.history.Promise.{Token}
+use Rattle.flow_law.specs.sharing.SharingCalls.{HubCall, HubAnswer}
+use Rattle.flow_law.specs.flow.StateFlow.{state_after_all}
 use Rattle.flow_sharing.specs.StateFlowHub.{StateSeats, StateFlowHubDoes}
 
 module _ {Id T : Type 0} where

@@ -1,9 +1,9 @@
 //! A state that follows a hot flow: each value is received, mapped, and set.
 ghost use Rattle.std.specs.Prelude.{◌≡◌};
 ghost use Rattle.std.specs.Fn.{FnReturnsAt};
-ghost use Rattle.flow_law.specs.HandleFaults.{answer_by, memory_fault};
-ghost use Rattle.flow_law.specs.SharedHistory.{shared_flow};
-ghost use Rattle.flow_law.specs.StateFlow.{state_flow};
+ghost use Rattle.flow_law.specs.history.HandleFaults.{answer_by, memory_fault};
+ghost use Rattle.flow_law.specs.flow.SharedHistory.{shared_flow};
+ghost use Rattle.flow_law.specs.flow.StateFlow.{state_flow};
 ghost use Rattle.flow_shared.specs.Receiving.{FlowReceives};
 ghost use Rattle.flow_sharing.specs.Deriving.{Derives};
 

@@ -1,7 +1,7 @@
 //! The token by which a hub emits into a shared flow.
 ghost use Rattle.std.specs.Prelude.{◌≡◌, false, None, is_some, IfErr};
-ghost use Rattle.flow_law.specs.SharingCalls as calls;
-ghost use Rattle.flow_law.specs.SharingCalls.{waits_after};
+ghost use Rattle.flow_law.specs.sharing.SharingCalls as calls;
+ghost use Rattle.flow_law.specs.sharing.SharingCalls.{waits_after};
 ghost use Rattle.flow_turns.specs.Hub.{put_answer};
 ghost use Rattle.flow_sharing.specs.Sender.{sender_token, sender_emission};
 ghost use Rattle.flow_sharing.specs.SharedFlowHub.{PutBy, PollBy, CancelBy, ResetBy};

@@ -1,6 +1,6 @@
 //! A state flow without a lock as the hub of a sharing.
 ghost use Rattle.std.specs.Prelude.{◌≡◌, false, true, Ok};
-ghost use Rattle.flow_law.specs.SharingCalls.{counts};
+ghost use Rattle.flow_law.specs.sharing.SharingCalls.{counts};
 ghost use Rattle.flow_sharing.specs.SeatedHub.{seated, made_two};
 ghost use Rattle.flow_sharing.specs.WordHub.{HasCome, WordHubDoes};
 

@@ -19,21 +19,21 @@ use Rattle.flow_law.specs.declared.call.StateCall.{StateCall}
 use Rattle.flow_law.specs.declared.call.StateCall.TheVariants.{GetValue}
 use Rattle.flow_law.specs.declared.call.StateReply.{StateReply}
 use Rattle.flow_law.specs.declared.call.StateReply.TheVariants.{Got}
-use Rattle.flow_law.specs.Conflation.{Beside, beside, follows, Agrees, AgreeAll, Conflates}
-use Rattle.flow_law.specs.Growth.{event}
-use Rattle.flow_law.specs.History.{IsHistory}
-use Rattle.flow_law.specs.Lagging.{IsSubsequence, Lags}
-use Rattle.flow_law.specs.Laws.{Delivers}
+use Rattle.flow_law.specs.laws.Conflation.{Beside, beside, follows, Agrees, AgreeAll, Conflates}
+use Rattle.flow_law.specs.history.Growth.{event}
+use Rattle.flow_law.specs.history.History.{IsHistory}
+use Rattle.flow_law.specs.laws.Lagging.{IsSubsequence, Lags}
+use Rattle.flow_law.specs.laws.Laws.{Delivers}
 use Rattle.flow_law.specs.declared.config.Config.{Config}
-use Rattle.flow_law.specs.Mailbox.{taken, own, box, received}
-use Rattle.flow_law.specs.Promise.{said, AddsOne, CallsAtOnceIn}
-use Rattle.flow_law.specs.SharedFlow.{Replied, answer, values, cache, position_of, own_of}
-use Rattle.flow_law.specs.SharedHistory.{History, Replies, after, shared_after_all, state_after, reply_by, shared_flow}
-use Rattle.flow_law.specs.SharedStep.{settle, advance, read, next_from, next}
-use Rattle.flow_law.specs.StateFlow.{StateHistory, IsStateHistory, state_flow}
+use Rattle.flow_law.specs.flow.Mailbox.{taken, own, box, received}
+use Rattle.flow_law.specs.history.Promise.{said, AddsOne, CallsAtOnceIn}
+use Rattle.flow_law.specs.flow.SharedFlow.{Replied, answer, values, cache, position_of, own_of}
+use Rattle.flow_law.specs.flow.SharedHistory.{History, Replies, after, shared_after_all, state_after, reply_by, shared_flow}
+use Rattle.flow_law.specs.flow.SharedStep.{settle, advance, read, next_from, next}
+use Rattle.flow_law.specs.flow.StateFlow.{StateHistory, IsStateHistory, state_flow}
 use Rattle.flow_law.proofs.HistoryLemmas.{after_all-snoc}
 use Rattle.flow_law.proofs.Owners.{legal_right}
-use Rattle.flow_law.proofs.Steps.{past_here}
+use Rattle.flow_law.proofs.MailboxSteps.{past_here}
 use Rattle.flow_gate.specs.Tokens as gated
 use Rattle.flow_shared.specs.Calls.{Nexts}
 use Rattle.flow_shared.specs.Futures.{SharedNumbered}

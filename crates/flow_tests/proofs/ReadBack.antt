@@ -8,10 +8,10 @@ use Rattle.flow_law.specs.declared.call.StateCall.TheVariants as call
 use Rattle.flow_law.specs.declared.call.StateReply.{StateReply}
 use Rattle.flow_law.specs.declared.call.StateReply.TheVariants as reply
 use Rattle.flow_law.specs.declared.outcome.Next.TheVariants.{Value, Empty, Gone}
-use Rattle.flow_law.specs.Growth.{event, IsSilent}
-use Rattle.flow_law.specs.Promise.{said}
+use Rattle.flow_law.specs.history.Growth.{event, IsSilent}
+use Rattle.flow_law.specs.history.Promise.{said}
 use Rattle.flow_law.specs.declared.states.StateFlowState.{StateFlowState}
-use Rattle.flow_law.specs.StateFlow.{StateHistory, state_flow_after, state_after_all, state_flow, IsStateHistory}
+use Rattle.flow_law.specs.flow.StateFlow.{StateHistory, state_flow_after, state_after_all, state_flow, IsStateHistory}
 use Rattle.flow_law.proofs.HistoryLemmas.{after_all-snoc}
 use Rattle.flow_law.proofs.Owners.{after_all-append, legal_right}
 use Rattle.flow_gate.specs.Tokens.{GateToken, GateOrigin}

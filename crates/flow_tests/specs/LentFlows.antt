@@ -2,13 +2,13 @@
 use Rattle.std.specs.Prelude.{◌≡◌, ◌≢◌, ℕ, ◌+◌, ◌<◌, List, [], ◌∷◌, ◌++◌, length, drop}
 use Rattle.flow_law.specs.declared.config.Config.{Config}
 use Rattle.flow_law.specs.declared.config.Overflow.TheVariants.{DropOldest}
-use Rattle.flow_law.specs.Lagging.{IsSubsequence, emitted_since_entry}
-use Rattle.flow_law.specs.SharedFlow.{first_state, capacity, values, cache}
-use Rattle.flow_law.specs.SharedHistory.{History, state_after}
-use Rattle.flow_law.specs.Mailbox.{delivered, received, began}
-use Rattle.flow_law.specs.StateFlow.{StateHistory}
-use Rattle.flow_law.specs.Waiting.{from_flow}
-use Rattle.flow_law.specs.Conflation.{Beside, beside, follows}
+use Rattle.flow_law.specs.laws.Lagging.{IsSubsequence, emitted_since_entry}
+use Rattle.flow_law.specs.flow.SharedFlow.{first_state, capacity, values, cache}
+use Rattle.flow_law.specs.flow.SharedHistory.{History, state_after}
+use Rattle.flow_law.specs.flow.Mailbox.{delivered, received, began}
+use Rattle.flow_law.specs.flow.StateFlow.{StateHistory}
+use Rattle.flow_law.specs.laws.Waiting.{from_flow}
+use Rattle.flow_law.specs.laws.Conflation.{Beside, beside, follows}
 
 module _ {T : Type 0} where
   -- The subscriber has received all that was delivered to it. If the flow has a buffer and does not drop the oldest, it has

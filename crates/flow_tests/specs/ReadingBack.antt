@@ -6,9 +6,9 @@ use Rattle.flow_law.specs.declared.call.StateCall.{StateCall}
 use Rattle.flow_law.specs.declared.call.StateCall.TheVariants.{GetValue, Set, TryEmit, CompareAndSet}
 use Rattle.flow_law.specs.declared.call.StateReply.{StateReply}
 use Rattle.flow_law.specs.declared.call.StateReply.TheVariants.{Done, Got, Answered}
-use Rattle.flow_law.specs.Growth.{event, IsSilent}
-use Rattle.flow_law.specs.Promise.{said}
-use Rattle.flow_law.specs.StateFlow.{StateHistory}
+use Rattle.flow_law.specs.history.Growth.{event, IsSilent}
+use Rattle.flow_law.specs.history.Promise.{said}
+use Rattle.flow_law.specs.flow.StateFlow.{StateHistory}
 
 module _ {T : Type 0} where
   -- the value after a call, where v is the value before

@@ -1,8 +1,8 @@
 //! Callers that borrow a flow. They know nothing of its maker or of other threads, and rely on its laws.
 ghost use Rattle.std.specs.Prelude.{◌≡◌, Ok};
 ghost use Rattle.flow_law.specs.declared.outcome.Next.TheVariants.{Empty};
-ghost use Rattle.flow_law.specs.Laws.{NoIdleQueue};
-ghost use Rattle.flow_law.specs.SharedHistory.{state_after};
+ghost use Rattle.flow_law.specs.laws.Laws.{NoIdleQueue};
+ghost use Rattle.flow_law.specs.flow.SharedHistory.{state_after};
 ghost use Rattle.flow_tests.specs.LentFlows.{HasAll, IsNewest, ReadsInOrder};
 
 use flow_law::{FlowFault, FlowValue, Next, Packed, Refused};

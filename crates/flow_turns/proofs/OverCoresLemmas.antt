@@ -11,14 +11,14 @@ use Rattle.flow_law.specs.declared.call.StateReply.{StateReply}
 use Rattle.flow_law.specs.declared.call.StateReply.TheVariants as state_answer
 use Rattle.flow_law.specs.declared.states.StateFlowState.{StateFlowState}
 use Rattle.flow_law.specs.declared.states.StateAndInitial.{StateAndInitial}
-use Rattle.flow_law.specs.SharedStep as flow
-use Rattle.flow_law.specs.SharedHistory.{reply_by}
-use Rattle.flow_law.specs.Standing.{StandsFor}
-use Rattle.flow_law.specs.Steps.{Takes}
-use Rattle.flow_law.specs.SharingCalls.{HubCall, HubAnswer, counts, puts, polls, cancels, resets, HubStep, CallDoes, with_hub}
-use Rattle.flow_law.specs.SharingTurn.{turn_steps}
+use Rattle.flow_law.specs.flow.SharedStep as flow
+use Rattle.flow_law.specs.flow.SharedHistory.{reply_by}
+use Rattle.flow_law.specs.flow.Standing.{StandsFor}
+use Rattle.flow_law.specs.sharing.Steps.{Takes}
+use Rattle.flow_law.specs.sharing.SharingCalls.{HubCall, HubAnswer, counts, puts, polls, cancels, resets, HubStep, CallDoes, with_hub}
+use Rattle.flow_law.specs.sharing.SharingTurn.{turn_steps}
 use Rattle.flow_law.specs.declared.states.EmittingFlow.{EmittingFlow}
-use Rattle.flow_law.specs.SharingFlows.{still_waits, cancelled, emitted, SharedDoes, with_value, state_reply, StateDoes}
+use Rattle.flow_law.specs.sharing.SharingFlows.{still_waits, cancelled, emitted, SharedDoes, with_value, state_reply, StateDoes}
 use Rattle.flow_law.proofs.TurnLemmas.{turn-along}
 use Rattle.flow_law.proofs.SharingFlowLemmas.{shared-turn, state-turn}
 use Rattle.flow_law.proofs.ReplyLemmas.{replies_cases}

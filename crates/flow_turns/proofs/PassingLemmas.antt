@@ -8,11 +8,11 @@ use Rattle.flow_law.specs.declared.report.Event.{Event}
 use Rattle.flow_law.specs.declared.report.Report.{Report}
 use Rattle.flow_law.specs.declared.report.ShareFault.{ShareFault}
 use Rattle.flow_law.specs.declared.report.ShareFault.TheVariants.{Backwards}
-use Rattle.flow_law.specs.ChainRun.{ChainRun}
-use Rattle.flow_law.specs.Sharing.{newest_command, runs_after}
-use Rattle.flow_law.specs.Steps.{Takes}
-use Rattle.flow_law.specs.SharingCalls.{HubCall, HubAnswer, TurnCall, TurnAnswer, ChainAndHub, counts, CallDoes, HubStep}
-use Rattle.flow_law.specs.SharingTurn.{SharingState, Turned, reported, begin, after_count}
+use Rattle.flow_law.specs.chain.ChainRun.{ChainRun}
+use Rattle.flow_law.specs.sharing.Sharing.{newest_command, runs_after}
+use Rattle.flow_law.specs.sharing.Steps.{Takes}
+use Rattle.flow_law.specs.sharing.SharingCalls.{HubCall, HubAnswer, TurnCall, TurnAnswer, ChainAndHub, counts, CallDoes, HubStep}
+use Rattle.flow_law.specs.sharing.SharingTurn.{SharingState, Turned, reported, begin, after_count}
 use Rattle.flow_turns.specs.declared.policy.Policy.{Policy}
 use Rattle.flow_turns.specs.declared.policy.Backwards.{Backwards as Refusal}
 use Rattle.flow_turns.specs.declared.sharing.Sharing.{Sharing}

@@ -9,11 +9,11 @@ use Rattle.flow_law.specs.declared.sharing.Command.TheVariants.{Start, Stop, Sto
 use Rattle.flow_law.specs.declared.sharing.SharingObservation.{SharingObservation}
 use Rattle.flow_law.specs.declared.report.Report.{Report}
 use Rattle.flow_law.specs.declared.report.ShareFault.{ShareFault}
-use Rattle.flow_law.specs.ChainRun.{ChainRun, gives, pends, ends}
-use Rattle.flow_law.specs.Sharing.{newest_command, last_moment}
-use Rattle.flow_law.specs.Steps.{answers, calls, Takes}
-use Rattle.flow_law.specs.SharingCalls.{HubCall, HubAnswer, TurnCall, TurnAnswer, ChainAnswer, ChainAndHub, to_hub, asks, rewinds, counts, puts, polls, cancels, resets, item, pending, end, AskDoes, CallDoes, HubStep}
-use Rattle.flow_law.specs.SharingTurn.{SharingState, Turned, TurnSteps, after_put, after_ask, put, send, after_poll, collect, collect_while_running, after_reset, reset_if_due, after_cancel, work, begin, after_count, turn_steps}
+use Rattle.flow_law.specs.chain.ChainRun.{ChainRun, gives, pends, ends}
+use Rattle.flow_law.specs.sharing.Sharing.{newest_command, last_moment}
+use Rattle.flow_law.specs.sharing.Steps.{answers, calls, Takes}
+use Rattle.flow_law.specs.sharing.SharingCalls.{HubCall, HubAnswer, TurnCall, TurnAnswer, ChainAnswer, ChainAndHub, to_hub, asks, rewinds, counts, puts, polls, cancels, resets, item, pending, end, AskDoes, CallDoes, HubStep}
+use Rattle.flow_law.specs.sharing.SharingTurn.{SharingState, Turned, TurnSteps, after_put, after_ask, put, send, after_poll, collect, collect_while_running, after_reset, reset_if_due, after_cancel, work, begin, after_count, turn_steps}
 use Rattle.flow_law.proofs.StepsLemmas.{takes-along}
 use Rattle.flow_law.proofs.TurnLemmas.{by-if}
 use Rattle.flow_turns.specs.declared.sharing.Sharing.{Sharing}

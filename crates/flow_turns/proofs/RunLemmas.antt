@@ -2,8 +2,8 @@
 use Rattle.std.proofs.Common.{◌≡◌, Bool, Ok, Err, sym, subst}
 use Rattle.flow_law.specs.declared.report.Report.{Report}
 use Rattle.flow_law.specs.declared.report.ShareFault.{ShareFault}
-use Rattle.flow_law.specs.ChainRun.{ChainRun}
-use Rattle.flow_law.specs.SharingCalls.{HubCall, HubAnswer}
+use Rattle.flow_law.specs.chain.ChainRun.{ChainRun}
+use Rattle.flow_law.specs.sharing.SharingCalls.{HubCall, HubAnswer}
 use Rattle.flow_turns.specs.declared.sharing.Sharing.{Sharing}
 use Rattle.flow_turns.specs.Runs.{TakesTurns, no_turn, one_more, IsRefusedAt, RunTurn, SomeRunTurn, TurnsByClock}
 use Rattle.flow_turns.specs.SharingViews.{sharing_chain, CanRun, KeepsReadings}

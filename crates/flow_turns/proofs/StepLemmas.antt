@@ -12,11 +12,11 @@ use Rattle.flow_law.specs.declared.report.Event.{Event}
 use Rattle.flow_law.specs.declared.report.Report.{Report}
 use Rattle.flow_law.specs.declared.report.ShareFault.{ShareFault}
 use Rattle.flow_law.specs.declared.report.ShareFault.TheVariants.{Backwards, Ended, Chain, Flow}
-use Rattle.flow_law.specs.ChainRun.{ChainRun}
-use Rattle.flow_law.specs.Sharing.{newest_command, last_moment, runs_after}
-use Rattle.flow_law.specs.Steps.{Takes}
-use Rattle.flow_law.specs.SharingCalls.{TurnCall, TurnAnswer, ChainAnswer, ChainAndHub, to_hub, asks, counts, polls, cancels, resets}
-use Rattle.flow_law.specs.SharingTurn.{SharingState, Turned, refusal, reported, after_ask, put, send, after_poll, collect_while_running, after_reset, reset_if_due, after_cancel, work, begin, after_count, turn_steps}
+use Rattle.flow_law.specs.chain.ChainRun.{ChainRun}
+use Rattle.flow_law.specs.sharing.Sharing.{newest_command, last_moment, runs_after}
+use Rattle.flow_law.specs.sharing.Steps.{Takes}
+use Rattle.flow_law.specs.sharing.SharingCalls.{TurnCall, TurnAnswer, ChainAnswer, ChainAndHub, to_hub, asks, counts, polls, cancels, resets}
+use Rattle.flow_law.specs.sharing.SharingTurn.{SharingState, Turned, refusal, reported, after_ask, put, send, after_poll, collect_while_running, after_reset, reset_if_due, after_cancel, work, begin, after_count, turn_steps}
 use Rattle.flow_turns.specs.declared.policy.Policy.{Policy}
 use Rattle.flow_turns.specs.declared.policy.Backwards.{Backwards as Refusal}
 use Rattle.flow_turns.specs.declared.sharing.Sharing.{Sharing}

@@ -3,8 +3,8 @@ use Rattle.std.specs.Prelude.{◌≡◌, ℕ, Bool, true, false, if◌then◌els
 use Rattle.flow_law.specs.declared.call.SharedCall.TheVariants as call
 use Rattle.flow_law.specs.declared.call.SharedReply.TheVariants as reply
 use Rattle.flow_law.specs.declared.outcome.Emit.TheVariants.{Done, Queued}
-use Rattle.flow_law.specs.SharingCalls.{HubCall, HubAnswer, counts, puts, polls, cancels, resets}
-use Rattle.flow_law.specs.Standing.{Core, Conforms}
+use Rattle.flow_law.specs.sharing.SharingCalls.{HubCall, HubAnswer, counts, puts, polls, cancels, resets}
+use Rattle.flow_law.specs.flow.Standing.{Core, Conforms}
 use Rattle.flow_turns.specs.declared.core_hub.CoreHub.{CoreHub}
 
 -- the emission's number if it still waits, else None

@@ -2,7 +2,7 @@
 use Rattle.std.specs.Borrow.{Lends, MutBor, Fml, RattleType}
 use Rattle.std.specs.declared.alloc.Allocator.{Ghosts as Allocating}
 use Rattle.flow_law.specs.declared.value.FlowValue.{Ghosts as Flowing}
-use Rattle.flow_law.specs.Standing.{Core}
+use Rattle.flow_law.specs.flow.Standing.{Core}
 use Rattle.flow_core.specs.contracts.shared.SharedCore.{the_row as the_core}
 use Rattle.flow_turns.specs.declared.core_hub.CoreHub.{CoreHub}
 use Rattle.flow_turns.specs.contracts.core_hub.CoreHub.{the_row}

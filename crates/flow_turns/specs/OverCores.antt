@@ -2,12 +2,12 @@
 use Rattle.std.specs.Prelude.{◌≡◌, ℕ, List}
 use Rattle.flow_law.specs.declared.sharing.Started.{Started}
 use Rattle.flow_law.specs.declared.sharing.SharingObservation.{SharingObservation}
-use Rattle.flow_law.specs.Standing.{StandsFor}
-use Rattle.flow_law.specs.Steps.{Takes}
-use Rattle.flow_law.specs.SharingCalls.{ChainAndHub, with_hub, CallDoes, HubStep}
-use Rattle.flow_law.specs.SharingTurn.{SharingState, Turned, turn_steps}
+use Rattle.flow_law.specs.flow.Standing.{StandsFor}
+use Rattle.flow_law.specs.sharing.Steps.{Takes}
+use Rattle.flow_law.specs.sharing.SharingCalls.{ChainAndHub, with_hub, CallDoes, HubStep}
+use Rattle.flow_law.specs.sharing.SharingTurn.{SharingState, Turned, turn_steps}
 use Rattle.flow_law.specs.declared.states.EmittingFlow.{EmittingFlow}
-use Rattle.flow_law.specs.SharingFlows.{shared_reply, SharedDoes, state_reply, StateDoes, IsNotBusy, IsAtOnce, DocumentedTurn}
+use Rattle.flow_law.specs.sharing.SharingFlows.{shared_reply, SharedDoes, state_reply, StateDoes, IsNotBusy, IsAtOnce, DocumentedTurn}
 use Rattle.flow_turns.specs.declared.core_hub.CoreHub.{CoreHub}
 use Rattle.flow_turns.specs.declared.state_hub.StateHub.{StateHub}
 use Rattle.flow_turns.specs.CoreHub.{CoreHubDoes, is_hub_waiting, hub_emission, core_of}

@@ -5,10 +5,10 @@ use Rattle.flow_law.specs.declared.sharing.Started.{Started}
 use Rattle.flow_law.specs.declared.sharing.SharingObservation.{SharingObservation}
 use Rattle.flow_law.specs.declared.report.Report.{Report}
 use Rattle.flow_law.specs.declared.report.ShareFault.{ShareFault}
-use Rattle.flow_law.specs.ChainRun.{ChainRun}
-use Rattle.flow_law.specs.Steps.{Takes}
-use Rattle.flow_law.specs.SharingCalls.{HubCall, HubAnswer, counts, with_hub, CallDoes, HubStep}
-use Rattle.flow_law.specs.SharingTurn.{after_count}
+use Rattle.flow_law.specs.chain.ChainRun.{ChainRun}
+use Rattle.flow_law.specs.sharing.Steps.{Takes}
+use Rattle.flow_law.specs.sharing.SharingCalls.{HubCall, HubAnswer, counts, with_hub, CallDoes, HubStep}
+use Rattle.flow_law.specs.sharing.SharingTurn.{after_count}
 use Rattle.flow_turns.specs.declared.passing.RunReport.{RunReport}
 use Rattle.flow_turns.specs.declared.watched.CountSince.{CountSince}
 use Rattle.flow_turns.specs.declared.sharing.Sharing.{Sharing}

@@ -7,7 +7,7 @@ use Rattle.flow_law.specs.declared.sharing.Started.TheVariants.{Eagerly, Lazily,
 use Rattle.flow_law.specs.declared.sharing.Command.{Command}
 use Rattle.flow_law.specs.declared.sharing.Command.TheVariants.{Keep}
 use Rattle.flow_law.specs.declared.sharing.SharingObservation.{SharingObservation}
-use Rattle.flow_law.specs.Sharing.{never, last_moment, idle_since, is_running, newest_command}
+use Rattle.flow_law.specs.sharing.Sharing.{never, last_moment, idle_since, is_running, newest_command}
 use Rattle.flow_turns.specs.declared.policy.Policy.{Policy}
 use Rattle.flow_turns.specs.declared.policy.Backwards.{Backwards}
 

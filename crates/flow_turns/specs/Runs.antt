@@ -3,8 +3,8 @@ use Rattle.std.specs.Prelude.{◌≡◌, ◌⊎◌, ℕ, ◌≤◌, Bool, Result
 use Rattle.flow_law.specs.declared.report.Event.TheVariants.{Completed}
 use Rattle.flow_law.specs.declared.report.Report.{Report}
 use Rattle.flow_law.specs.declared.report.ShareFault.{ShareFault}
-use Rattle.flow_law.specs.ChainRun.{ChainRun}
-use Rattle.flow_law.specs.SharingCalls.{HubCall, HubAnswer}
+use Rattle.flow_law.specs.chain.ChainRun.{ChainRun}
+use Rattle.flow_law.specs.sharing.SharingCalls.{HubCall, HubAnswer}
 use Rattle.flow_turns.specs.declared.sharing.Sharing.{Sharing}
 use Rattle.flow_turns.specs.SharingViews.{sharing_chain, last_observed_at}
 use Rattle.flow_turns.specs.TurnClauses.{TakesTurn, TakesSomeTurn}

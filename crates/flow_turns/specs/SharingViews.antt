@@ -2,10 +2,10 @@
 use Rattle.std.specs.Prelude.{◌≡◌, ℕ, Bool, List}
 use Rattle.flow_law.specs.declared.sharing.Started.{Started}
 use Rattle.flow_law.specs.declared.sharing.SharingObservation.{SharingObservation}
-use Rattle.flow_law.specs.ChainRun.{ChainRun}
-use Rattle.flow_law.specs.SharingCalls.{ChainAndHub}
-use Rattle.flow_law.specs.SharingTurn.{SharingState}
-use Rattle.flow_law.specs.TurnMeaning.{BetweenTurns, IsQuiet}
+use Rattle.flow_law.specs.chain.ChainRun.{ChainRun}
+use Rattle.flow_law.specs.sharing.SharingCalls.{ChainAndHub}
+use Rattle.flow_law.specs.sharing.SharingTurn.{SharingState}
+use Rattle.flow_law.specs.sharing.TurnMeaning.{BetweenTurns, IsQuiet}
 use Rattle.flow_turns.specs.declared.sharing.Sharing.{Sharing}
 use Rattle.flow_turns.specs.Policy.{HasSeen, last_at}
 

@@ -7,8 +7,8 @@ use Rattle.flow_law.specs.declared.call.StateReply.TheVariants as reply
 use Rattle.flow_law.specs.declared.fault.FlowFault.TheVariants.{OutOfMemory}
 use Rattle.flow_law.specs.declared.states.StateFlowState.{StateFlowState}
 use Rattle.flow_law.specs.declared.states.StateAndInitial.{StateAndInitial}
-use Rattle.flow_law.specs.SharingCalls.{HubCall, HubAnswer, counts, puts, polls, cancels, resets}
-use Rattle.flow_law.specs.Standing.{StateConforms}
+use Rattle.flow_law.specs.sharing.SharingCalls.{HubCall, HubAnswer, counts, puts, polls, cancels, resets}
+use Rattle.flow_law.specs.flow.Standing.{StateConforms}
 use Rattle.flow_turns.specs.declared.state_hub.StateHub.{StateHub}
 
 module _ {T A : Type 0} where

@@ -12,11 +12,11 @@ use Rattle.flow_law.specs.declared.report.Event.TheVariants.{Idle}
 use Rattle.flow_law.specs.declared.report.Report.{Report}
 use Rattle.flow_law.specs.declared.report.ShareFault.{ShareFault}
 use Rattle.flow_law.specs.declared.report.ShareFault.TheVariants.{Chain}
-use Rattle.flow_law.specs.ChainRun.{ChainRun}
-use Rattle.flow_law.specs.Steps.{Takes}
-use Rattle.flow_law.specs.SharingCalls.{HubCall, HubAnswer, CallDoes, HubStep}
-use Rattle.flow_law.specs.SharingTurn.{Turned, TurnSteps, reported, turn_steps}
-use Rattle.flow_law.specs.TurnMeaning.{HasAccount, BetweenTurns, IsQuiet, IsCommand, TurnMeans, TurnResets}
+use Rattle.flow_law.specs.chain.ChainRun.{ChainRun}
+use Rattle.flow_law.specs.sharing.Steps.{Takes}
+use Rattle.flow_law.specs.sharing.SharingCalls.{HubCall, HubAnswer, CallDoes, HubStep}
+use Rattle.flow_law.specs.sharing.SharingTurn.{Turned, TurnSteps, reported, turn_steps}
+use Rattle.flow_law.specs.sharing.TurnMeaning.{HasAccount, BetweenTurns, IsQuiet, IsCommand, TurnMeans, TurnResets}
 use Rattle.flow_turns.specs.declared.sharing.Sharing.{Sharing}
 use Rattle.flow_turns.specs.SharingViews.{sharing_state, chain_and_hub, sharing_chain, hub_of, HasObserved}
 

@@ -7,11 +7,11 @@ use Rattle.flow_law.specs.declared.sharing.SharingObservation.{SharingObservatio
 use Rattle.flow_law.specs.declared.report.Event.{Event}
 use Rattle.flow_law.specs.declared.report.Report.{Report}
 use Rattle.flow_law.specs.declared.report.ShareFault.{ShareFault}
-use Rattle.flow_law.specs.ChainRun.{ChainRun}
-use Rattle.flow_law.specs.Sharing.{runs_after}
-use Rattle.flow_law.specs.Steps.{Takes}
-use Rattle.flow_law.specs.SharingCalls.{HubCall, HubAnswer, TurnCall, TurnAnswer, to_hub, asks, rewinds, AskDoes, HubStep}
-use Rattle.flow_law.specs.SharingTurn.{SharingState, Turned, TurnSteps, refusal, reported, begin, work, after_count, turn_steps}
+use Rattle.flow_law.specs.chain.ChainRun.{ChainRun}
+use Rattle.flow_law.specs.sharing.Sharing.{runs_after}
+use Rattle.flow_law.specs.sharing.Steps.{Takes}
+use Rattle.flow_law.specs.sharing.SharingCalls.{HubCall, HubAnswer, TurnCall, TurnAnswer, to_hub, asks, rewinds, AskDoes, HubStep}
+use Rattle.flow_law.specs.sharing.SharingTurn.{SharingState, Turned, TurnSteps, refusal, reported, begin, work, after_count, turn_steps}
 use Rattle.flow_turns.specs.declared.sharing.Sharing.{Sharing}
 use Rattle.flow_turns.specs.SharingViews.{sharing_state, HasObserved}
 

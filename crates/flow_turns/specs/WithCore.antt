@@ -1,5 +1,5 @@
 -- A sharing on one thread, with another core in its hub. A subscriber's call changes only the core.
-use Rattle.flow_law.specs.Standing.{Core}
+use Rattle.flow_law.specs.flow.Standing.{Core}
 use Rattle.flow_law.specs.declared.states.StateFlowState.{StateFlowState}
 use Rattle.flow_turns.specs.declared.core_hub.CoreHub.{CoreHub}
 use Rattle.flow_turns.specs.declared.state_hub.StateHub.{StateHub}

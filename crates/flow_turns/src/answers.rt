@@ -1,6 +1,6 @@
 //! The report of a turn, from its command and the answers of its calls.
 ghost use Rattle.std.specs.Prelude.{◌≡◌};
-ghost use Rattle.flow_law.specs.SharingTurn.{refusal, reported};
+ghost use Rattle.flow_law.specs.sharing.SharingTurn.{refusal, reported};
 
 use flow_law::{Command, Event, FlowFault, Report, ShareFault};
 

@@ -1,7 +1,7 @@
 //! The last step of a turn: while the sharing runs, at most one item is put into the flow.
 ghost use Rattle.std.specs.Prelude.{◌≡◌, ◌≢◌, None, MatchResult, false, Err};
-ghost use Rattle.flow_law.specs.SharingCalls.{polls};
-ghost use Rattle.flow_law.specs.SharingTurn as steps;
+ghost use Rattle.flow_law.specs.sharing.SharingCalls.{polls};
+ghost use Rattle.flow_law.specs.sharing.SharingTurn as steps;
 ghost use Rattle.flow_operators.specs.Asking.{AskGives, OnEnd};
 ghost use Rattle.flow_turns.specs.SharingViews.{sharing_state, sharing_chain, CanRun, KeepsReadings, has_ended};
 ghost use Rattle.flow_turns.specs.TurnClauses.{FaultWasAnswered, ended_after};

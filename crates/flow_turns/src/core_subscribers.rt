@@ -1,6 +1,6 @@
 //! The subscribers of a sharing over a shared flow of one thread.
 ghost use Rattle.std.specs.Prelude.{◌≡◌, ℕ, List, [], IsOk};
-ghost use Rattle.flow_law.specs.Standing.{Conforms};
+ghost use Rattle.flow_law.specs.flow.Standing.{Conforms};
 ghost use Rattle.flow_law.specs.declared.call.SharedCall.TheVariants as call;
 ghost use Rattle.flow_law.specs.declared.call.SharedReply.TheVariants as reply;
 ghost use Rattle.flow_core.specs.SharedCore.{subscribe_reply, next_reply};

@@ -1,6 +1,6 @@
 //! The steps of a turn before it collects: obeying the command, and then the cancel and the reset that are due.
 ghost use Rattle.std.specs.Prelude.{◌≡◌, ◌||◌, true, false, IfOk};
-ghost use Rattle.flow_law.specs.SharingTurn as steps;
+ghost use Rattle.flow_law.specs.sharing.SharingTurn as steps;
 ghost use Rattle.flow_turns.specs.SharingViews.{sharing_chain, has_ended, CanRun, KeepsReadings};
 ghost use Rattle.flow_turns.specs.TurnParts.{ActsBy, CommandLeads, GoesOn};
 

@@ -1,7 +1,7 @@
 //! The flow into which a sharing emits.
 ghost use Rattle.std.specs.Prelude.{◌≡◌, ◌≢◌, Bool, false, IfErr};
 ghost use Rattle.flow_law.specs.declared.fault.FlowFault.{FlowFault};
-ghost use Rattle.flow_law.specs.SharingCalls.{HubCall, HubAnswer, HubStep, counts, puts, polls, cancels, resets};
+ghost use Rattle.flow_law.specs.sharing.SharingCalls.{HubCall, HubAnswer, HubStep, counts, puts, polls, cancels, resets};
 ghost use Rattle.flow_turns.specs.Hub.{put_answer};
 
 use flow_law::{FlowFault, Refused};

@@ -1,6 +1,6 @@
 //! The turns of a run, which also observe a subscriber that came and left since the last count.
 ghost use Rattle.std.specs.Prelude.{◌≡◌, true, IfOk};
-ghost use Rattle.flow_law.specs.SharingCalls.{counts};
+ghost use Rattle.flow_law.specs.sharing.SharingCalls.{counts};
 ghost use Rattle.flow_turns.specs.Passing.{count_of, report_alone};
 ghost use Rattle.flow_turns.specs.Runs.{RunTurn, SomeRunTurn};
 ghost use Rattle.flow_turns.specs.SharingViews.{sharing_state, sharing_chain, hub_of, CanRun, KeepsReadings};

@@ -5,7 +5,7 @@
 //! speak of every list of observations that leads to what it keeps.
 ghost use Rattle.std.specs.Prelude.{◌≡◌, ◌≢◌, ◌⊎◌, ◌+◌, ◌≤◌, ◌<◌, [], true, false, None, IfSome, IfOk, OnErr};
 ghost use Rattle.std.specs.Option.{ForSome};
-ghost use Rattle.flow_law.specs.Sharing.{never, command_of, runs_after, is_past_expiry};
+ghost use Rattle.flow_law.specs.sharing.Sharing.{never, command_of, runs_after, is_past_expiry};
 
 use flow_law::{Command, NEVER, Started};
 use thiserror::Error;

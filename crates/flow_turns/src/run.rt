@@ -3,7 +3,7 @@ ghost use Rattle.std.specs.Prelude.{◌≡◌, ◌≤◌, ◌/◌, min, max, Non
 ghost use Rattle.std.specs.Bool.{OnTrue};
 ghost use Rattle.std.specs.Duration.{as_nanos};
 ghost use Rattle.flow_law.specs.declared.chain.End.{End};
-ghost use Rattle.flow_law.specs.Sharing.{never};
+ghost use Rattle.flow_law.specs.sharing.Sharing.{never};
 ghost use Rattle.flow_turns.specs.Passing.{report_alone};
 ghost use Rattle.flow_turns.specs.Policy.{ActsNext, SleepsTo};
 ghost use Rattle.flow_turns.specs.SharingViews.{sharing_chain, last_observed_at, CanRun, KeepsReadings};

@@ -1,10 +1,10 @@
 //! Sharings over flows for one thread (`shareIn`, `stateIn`).
 ghost use Rattle.std.specs.Prelude.{◌≡◌, [], None, IsOk, IfOk, IfErr, MatchResult};
 ghost use Rattle.flow_law.specs.declared.fault.FlowFault.{FlowFault};
-ghost use Rattle.flow_law.specs.SharedFlow.{NoFlow, config_fault, first_state};
-ghost use Rattle.flow_law.specs.Standing.{StandsFor};
-ghost use Rattle.flow_law.specs.StateFlow.{first_state_flow};
-ghost use Rattle.flow_law.specs.SharingTurn.{at_rest};
+ghost use Rattle.flow_law.specs.flow.SharedFlow.{NoFlow, config_fault, first_state};
+ghost use Rattle.flow_law.specs.flow.Standing.{StandsFor};
+ghost use Rattle.flow_law.specs.flow.StateFlow.{first_state_flow};
+ghost use Rattle.flow_law.specs.sharing.SharingTurn.{at_rest};
 ghost use Rattle.flow_turns.specs.CoreHub.{core_of, is_hub_waiting};
 ghost use Rattle.flow_turns.specs.ShareIn.{share_config};
 ghost use Rattle.flow_turns.specs.StateHub.{state_core_of, reset_value, never_waits};

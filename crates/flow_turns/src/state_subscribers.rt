@@ -1,6 +1,6 @@
 //! The subscribers of a sharing over a state flow of one thread.
 ghost use Rattle.std.specs.Prelude.{◌≡◌, ℕ, List, IsOk};
-ghost use Rattle.flow_law.specs.Standing.{StateConforms};
+ghost use Rattle.flow_law.specs.flow.Standing.{StateConforms};
 ghost use Rattle.flow_law.specs.declared.call.StateCall.TheVariants as call;
 ghost use Rattle.flow_law.specs.declared.call.StateReply.TheVariants as reply;
 ghost use Rattle.flow_core.specs.StateCore.{state_subscribe_reply, state_next_reply};

@@ -3,8 +3,8 @@
 //! A turn takes the steps of `turn_steps` of `flow_law` in their order: count, observe, obey the command, cancel,
 //! reset, collect.
 ghost use Rattle.std.specs.Prelude.{◌≡◌, ◌≢◌, [], false, IsTrue, ◌↔◌, Err};
-ghost use Rattle.flow_law.specs.SharingCalls.{counts};
-ghost use Rattle.flow_law.specs.SharingTurn.{at_rest};
+ghost use Rattle.flow_law.specs.sharing.SharingCalls.{counts};
+ghost use Rattle.flow_law.specs.sharing.SharingTurn.{at_rest};
 ghost use Rattle.flow_turns.specs.SharingViews.{sharing_state, sharing_chain, hub_of, CanRun, KeepsReadings, SharesChain, IsBetweenTurns, IsQuietHub, HasObserved, has_ended};
 ghost use Rattle.flow_turns.specs.TurnClauses.{TakesTurn, TakesSomeTurn, MeansAnswer, HandlesReset, StaysBetween, StaysQuiet, FaultWasAnswered, ended_after};
 ghost use Rattle.flow_turns.specs.TurnParts.{ActsBy, CallsHub, CommandComesTo};

@@ -1,6 +1,6 @@
 //! A hub whose driver sleeps while there is nothing to do.
 ghost use Rattle.std.specs.Prelude.{◌≡◌, true, IfOk};
-ghost use Rattle.flow_law.specs.SharingCalls.{HubStep, counts};
+ghost use Rattle.flow_law.specs.sharing.SharingCalls.{HubStep, counts};
 ghost use Rattle.flow_turns.specs.Passing.{count_of};
 
 use crate::hub::Hub;

@@ -15,12 +15,12 @@ use Rattle.flow_law.specs.declared.call.StateCall.TheVariants as call
 use Rattle.flow_law.specs.declared.call.StateReply.{StateReply}
 use Rattle.flow_law.specs.declared.call.StateReply.TheVariants as reply
 use Rattle.flow_law.specs.declared.states.StateFlowState.{StateFlowState}
-use Rattle.flow_law.specs.Growth.{Fits, IsApartFrom, event}
-use Rattle.flow_law.specs.History.{MayCall}
-use Rattle.flow_law.specs.RealTime.{BeganInTime, began_at}
-use Rattle.flow_law.specs.Promise.{said}
-use Rattle.flow_law.specs.Seats.{SeatAt}
-use Rattle.flow_law.specs.StateFlow.{StateHistory, state_flow_after, StateFlowReplies, state_flow, state_after_all, IsStateHistory}
+use Rattle.flow_law.specs.history.Growth.{Fits, IsApartFrom, event}
+use Rattle.flow_law.specs.history.History.{MayCall}
+use Rattle.flow_law.specs.history.RealTime.{BeganInTime, began_at}
+use Rattle.flow_law.specs.history.Promise.{said}
+use Rattle.flow_law.specs.history.Seats.{SeatAt}
+use Rattle.flow_law.specs.flow.StateFlow.{StateHistory, state_flow_after, StateFlowReplies, state_flow, state_after_all, IsStateHistory}
 use Rattle.flow_law.proofs.HistoryLemmas.{after_all-snoc, IsHistory-snoc}
 use Rattle.flow_law.proofs.Names.{grew_refl, fits_more, fits_own}
 use Rattle.flow_law.proofs.RealTimeLemmas.{since_seen, since_more, grown_longer, before_own, one_longer, began_since, IsTimed-snoc}

@@ -19,11 +19,11 @@ use Rattle.flow_law.specs.declared.call.StateReply.{StateReply}
 use Rattle.flow_law.specs.declared.call.StateReply.TheVariants as reply
 use Rattle.flow_law.specs.declared.states.StateFlowState.{StateFlowState}
 use Rattle.flow_law.specs.declared.states.StateSubscriber.{StateSubscriber}
-use Rattle.flow_law.specs.Growth.{Fits, sees, child}
-use Rattle.flow_law.specs.History.{subscriber, IsGiven}
-use Rattle.flow_law.specs.RealTime.{began_at}
-use Rattle.flow_law.specs.StateFlow.{StateHistory, last_got_by, is_state_exhausted, state_flow_after, Receives, StateFlowReplies, state_flow, state_after_all, IsStateHistory}
-use Rattle.flow_law.specs.Tokens.{subscription_name}
+use Rattle.flow_law.specs.history.Growth.{Fits, sees, child}
+use Rattle.flow_law.specs.history.History.{subscriber, IsGiven}
+use Rattle.flow_law.specs.history.RealTime.{began_at}
+use Rattle.flow_law.specs.flow.StateFlow.{StateHistory, last_got_by, is_state_exhausted, state_flow_after, Receives, StateFlowReplies, state_flow, state_after_all, IsStateHistory}
+use Rattle.flow_law.specs.history.Tokens.{subscription_name}
 use Rattle.flow_law.proofs.HistoryLemmas.{after_all-snoc, IsHistory-snoc}
 use Rattle.flow_law.proofs.Owners.{given_stays, last_given}
 use Rattle.flow_law.proofs.StateCounts.{IsCounted, length-with, one_fewer, none_above}

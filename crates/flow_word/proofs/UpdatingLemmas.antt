@@ -5,14 +5,14 @@ use Rattle.std.specs.Fork.{ChangesEach}
 use denote.Ref.{MutBor}
 use denote.Param.Members.{Shared}
 use Rattle.flow_law.specs.declared.history.Knowledge.{Knowledge}
-use Rattle.flow_law.specs.Closed.{makes_many, nth_child}
-use Rattle.flow_law.specs.Growth.{first_knowledge}
-use Rattle.flow_law.specs.Handles.{called_by}
-use Rattle.flow_law.specs.Rounds.{IsFinalValue}
-use Rattle.flow_law.specs.StateFlow.{first_state_flow}
-use Rattle.flow_law.specs.Tokens.{Begins}
-use Rattle.flow_law.specs.UpdateCounts.{iterate}
-use Rattle.flow_law.specs.Updates.{Updates}
+use Rattle.flow_law.specs.laws.Closed.{makes_many, nth_child}
+use Rattle.flow_law.specs.history.Growth.{first_knowledge}
+use Rattle.flow_law.specs.history.Handles.{called_by}
+use Rattle.flow_law.specs.history.Rounds.{IsFinalValue}
+use Rattle.flow_law.specs.flow.StateFlow.{first_state_flow}
+use Rattle.flow_law.specs.history.Tokens.{Begins}
+use Rattle.flow_law.specs.laws.UpdateCounts.{iterate}
+use Rattle.flow_law.specs.history.Updates.{Updates}
 use Rattle.flow_law.proofs.CountedLemmas.{updated_by_all}
 use Rattle.flow_law.proofs.UpdateCountLemmas.{times_none, times_one, times_more}
 use Rattle.flow_word.specs.Handles.{CallerOfWord, MakesMany, AreNextSeats}

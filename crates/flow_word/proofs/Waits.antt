@@ -2,9 +2,9 @@
 use Rattle.std.proofs.Common.{◌≡◌, subst, [], ◌∷◌, Option, Some, None, Ok}
 use Rattle.futures.specs.Runs.{After, Within}
 use Rattle.flow_law.specs.declared.history.Said.{Said}
-use Rattle.flow_law.specs.History.{Kind}
-use Rattle.flow_law.specs.Handles.{next_of}
-use Rattle.flow_law.specs.Tokens.{NumberedToken, NextsIn}
+use Rattle.flow_law.specs.history.History.{Kind}
+use Rattle.flow_law.specs.history.Handles.{next_of}
+use Rattle.flow_law.specs.history.Tokens.{NumberedToken, NextsIn}
 use Rattle.flow_word.specs.Receiving.{AsksInVain, not_asked, one_more, WordReceives, FindsNone, ReceivesInTime, WordYields}
 
 abbrev Numbered : (Id C R : Type 0) → Type 0

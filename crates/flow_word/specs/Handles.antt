@@ -4,12 +4,12 @@ use Rattle.flow_law.specs.declared.call.StateCall.{StateCall}
 use Rattle.flow_law.specs.declared.call.StateReply.{StateReply}
 use Rattle.flow_law.specs.declared.history.Said.{Said}
 use Rattle.flow_law.specs.declared.states.StateFlowState.{StateFlowState}
-use Rattle.flow_law.specs.Closed.{makes_many, nth_child}
-use Rattle.flow_law.specs.Current.{IsThere}
-use Rattle.flow_law.specs.Handles.{CallerOf, ReaderOf, called_by}
-use Rattle.flow_law.specs.StateFlow.{StateHistory, state_after_all}
-use Rattle.flow_law.specs.Tokens.{Origin, knowing}
-use Rattle.flow_law.specs.Promise.{Token}
+use Rattle.flow_law.specs.laws.Closed.{makes_many, nth_child}
+use Rattle.flow_law.specs.laws.Current.{IsThere}
+use Rattle.flow_law.specs.history.Handles.{CallerOf, ReaderOf, called_by}
+use Rattle.flow_law.specs.flow.StateFlow.{StateHistory, state_after_all}
+use Rattle.flow_law.specs.history.Tokens.{Origin, knowing}
+use Rattle.flow_law.specs.history.Promise.{Token}
 use Rattle.flow_word.specs.Tokens.{WordId}
 
 -- a seat and its word state

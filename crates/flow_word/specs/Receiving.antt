@@ -6,9 +6,9 @@ use Rattle.futures.specs.declared.task.Poll.TheVariants.{Ready, Pending}
 use Rattle.flow_law.specs.declared.history.Said.{Said}
 use Rattle.flow_law.specs.declared.outcome.Next.{Next}
 use Rattle.flow_law.specs.declared.outcome.Next.TheVariants.{Value, Empty}
-use Rattle.flow_law.specs.Handles.{ReaderOf}
-use Rattle.flow_law.specs.History.{Kind}
-use Rattle.flow_law.specs.Tokens.{NumberedToken, NextsIn}
+use Rattle.flow_law.specs.history.Handles.{ReaderOf}
+use Rattle.flow_law.specs.history.History.{Kind}
+use Rattle.flow_law.specs.history.Tokens.{NumberedToken, NextsIn}
 
 module _ {Id T S C R : Type 0} (kind : Kind T S C R) (first : S) where
   -- one call of `next` gave this, and the subscription keeps its number

@@ -2,10 +2,10 @@
 use Rattle.std.specs.Prelude.{◌≡◌, ℕ, ◌+◌, ◌*◌, ◌<◌, List, [], ◌∷◌, length}
 use Rattle.atomic_table.specs.Table.{State}
 use Rattle.flow_law.specs.declared.states.StateFlowState.{StateFlowState}
-use Rattle.flow_law.specs.Growth.{Fits}
-use Rattle.flow_law.specs.RealTime.{IsTimed, BeganSince}
-use Rattle.flow_law.specs.Seats.{SeatsFit}
-use Rattle.flow_law.specs.StateFlow.{StateHistory, state_after_all, IsStateHistory}
+use Rattle.flow_law.specs.history.Growth.{Fits}
+use Rattle.flow_law.specs.history.RealTime.{IsTimed, BeganSince}
+use Rattle.flow_law.specs.history.Seats.{SeatsFit}
+use Rattle.flow_law.specs.flow.StateFlow.{StateHistory, state_after_all, IsStateHistory}
 use Rattle.flow_word.specs.declared.view.Known.{Known}
 use Rattle.flow_word.specs.declared.view.Start.{Start}
 use Rattle.flow_word.specs.View.{begun}

@@ -10,12 +10,12 @@ use Rattle.flow_law.specs.declared.fault.FlowFault.TheVariants.{Exhausted}
 use Rattle.flow_law.specs.declared.outcome.Next.{Next}
 use Rattle.flow_law.specs.declared.outcome.Next.TheVariants.{Value, Empty}
 use Rattle.flow_law.specs.declared.states.StateFlowState.{StateFlowState}
-use Rattle.flow_law.specs.Growth.{Fits, sees, child}
-use Rattle.flow_law.specs.History.{subscriber, IsGiven}
-use Rattle.flow_law.specs.Promise.{AddsOne}
-use Rattle.flow_law.specs.RealTime.{IsTimed}
-use Rattle.flow_law.specs.StateFlow.{StateHistory, last_got_by, state_flow, state_after_all, IsStateHistory}
-use Rattle.flow_law.specs.Tokens.{subscription_name}
+use Rattle.flow_law.specs.history.Growth.{Fits, sees, child}
+use Rattle.flow_law.specs.history.History.{subscriber, IsGiven}
+use Rattle.flow_law.specs.history.Promise.{AddsOne}
+use Rattle.flow_law.specs.history.RealTime.{IsTimed}
+use Rattle.flow_law.specs.flow.StateFlow.{StateHistory, last_got_by, state_flow, state_after_all, IsStateHistory}
+use Rattle.flow_law.specs.history.Tokens.{subscription_name}
 use Rattle.flow_word.specs.declared.view.Known.{Known}
 use Rattle.flow_word.specs.declared.view.LastGot.{LastGot}
 use Rattle.flow_word.specs.View.{StateKnowledge, begun, got_last, in_call, with_knows, only_in_view}

@@ -6,9 +6,9 @@ use Rattle.flow_law.specs.declared.history.Said.{Said}
 use Rattle.flow_law.specs.declared.call.StateCall.{StateCall}
 use Rattle.flow_law.specs.declared.call.StateReply.{StateReply}
 use Rattle.flow_law.specs.declared.states.StateFlowState.{StateFlowState}
-use Rattle.flow_law.specs.Tokens as flows
-use Rattle.flow_law.specs.Tokens.{token}
-use Rattle.flow_law.specs.Updates.{StateTokenOf}
+use Rattle.flow_law.specs.history.Tokens as flows
+use Rattle.flow_law.specs.history.Tokens.{token}
+use Rattle.flow_law.specs.history.Updates.{StateTokenOf}
 use Rattle.flow_word.specs.declared.view.Known.{Known}
 use Rattle.flow_word.specs.declared.view.Start.{Start}
 use Rattle.flow_word.specs.View.{begun, got_last, only_in_view}

@@ -1,7 +1,7 @@
 -- What a caller of a word state has updated. Begin with `HasUpdated`.
 use Rattle.std.specs.Prelude.{◌≡◌, ℕ, ℤ, pos}
 use Rattle.std.specs.Int.{w64, int_wrapping_add}
-use Rattle.flow_law.specs.UpdateCounts.{UpdatesTimes}
+use Rattle.flow_law.specs.laws.UpdateCounts.{UpdatesTimes}
 use Rattle.flow_word.specs.Handles.{CallerOfWord}
 
 -- From `before` to `after` the caller has made n updates by g, and changed the value in no other way.

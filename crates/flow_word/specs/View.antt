@@ -5,8 +5,8 @@ use Rattle.flow_law.specs.declared.history.Said.{Said}
 use Rattle.flow_law.specs.declared.call.StateCall.{StateCall}
 use Rattle.flow_law.specs.declared.call.StateReply.{StateReply}
 use Rattle.flow_law.specs.declared.states.StateFlowState.{StateFlowState}
-use Rattle.flow_law.specs.Growth.{first_knowledge}
-use Rattle.flow_law.specs.StateFlow.{first_state_flow}
+use Rattle.flow_law.specs.history.Growth.{first_knowledge}
+use Rattle.flow_law.specs.flow.StateFlow.{first_state_flow}
 use Rattle.flow_word.specs.declared.view.Known.{Known}
 use Rattle.flow_word.specs.declared.view.LastGot.{LastGot}
 use Rattle.flow_word.specs.declared.view.Start.{Start}

@@ -7,9 +7,9 @@ use Rattle.flow_law.specs.declared.call.StateReply.TheVariants.{Got}
 use Rattle.flow_law.specs.declared.history.Said.{Said}
 use Rattle.flow_law.specs.declared.outcome.Next.TheVariants.{Value, Empty}
 use Rattle.flow_law.specs.declared.states.StateFlowState.{StateFlowState}
-use Rattle.flow_law.specs.StateFlow.{state_flow}
-use Rattle.flow_law.specs.Tokens as flows
-use Rattle.flow_law.specs.Promise.{CallsAtOnceIn}
+use Rattle.flow_law.specs.flow.StateFlow.{state_flow}
+use Rattle.flow_law.specs.history.Tokens as flows
+use Rattle.flow_law.specs.history.Promise.{CallsAtOnceIn}
 use Rattle.flow_word.specs.Receiving.{WordNextGives, WordReceives, FindsNone}
 
 abbrev pub StateNumberedOf : (Id T : Type 0) → Type 0

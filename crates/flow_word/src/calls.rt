@@ -2,10 +2,10 @@
 ghost use Rattle.std.specs.Prelude.{◌≡◌, IfOk, IfErr};
 ghost use Rattle.flow_law.specs.declared.call.StateCall.TheVariants as call;
 ghost use Rattle.flow_law.specs.declared.call.StateReply.TheVariants as reply;
-ghost use Rattle.flow_law.specs.Growth.{makes, child};
-ghost use Rattle.flow_law.specs.StateFlow.{first_state_flow, state_flow};
-ghost use Rattle.flow_law.specs.Tokens.{Begins, knowing};
-ghost use Rattle.flow_law.specs.Promise.{CallsAtOnceIn};
+ghost use Rattle.flow_law.specs.history.Growth.{makes, child};
+ghost use Rattle.flow_law.specs.flow.StateFlow.{first_state_flow, state_flow};
+ghost use Rattle.flow_law.specs.history.Tokens.{Begins, knowing};
+ghost use Rattle.flow_law.specs.history.Promise.{CallsAtOnceIn};
 
 use crate::plays::{Exchange, Make, Put, Read};
 use crate::sleepers::WordSleepers;

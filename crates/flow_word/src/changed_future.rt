@@ -2,7 +2,7 @@
 ghost use Rattle.std.specs.Prelude.{◌≡◌, ⊤, Some, None};
 ghost use Rattle.futures.specs.Task.{Covers, Keeps};
 ghost use Rattle.futures.specs.Poll.{IfReady, OnPending};
-ghost use Rattle.flow_law.specs.StateFlow.{state_flow};
+ghost use Rattle.flow_law.specs.flow.StateFlow.{state_flow};
 ghost use Rattle.flow_word.specs.Receiving.{WordGivesChanged, WordPollsChange};
 
 use crate::handles::WordReader;
@@ -31,7 +31,7 @@ impl<'a, T: Packed> Model for ChangedFuture<'a, T> {
     ghost use Rattle.flow_law.specs.declared.call.StateCall.{StateCall};
     ghost use Rattle.flow_law.specs.declared.call.StateReply.{StateReply};
     ghost use Rattle.flow_law.specs.declared.states.StateFlowState.{StateFlowState};
-    ghost use Rattle.flow_law.specs.Handles.{ReaderOf};
+    ghost use Rattle.flow_law.specs.history.Handles.{ReaderOf};
     ghost use Rattle.flow_word.specs.Tokens.{WordId};
 
     ghost Value = { Option

@@ -1,7 +1,7 @@
 //! Meetings, after which two callers have seen the same history.
 ghost use Rattle.std.specs.Prelude.{◌≡◌};
-ghost use Rattle.flow_law.specs.StateFlow.{state_flow};
-ghost use Rattle.flow_law.specs.Tokens.{MeetsIn};
+ghost use Rattle.flow_law.specs.flow.StateFlow.{state_flow};
+ghost use Rattle.flow_law.specs.history.Tokens.{MeetsIn};
 ghost use Rattle.flow_word.specs.View.{begun, only_in_view};
 ghost use Rattle.flow_word.specs.Tokens.{token_of, HasOneToken};
 

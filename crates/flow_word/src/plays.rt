@@ -1,8 +1,8 @@
 //! What each step on a word proves. Nothing here runs.
 ghost use Rattle.std.specs.Prelude.{[], ◌++◌, map};
-ghost use Rattle.flow_law.specs.Growth.{makes, child};
+ghost use Rattle.flow_law.specs.history.Growth.{makes, child};
 ghost use Rattle.flow_word.specs.View.{with_knows, first_in_view, others_in_view};
-ghost use Rattle.flow_word.specs.Steps.{reads, reads_by, sets, exchanges, counts_live, counts_all, receives, leaves, finds_room, enters, observes, looks};
+ghost use Rattle.flow_word.specs.Steps.{reads, reads_by, sets, exchanges, counts_all, receives, leaves, finds_room, enters, observes, looks};
 
 use crate::view::Known;
 use atomic_table::{Join, Play, Split};
@@ -40,13 +40,6 @@ impl<T: Packed> Play<(), Sequence<Known<T>>> for Exchange {
 pub(crate) struct Count;
 
 impl<T: Packed> Play<(), Sequence<Known<T>>> for Count {
-    ghost then = { counts_live T.value_of };
-}
-
-/// A load of the counts, for `counts`.
-pub(crate) struct CountAll;
-
-impl<T: Packed> Play<(), Sequence<Known<T>>> for CountAll {
     ghost then = { counts_all T.value_of };
 }
 

@@ -1,9 +1,9 @@
 //! The laws of what a token has seen.
 ghost use Rattle.std.specs.Prelude.{◌≡◌, ℕ};
-ghost use Rattle.flow_law.specs.Conflation.{Conflates};
-ghost use Rattle.flow_law.specs.Current.{Converges};
-ghost use Rattle.flow_law.specs.RealTime.{InRealTime, IsTimed};
-ghost use Rattle.flow_law.specs.StateFlow.{IsStateHistory};
+ghost use Rattle.flow_law.specs.laws.Conflation.{Conflates};
+ghost use Rattle.flow_law.specs.laws.Current.{Converges};
+ghost use Rattle.flow_law.specs.history.RealTime.{InRealTime, IsTimed};
+ghost use Rattle.flow_law.specs.flow.StateFlow.{IsStateHistory};
 ghost use Rattle.flow_word.specs.Handles.{IsThereAfter};
 ghost use Rattle.flow_word.specs.Tokens.{token_of, HasOneToken};
 ghost use Rattle.flow_word.specs.View.{begun};

@@ -4,11 +4,11 @@ ghost use Rattle.flow_law.specs.declared.call.StateCall.TheVariants as call;
 ghost use Rattle.flow_law.specs.declared.call.StateReply.TheVariants as reply;
 ghost use Rattle.flow_law.specs.declared.fault.FlowFault.TheVariants.{Exhausted};
 ghost use Rattle.flow_law.specs.declared.outcome.Next.TheVariants.{Gone};
-ghost use Rattle.flow_law.specs.StateFlow.{state_flow, state_after_all};
-ghost use Rattle.flow_law.specs.Tokens.{SubscribesIn, NextsIn, UnsubscribesIn};
-ghost use Rattle.flow_law.specs.Promise.{CallsAtOnceIn};
+ghost use Rattle.flow_law.specs.flow.StateFlow.{state_flow, state_after_all};
+ghost use Rattle.flow_law.specs.history.Tokens.{SubscribesIn, NextsIn, UnsubscribesIn};
+ghost use Rattle.flow_law.specs.history.Promise.{CallsAtOnceIn};
 
-use crate::plays::{Count, CountAll, Enter, FindRoom, Leave, Make, ReadBy, Receive};
+use crate::plays::{Count, Enter, FindRoom, Leave, Make, ReadBy, Receive};
 use crate::token::{WordSeat, WordState, WordSubscription};
 use flow_law::{FlowFault, Next, Packed};
 use std::sync::Wait;
@@ -140,8 +140,7 @@ impl<T: Packed> WordState<T> {
         ensures { CallsAtOnceIn state_flow self.now.first seat.old call.SubscriptionCount
             (reply.Counted result) seat.new }
     {
-        let word = self.table.shared.load::<Count>(&mut seat.seat, 1);
-        word % (1 << 32)
+        self.counts(seat).subscribers
     }
 
     /// Counts the subscribers as `subscription_count` does, and the subscriptions that the flow has accepted in all.
@@ -152,7 +151,7 @@ impl<T: Packed> WordState<T> {
         ensures accepted { (state_after_all self.now.first seat.new.knows.seen).issued
             ≡ result.accepted }
     {
-        let word = self.table.shared.load::<CountAll>(&mut seat.seat, 1);
+        let word = self.table.shared.load::<Count>(&mut seat.seat, 1);
         Counts {
             subscribers: word % (1 << 32),
             accepted: word / (1 << 32),

@@ -1,6 +1,6 @@
 //! A word state, and the tokens of its callers.
 ghost use Rattle.std.specs.Prelude.{◌≡◌};
-ghost use Rattle.flow_law.specs.Tokens.{origin, numbered_token};
+ghost use Rattle.flow_law.specs.history.Tokens.{origin, numbered_token};
 ghost use Rattle.flow_word.specs.View.{begun};
 ghost use Rattle.flow_word.specs.Tokens.{WordToken, WordOrigin, WordNumbered, word_id, token_of, HasOneToken, IsWordSubscription};
 

@@ -1,6 +1,6 @@
 //! Updates by a function of the value.
 ghost use Rattle.std.specs.Prelude.{◌≡◌};
-ghost use Rattle.flow_law.specs.Updates.{Updates};
+ghost use Rattle.flow_law.specs.history.Updates.{Updates};
 
 use crate::token::{WordSeat, WordState};
 use flow_law::Packed;

@@ -3,7 +3,7 @@ ghost use Rattle.std.specs.Prelude.{◌≡◌, ⊤, [], None, IfSome, OnSome};
 ghost use Rattle.futures.specs.Poll.{IfReady, OnPending};
 ghost use Rattle.futures.specs.Runs.{After, Within};
 ghost use Rattle.futures.specs.Task.{Covers, IsArmed, Keeps};
-ghost use Rattle.flow_law.specs.StateFlow.{state_flow};
+ghost use Rattle.flow_law.specs.flow.StateFlow.{state_flow};
 ghost use Rattle.flow_word.specs.Receiving.{WordPollsItem, ReceivesInTime, WordYields};
 
 use crate::handles::WordReader;
@@ -33,7 +33,7 @@ impl<'a, T: Packed> Model for WordValues<'a, T> {
     ghost use Rattle.flow_law.specs.declared.call.StateCall.{StateCall};
     ghost use Rattle.flow_law.specs.declared.call.StateReply.{StateReply};
     ghost use Rattle.flow_law.specs.declared.states.StateFlowState.{StateFlowState};
-    ghost use Rattle.flow_law.specs.Handles.{ReaderOf};
+    ghost use Rattle.flow_law.specs.history.Handles.{ReaderOf};
     ghost use Rattle.flow_word.specs.Tokens.{WordId};
 
     ghost Value = { ReaderOf WordId (StateFlowState T) (Said (StateCall T) (StateReply T)) };

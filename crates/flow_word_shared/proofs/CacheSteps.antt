@@ -13,8 +13,8 @@ use Rattle.flow_law.specs.declared.call.SharedReply.{SharedReply}
 use Rattle.flow_law.specs.declared.call.SharedReply.TheVariants as reply
 use Rattle.flow_law.specs.declared.fault.FlowFault.TheVariants.{OutOfMemory}
 use Rattle.flow_law.specs.declared.states.SharedFlowState.{SharedFlowState}
-use Rattle.flow_law.specs.SharedFlow.{values, cache, cache_start}
-use Rattle.flow_law.specs.SharedHistory.{History, Replies, hands_out, shared_flow}
+use Rattle.flow_law.specs.flow.SharedFlow.{values, cache, cache_start}
+use Rattle.flow_law.specs.flow.SharedHistory.{History, Replies, hands_out, shared_flow}
 use Rattle.flow_law.proofs.Boxes.{length_values}
 use Rattle.flow_law.proofs.HistoryLemmas.{after_all-snoc}
 use Rattle.flow_word_shared.specs.declared.view.RingKnown.{RingKnown}

@@ -5,14 +5,14 @@ use Rattle.flow_law.specs.declared.history.HistoryEvent.{HistoryEvent}
 use Rattle.flow_law.specs.declared.history.Said.{Said}
 use Rattle.flow_law.specs.declared.call.SharedCall.{SharedCall}
 use Rattle.flow_law.specs.declared.call.SharedReply.{SharedReply}
-use Rattle.flow_law.specs.Growth.{GrowsByOthers, event, child_name, loses}
-use Rattle.flow_law.specs.Promise.{Grows, said, AddsOne, CallsIn}
+use Rattle.flow_law.specs.history.Growth.{GrowsByOthers, event, child_name, loses}
+use Rattle.flow_law.specs.history.Promise.{Grows, said, AddsOne, CallsIn}
 use Rattle.flow_law.specs.declared.fault.FlowFault.{FlowFault}
 use Rattle.flow_law.specs.declared.call.SharedReply.TheVariants as reply
 use Rattle.flow_law.specs.declared.states.SharedFlowState.{SharedFlowState}
-use Rattle.flow_law.specs.History.{IsHistory}
-use Rattle.flow_law.specs.SharedHistory.{History, shared_flow}
-use Rattle.flow_law.specs.Tokens.{IsBusy, SubscribesIn, subscription_name}
+use Rattle.flow_law.specs.history.History.{IsHistory}
+use Rattle.flow_law.specs.flow.SharedHistory.{History, shared_flow}
+use Rattle.flow_law.specs.history.Tokens.{IsBusy, SubscribesIn, subscription_name}
 use Rattle.flow_law.proofs.Names.{every_append}
 use Rattle.flow_law.proofs.RealTimeLemmas.{grown_longer}
 use Rattle.flow_word_shared.specs.Steps.{SeesMore}

@@ -11,8 +11,8 @@ use Rattle.flow_law.specs.declared.call.SharedCall.TheVariants as call
 use Rattle.flow_law.specs.declared.call.SharedReply.TheVariants as reply
 use Rattle.flow_law.specs.declared.states.Numbered.{Numbered}
 use Rattle.flow_law.specs.declared.states.SharedFlowState.{SharedFlowState}
-use Rattle.flow_law.specs.SharedFlow.{values}
-use Rattle.flow_law.specs.SharedHistory.{History}
+use Rattle.flow_law.specs.flow.SharedFlow.{values}
+use Rattle.flow_law.specs.flow.SharedHistory.{History}
 use Rattle.flow_law.proofs.Boxes.{length_values}
 use Rattle.flow_law.proofs.SeatLemmas.{at_none}
 use Rattle.flow_word_shared.specs.declared.view.RingKnown.{RingKnown}

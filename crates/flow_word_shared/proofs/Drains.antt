@@ -4,7 +4,7 @@ use Rattle.std.specs.Prelude.{Result}
 use Rattle.flow_law.specs.declared.fault.FlowFault.{FlowFault}
 use Rattle.flow_law.specs.declared.outcome.Next.{Next}
 use Rattle.flow_law.specs.declared.states.SharedFlowState.{SharedFlowState}
-use Rattle.flow_law.specs.Draining.{NextsGive}
+use Rattle.flow_law.specs.flow.Draining.{NextsGive}
 use Rattle.flow_law.proofs.DrainingLemmas.{HasTaken}
 use Rattle.flow_word_shared.specs.Answers.{NextsTaken, WordFlowNexts}
 use Rattle.flow_word_shared.specs.Tokens.{WordFlowNumbered}

@@ -15,9 +15,9 @@ use Rattle.flow_law.specs.declared.call.SharedReply.{SharedReply}
 use Rattle.flow_law.specs.declared.call.SharedReply.TheVariants as reply
 use Rattle.flow_law.specs.declared.states.Numbered.{Numbered}
 use Rattle.flow_law.specs.declared.states.SharedFlowState.{SharedFlowState}
-use Rattle.flow_law.specs.EmitRule.{numbered}
-use Rattle.flow_law.specs.SharedFlow.{values}
-use Rattle.flow_law.specs.SharedHistory.{History, answer_to, Replies, after}
+use Rattle.flow_law.specs.flow.EmitRule.{numbered}
+use Rattle.flow_law.specs.flow.SharedFlow.{values}
+use Rattle.flow_law.specs.flow.SharedHistory.{History, answer_to, Replies, after}
 use Rattle.flow_law.proofs.Boxes.{length_values}
 use Rattle.flow_word_shared.specs.declared.view.RingKnown.{RingKnown}
 use Rattle.flow_word_shared.specs.declared.view.Hold.{Hold}

@@ -13,13 +13,13 @@ use Rattle.flow_law.specs.declared.history.Said.{Said}
 use Rattle.flow_law.specs.declared.call.SharedCall.{SharedCall}
 use Rattle.flow_law.specs.declared.call.SharedReply.{SharedReply}
 use Rattle.flow_law.specs.declared.states.SharedFlowState.{SharedFlowState}
-use Rattle.flow_law.specs.Growth.{Fits, GrowsByOthers, IsApartFrom, event}
-use Rattle.flow_law.specs.History.{MayCall}
-use Rattle.flow_law.specs.Promise.{said}
-use Rattle.flow_law.specs.RealTime.{IsTimed}
-use Rattle.flow_law.specs.Seats.{SeatAt}
-use Rattle.flow_law.specs.SharedFlow.{values}
-use Rattle.flow_law.specs.SharedHistory.{History, Replies, after, shared_after_all, shared_flow, IsSharedHistory}
+use Rattle.flow_law.specs.history.Growth.{Fits, GrowsByOthers, IsApartFrom, event}
+use Rattle.flow_law.specs.history.History.{MayCall}
+use Rattle.flow_law.specs.history.Promise.{said}
+use Rattle.flow_law.specs.history.RealTime.{IsTimed}
+use Rattle.flow_law.specs.history.Seats.{SeatAt}
+use Rattle.flow_law.specs.flow.SharedFlow.{values}
+use Rattle.flow_law.specs.flow.SharedHistory.{History, Replies, after, shared_after_all, shared_flow, IsSharedHistory}
 use Rattle.flow_law.proofs.HistoryLemmas.{after_all-snoc, IsHistory-snoc}
 use Rattle.flow_law.proofs.Names.{grew_refl, fits_more, fits_own}
 use Rattle.flow_law.proofs.RealTimeLemmas.{grown_longer, before_own, began_now, IsTimed-snoc}
@@ -217,7 +217,7 @@ module _ (T : Type 0) (packs : ℕ → Type 0) (value_of : ℕ → T) (start : R
       timed : IsTimed h'
       timed = IsTimed-snoc r.history e r.timed (began_now x.knows.name (said c y) r.history)
 
-      names : Rattle.flow_law.specs.Growth.NamesOnlyMade x.knows.name x.knows.made h'
+      names : Rattle.flow_law.specs.history.Growth.NamesOnlyMade x.knows.name x.knows.made h'
       names = fits_own r.history x.knows (length r.history) (said c y) fits
 
   -- a step of no event

@@ -9,12 +9,12 @@ use lib.ListN.{get_elem?}
 use Rattle.atomic_table.specs.Table.{Final, Seen}
 use Rattle.flow_law.specs.declared.config.Config.{Config}
 use Rattle.flow_law.specs.declared.states.SharedFlowState.{SharedFlowState}
-use Rattle.flow_law.specs.Growth.{Fits}
-use Rattle.flow_law.specs.SharedFlow.{values, cache_start}
-use Rattle.flow_law.specs.SharedHistory.{History, shared_flow, shared_after_all}
-use Rattle.flow_law.specs.Standing.{StandsForHistory}
+use Rattle.flow_law.specs.history.Growth.{Fits}
+use Rattle.flow_law.specs.flow.SharedFlow.{values, cache_start}
+use Rattle.flow_law.specs.flow.SharedHistory.{History, shared_flow, shared_after_all}
+use Rattle.flow_law.specs.flow.Standing.{StandsForHistory}
 use Rattle.flow_law.proofs.Boxes.{length_values}
-use Rattle.flow_law.proofs.Steps.{drop_here}
+use Rattle.flow_law.proofs.MailboxSteps.{drop_here}
 use Rattle.flow_word_shared.specs.declared.view.RingKnown.{RingKnown}
 use Rattle.flow_word_shared.specs.declared.view.RingStart.{RingStart}
 use Rattle.flow_word_shared.specs.Closing.{StandsAsClosed, in_cells, closed_flow}

@@ -17,15 +17,15 @@ use Rattle.flow_law.specs.declared.call.SharedCall.{SharedCall}
 use Rattle.flow_law.specs.declared.call.SharedCall.TheVariants as call
 use Rattle.flow_law.specs.declared.call.SharedReply.{SharedReply}
 use Rattle.flow_law.specs.declared.call.SharedReply.TheVariants as reply
-use Rattle.flow_law.specs.Growth.{IsSilent}
-use Rattle.flow_law.specs.History.{subscriber, IsGiven, MayCall}
+use Rattle.flow_law.specs.history.Growth.{IsSilent}
+use Rattle.flow_law.specs.history.History.{subscriber, IsGiven, MayCall}
 use Rattle.flow_law.specs.declared.states.Numbered.{Numbered}
 use Rattle.flow_law.specs.declared.states.Subscriber.{Subscriber}
 use Rattle.flow_law.specs.declared.states.SharedFlowState.{SharedFlowState}
-use Rattle.flow_law.specs.SharedFlow.{Replied, first_state, capacity, window, lag, values, is_blocked, is_offering, is_offered_as, newest, is_exhausted, answer, issuing, position_of, own_of, stand_at, move_to}
-use Rattle.flow_law.specs.EmitRule.{EmitCase, appends, offers, drops_oldest, when_blocked, is_open, emit_case, emit_in, try_emit_in, numbered, append, suspend, drop_oldest}
-use Rattle.flow_law.specs.SharedStep.{admit, settle, withdraw, advance, leave, enroll, keep_own, read, next_from, next}
-use Rattle.flow_law.specs.SharedHistory.{History, SharedOutcome, outcome_of, Replies, answer_to, is_refused, after, state_after, speaks_of, shared_flow, IsSharedHistory}
+use Rattle.flow_law.specs.flow.SharedFlow.{Replied, first_state, capacity, window, lag, values, is_blocked, is_offering, is_offered_as, newest, is_exhausted, answer, issuing, position_of, own_of, stand_at, move_to}
+use Rattle.flow_law.specs.flow.EmitRule.{EmitCase, appends, offers, drops_oldest, when_blocked, is_open, emit_case, emit_in, try_emit_in, numbered, append, suspend, drop_oldest}
+use Rattle.flow_law.specs.flow.SharedStep.{admit, settle, withdraw, advance, leave, enroll, keep_own, read, next_from, next}
+use Rattle.flow_law.specs.flow.SharedHistory.{History, SharedOutcome, outcome_of, Replies, answer_to, is_refused, after, state_after, speaks_of, shared_flow, IsSharedHistory}
 use Rattle.flow_law.proofs.Boxes.{length_values}
 use Rattle.flow_law.proofs.Growing.{event_grown, history_grown}
 use Rattle.flow_law.proofs.Moves.{event_keeps}
@@ -34,7 +34,7 @@ use Rattle.flow_law.proofs.Queue.{fits_drops}
 use Rattle.flow_law.proofs.Rows.{split, position-move_to, position-move_to_other, position-without_other, position-with_own, lag_below, own-with_own_other, own-move_to, own-map, own-without_other}
 use Rattle.flow_law.proofs.SharedLawful.{shared_lawful}
 use Rattle.flow_law.proofs.Sound.{Sound, sound_keeps, always_sound}
-use Rattle.flow_law.proofs.Steps.{emit_split, try_emit_split}
+use Rattle.flow_law.proofs.MailboxSteps.{emit_split, try_emit_split}
 use Rattle.flow_word_shared.specs.Steps.{Stands, emission_of, emission_done}
 
 some_same : {A : Type 0} (a b : A) → Some a ≡ Some b → a ≡ b

@@ -5,8 +5,8 @@ use Rattle.flow_law.specs.declared.fault.FlowFault.{FlowFault}
 use Rattle.flow_law.specs.declared.outcome.Next.{Next}
 use Rattle.flow_law.specs.declared.outcome.Next.TheVariants.{Value, Empty}
 use Rattle.flow_law.specs.declared.states.SharedFlowState.{SharedFlowState}
-use Rattle.flow_law.specs.Handles.{next_of}
-use Rattle.flow_law.specs.SharedHistory.{shared_flow}
+use Rattle.flow_law.specs.history.Handles.{next_of}
+use Rattle.flow_law.specs.flow.SharedHistory.{shared_flow}
 use Rattle.flow_word.specs.Receiving.{WordNextGives, AsksInVain, not_asked, one_more, WordReceives, FindsNone, WordYields}
 use Rattle.flow_word.proofs.Waits.{in_vain_far, receives_far}
 use Rattle.flow_word_shared.specs.Answers.{HasTried, WordNextsNow}

@@ -16,11 +16,11 @@ use Rattle.flow_law.specs.declared.call.SharedReply.{SharedReply}
 use Rattle.flow_law.specs.declared.call.SharedReply.TheVariants as reply
 use Rattle.flow_law.specs.declared.states.Numbered.{Numbered}
 use Rattle.flow_law.specs.declared.states.SharedFlowState.{SharedFlowState}
-use Rattle.flow_law.specs.Growth.{Fits}
-use Rattle.flow_law.specs.History.{subscriber}
-use Rattle.flow_law.specs.SharedFlow.{values, answer, move_to}
-use Rattle.flow_law.specs.SharedStep.{next}
-use Rattle.flow_law.specs.SharedHistory.{History, outcome_of, Replies, after, shared_after_all, shared_flow, IsSharedHistory}
+use Rattle.flow_law.specs.history.Growth.{Fits}
+use Rattle.flow_law.specs.history.History.{subscriber}
+use Rattle.flow_law.specs.flow.SharedFlow.{values, answer, move_to}
+use Rattle.flow_law.specs.flow.SharedStep.{next}
+use Rattle.flow_law.specs.flow.SharedHistory.{History, outcome_of, Replies, after, shared_after_all, shared_flow, IsSharedHistory}
 use Rattle.flow_law.proofs.Boxes.{length_values}
 use Rattle.flow_law.proofs.Growing.{Grown, history_grown}
 use Rattle.flow_law.proofs.HistoryLemmas.{after_all-snoc, IsHistory-snoc}

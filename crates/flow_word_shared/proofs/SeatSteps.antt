@@ -7,10 +7,10 @@ use lib.ListN.{get_elem?}
 use lib.Seq.{set-get_or}
 use Rattle.atomic_table.specs.Table.{State, Me, step, keeps, Allows, Splits, Joins, opening}
 use Rattle.atomic_table.proofs.Lists.{set_again}
-use Rattle.flow_law.specs.SharedFlow.{config_fault}
-use Rattle.flow_law.specs.SharedHistory.{History, IsSharedHistory}
-use Rattle.flow_law.specs.Growth.{Fits, makes, child, sees}
-use Rattle.flow_law.specs.Seats.{SeatAt, SeatsFit}
+use Rattle.flow_law.specs.flow.SharedFlow.{config_fault}
+use Rattle.flow_law.specs.flow.SharedHistory.{History, IsSharedHistory}
+use Rattle.flow_law.specs.history.Growth.{Fits, makes, child, sees}
+use Rattle.flow_law.specs.history.Seats.{SeatAt, SeatsFit}
 use Rattle.flow_law.proofs.Names.{grew_refl, makes_fits, child_fits}
 use Rattle.flow_law.proofs.SeatLemmas.{changed, made, spent_more, joined, parted, at_only}
 use Rattle.flow_word_shared.specs.declared.view.RingKnown.{RingKnown}

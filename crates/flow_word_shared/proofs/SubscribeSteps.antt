@@ -14,13 +14,13 @@ use Rattle.flow_law.specs.declared.call.SharedReply.{SharedReply}
 use Rattle.flow_law.specs.declared.call.SharedReply.TheVariants as reply
 use Rattle.flow_law.specs.declared.states.SharedFlowState.{SharedFlowState}
 use Rattle.flow_law.specs.declared.states.Subscriber.{Subscriber}
-use Rattle.flow_law.specs.Growth.{child}
-use Rattle.flow_law.specs.History.{subscriber}
-use Rattle.flow_law.specs.Laws.{RisesTo}
-use Rattle.flow_law.specs.SharedFlow.{Replied, answer, issuing, is_exhausted, is_offering, cache_start, entry, position_of, own_of, without}
-use Rattle.flow_law.specs.SharedStep.{enroll, subscribe, leave, forget}
-use Rattle.flow_law.specs.SharedHistory.{History, reply_by, Replies, after, shared_after_all, shared_flow}
-use Rattle.flow_law.specs.Tokens.{subscription_name}
+use Rattle.flow_law.specs.history.Growth.{child}
+use Rattle.flow_law.specs.history.History.{subscriber}
+use Rattle.flow_law.specs.laws.Laws.{RisesTo}
+use Rattle.flow_law.specs.flow.SharedFlow.{Replied, answer, issuing, is_exhausted, is_offering, cache_start, entry, position_of, own_of, without}
+use Rattle.flow_law.specs.flow.SharedStep.{enroll, subscribe, leave, forget}
+use Rattle.flow_law.specs.flow.SharedHistory.{History, reply_by, Replies, after, shared_after_all, shared_flow}
+use Rattle.flow_law.specs.history.Tokens.{subscription_name}
 use Rattle.flow_law.proofs.Boxes.{length_values}
 use Rattle.flow_law.proofs.HistoryLemmas.{after_all-snoc}
 use Rattle.flow_law.proofs.Owners.{last_given}
@@ -57,8 +57,8 @@ module _ {T : Type 0} where
       (λ _ e _. ap suc (kept_all n u.number top us h.1 (omega (arith, (Decides-eqb u.number n).0 e))))
       (λ _ _ q. ap suc (one_fewer n u.number top us h.1 q)) refl there
 
-  pub live_few : (config : Config) (h : History T) → length (shared_after_all (Rattle.flow_law.specs.SharedFlow.first_state config) h).subscribers ≤ (shared_after_all (Rattle.flow_law.specs.SharedFlow.first_state config) h).issued
-  live_few config h = let st = shared_after_all (Rattle.flow_law.specs.SharedFlow.first_state config) h in
+  pub live_few : (config : Config) (h : History T) → length (shared_after_all (Rattle.flow_law.specs.flow.SharedFlow.first_state config) h).subscribers ≤ (shared_after_all (Rattle.flow_law.specs.flow.SharedFlow.first_state config) h).issued
+  live_few config h = let st = shared_after_all (Rattle.flow_law.specs.flow.SharedFlow.first_state config) h in
       omega (arith, rises_few 0 st.issued (numbers_of st.subscribers) (always_in_order config h), length-map st.subscribers (λ (u : Subscriber T). u.number))
 
 module _ (T : Type 0) (packs : ℕ → Type 0) (value_of : ℕ → T) (start : RingStart) where
@@ -107,7 +107,7 @@ module _ (T : Type 0) (packs : ℕ → Type 0) (value_of : ℕ → T) (start : R
         made = subst (λ m. m + length st.emitted ≡ st.issued + r.ahead) (sym (get_or-set_other s.words 2 1 new 0 (λ e. absurd (omega arith)))) w.made;
         live = get_or-set_same s.words 2 new 0 (omega arith) ∙ now_is;
         mark = get_or-set_other s.words 2 3 new 0 (λ e. absurd (omega arith)) ∙ w.mark;
-        cells = λ k a b. subst (HasValue packs value_of (Rattle.flow_law.specs.SharedFlow.values st) k) (sym (get_or-set_other s.words 2 (cell_at start k) new 0 (λ e. absurd (omega arith)))) (w.cells k a b);
+        cells = λ k a b. subst (HasValue packs value_of (Rattle.flow_law.specs.flow.SharedFlow.values st) k) (sym (get_or-set_other s.words 2 (cell_at start k) new 0 (λ e. absurd (omega arith)))) (w.cells k a b);
         rested = w.rested;
       } in
       let done = event_step T packs value_of start s r id me.0 me.1 c y is at r.owner r.ahead (set s.words 2 new) None (Some x) replies here.given
@@ -164,7 +164,7 @@ module _ (T : Type 0) (packs : ℕ → Type 0) (value_of : ℕ → T) (start : R
         made = omega (arith, get_or-set_same s.words 1 new 0 (omega arith), issued, more, len);
         live = get_or-set_other s.words 1 2 new 0 (λ e. absurd (omega arith)) ∙ w.live;
         mark = get_or-set_other s.words 1 3 new 0 (λ e. absurd (omega arith)) ∙ w.mark;
-        cells = λ k a b. subst (HasValue packs value_of (Rattle.flow_law.specs.SharedFlow.values st) k) (sym (get_or-set_other s.words 1 (cell_at start k) new 0 (λ e. absurd (omega arith)))) (w.cells k a b);
+        cells = λ k a b. subst (HasValue packs value_of (Rattle.flow_law.specs.flow.SharedFlow.values st) k) (sym (get_or-set_other s.words 1 (cell_at start k) new 0 (λ e. absurd (omega arith)))) (w.cells k a b);
         rested = λ free. let no : None ≡ Some name = sym free ∙ f.0 in absurd (cc);
       } in (
         turned T packs value_of start x x.knows.seen (Some h') x.reads ∷ [],
@@ -191,7 +191,7 @@ module _ (T : Type 0) (packs : ℕ → Type 0) (value_of : ℕ → T) (start : R
           refl,
           ap (λ q. Some (reading (m + 1) q [])) place_is,
           subst (λ (z : RingStart × ℕ). IsAt z.0 (child (saw x.knows.lost h' x.knows)) (m + 1) z.1) (λ i. (sym began i, place_is i)) stands_at,
-          subst (λ (z : RingStart). h.length ≡ length (log_after z h')) (sym began) (f.1 ∙ sym (length_values st) ∙ ap (λ (t : SharedFlowState T). length (Rattle.flow_law.specs.SharedFlow.values t)) (sym next_state)),
+          subst (λ (z : RingStart). h.length ≡ length (log_after z h')) (sym began) (f.1 ∙ sym (length_values st) ∙ ap (λ (t : SharedFlowState T). length (Rattle.flow_law.specs.flow.SharedFlow.values t)) (sym next_state)),
           omega (arith, usual.sound.placed.reset_mark, f.1, mark),
         ),
   )
@@ -302,7 +302,7 @@ module _ (T : Type 0) (packs : ℕ → Type 0) (value_of : ℕ → T) (start : R
         made = omega (arith, get_or-set_other s.words 2 1 new 0 (λ e. absurd (omega arith)), made, ahead_is, ahead);
         live = get_or-set_same s.words 2 new 0 (omega arith) ∙ now_is;
         mark = get_or-set_other s.words 2 3 new 0 (λ e. absurd (omega arith)) ∙ w.mark;
-        cells = λ j a b. subst (HasValue packs value_of (Rattle.flow_law.specs.SharedFlow.values st) j) (sym (get_or-set_other s.words 2 (cell_at start j) new 0 (λ e. absurd (omega arith)))) (w.cells j a b);
+        cells = λ j a b. subst (HasValue packs value_of (Rattle.flow_law.specs.flow.SharedFlow.values st) j) (sym (get_or-set_other s.words 2 (cell_at start j) new 0 (λ e. absurd (omega arith)))) (w.cells j a b);
         rested = λ _. refl;
       }
 
@@ -334,7 +334,7 @@ module _ (T : Type 0) (packs : ℕ → Type 0) (value_of : ℕ → T) (start : R
         made = subst (λ m. m + length st.emitted ≡ st.issued + r.ahead) (sym (get_or-set_other s.words 3 1 new 0 (λ e. absurd (omega arith)))) w.made;
         live = get_or-set_other s.words 3 2 new 0 (λ e. absurd (omega arith)) ∙ w.live;
         mark = get_or-set_same s.words 3 new 0 (omega arith) ∙ at_end ∙ f.1;
-        cells = λ j a b. subst (HasValue packs value_of (Rattle.flow_law.specs.SharedFlow.values st) j) (sym (get_or-set_other s.words 3 (cell_at start j) new 0 (λ e. absurd (omega arith)))) (w.cells j a b);
+        cells = λ j a b. subst (HasValue packs value_of (Rattle.flow_law.specs.flow.SharedFlow.values st) j) (sym (get_or-set_other s.words 3 (cell_at start j) new 0 (λ e. absurd (omega arith)))) (w.cells j a b);
         rested = w.rested;
       } in
       let done = event_step T packs value_of start s r id me.0 me.1 c y is at r.owner r.ahead (set s.words 3 new) (Some (holding h.length)) x.reads refl tt fit

@@ -3,7 +3,7 @@ use Rattle.std.proofs.Common.{◌≡◌, ◌≢◌, ℕ, ◌+◌, ◌-◌, ◌�
 use Rattle.std.specs.Prelude.{max, Result, Ok}
 use Rattle.atomic_table.specs.Seated.{TableId}
 use Rattle.atomic_table.specs.declared.shared.Seat.{Seat}
-use Rattle.flow_law.specs.Draining.{NextsGive}
+use Rattle.flow_law.specs.flow.Draining.{NextsGive}
 use Rattle.flow_law.specs.declared.call.SharedCall.{SharedCall}
 use Rattle.flow_law.specs.declared.call.SharedCall.TheVariants as call
 use Rattle.flow_law.specs.declared.call.SharedReply.{SharedReply}
@@ -12,11 +12,11 @@ use Rattle.flow_law.specs.declared.outcome.Next.{Next}
 use Rattle.flow_law.specs.declared.outcome.Next.TheVariants.{Value}
 use Rattle.flow_law.specs.declared.fault.FlowFault.{FlowFault}
 use Rattle.flow_law.specs.declared.states.SharedFlowState.{SharedFlowState}
-use Rattle.flow_law.specs.History.{IsHistory, replied}
-use Rattle.flow_law.specs.Promise.{AddsOne, CallsIn, CallsAtOnceIn}
-use Rattle.flow_law.specs.Growth.{Fits}
-use Rattle.flow_law.specs.SharedHistory.{History, shared_flow}
-use Rattle.flow_law.specs.Tokens.{token, numbered_token}
+use Rattle.flow_law.specs.history.History.{IsHistory, replied}
+use Rattle.flow_law.specs.history.Promise.{AddsOne, CallsIn, CallsAtOnceIn}
+use Rattle.flow_law.specs.history.Growth.{Fits}
+use Rattle.flow_law.specs.flow.SharedHistory.{History, shared_flow}
+use Rattle.flow_law.specs.history.Tokens.{token, numbered_token}
 use Rattle.flow_word_shared.specs.declared.view.RingKnown.{RingKnown}
 use Rattle.flow_word_shared.specs.Answers.{HasTried, IsOverrun, WordFlowNexts, NextsTaken}
 use Rattle.flow_word_shared.specs.Rule.{capacity_of}

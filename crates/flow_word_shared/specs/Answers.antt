@@ -10,11 +10,11 @@ use Rattle.flow_law.specs.declared.outcome.Emit.TheVariants.{Done}
 use Rattle.flow_law.specs.declared.outcome.Next.{Next}
 use Rattle.flow_law.specs.declared.outcome.Next.TheVariants.{Gone}
 use Rattle.flow_law.specs.declared.states.SharedFlowState.{SharedFlowState}
-use Rattle.flow_law.specs.SharedFlow.{config_fault}
-use Rattle.flow_law.specs.SharedHistory.{shared_flow}
-use Rattle.flow_law.specs.Draining.{NextsGive}
-use Rattle.flow_law.specs.Tokens.{NextsIn, IsBusy}
-use Rattle.flow_law.specs.Promise.{CallsAtOnceIn}
+use Rattle.flow_law.specs.flow.SharedFlow.{config_fault}
+use Rattle.flow_law.specs.flow.SharedHistory.{shared_flow}
+use Rattle.flow_law.specs.flow.Draining.{NextsGive}
+use Rattle.flow_law.specs.history.Tokens.{NextsIn, IsBusy}
+use Rattle.flow_law.specs.history.Promise.{CallsAtOnceIn}
 use Rattle.flow_word_shared.specs.declared.fault.WordFlowFault.{WordFlowFault}
 use Rattle.flow_word_shared.specs.declared.fault.WordFlowFault.TheVariants.{Flow, Strategy}
 use Rattle.flow_word_shared.specs.Steps.{SeesMore}

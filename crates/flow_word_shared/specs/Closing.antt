@@ -1,10 +1,10 @@
 -- What contracts see of a flow that was closed. Begin with `WordFlowEndsAs`.
 use Rattle.std.specs.Prelude.{◌≡◌, ℕ, zero, suc, ◌+◌, ◌-◌, ◌%◌, List, [], ◌∷◌, length, slice_index_or}
 use Rattle.flow_law.specs.declared.states.SharedFlowState.{SharedFlowState}
-use Rattle.flow_law.specs.Growth.{Fits}
-use Rattle.flow_law.specs.SharedFlow.{cache}
-use Rattle.flow_law.specs.SharedHistory.{History, shared_flow}
-use Rattle.flow_law.specs.Standing.{StandsForHistory}
+use Rattle.flow_law.specs.history.Growth.{Fits}
+use Rattle.flow_law.specs.flow.SharedFlow.{cache}
+use Rattle.flow_law.specs.flow.SharedHistory.{History, shared_flow}
+use Rattle.flow_law.specs.flow.Standing.{StandsForHistory}
 use Rattle.flow_word_shared.specs.Rule.{head}
 use Rattle.flow_word_shared.specs.Tokens.{WordFlowToken}
 

@@ -3,7 +3,7 @@ use Rattle.flow_law.specs.declared.call.SharedCall.{SharedCall}
 use Rattle.flow_law.specs.declared.call.SharedReply.{SharedReply}
 use Rattle.flow_law.specs.declared.history.Said.{Said}
 use Rattle.flow_law.specs.declared.states.SharedFlowState.{SharedFlowState}
-use Rattle.flow_law.specs.Handles.{CallerOf, ReaderOf}
+use Rattle.flow_law.specs.history.Handles.{CallerOf, ReaderOf}
 use Rattle.flow_word_shared.specs.Tokens.{WordFlowId}
 
 -- a seat and its flow

@@ -5,11 +5,11 @@ use Rattle.std.specs.Prelude.{◌≡◌, ℕ, ◌+◌, ◌*◌, ◌%◌, ◌<◌
 use Rattle.atomic_table.specs.Table.{State}
 use Rattle.flow_law.specs.declared.config.Overflow.TheVariants.{DropOldest}
 use Rattle.flow_law.specs.declared.states.SharedFlowState.{SharedFlowState}
-use Rattle.flow_law.specs.Growth.{Fits}
-use Rattle.flow_law.specs.RealTime.{IsTimed}
-use Rattle.flow_law.specs.Seats.{SeatsFit}
-use Rattle.flow_law.specs.SharedFlow.{values}
-use Rattle.flow_law.specs.SharedHistory.{History, shared_after_all, IsSharedHistory}
+use Rattle.flow_law.specs.history.Growth.{Fits}
+use Rattle.flow_law.specs.history.RealTime.{IsTimed}
+use Rattle.flow_law.specs.history.Seats.{SeatsFit}
+use Rattle.flow_law.specs.flow.SharedFlow.{values}
+use Rattle.flow_law.specs.flow.SharedHistory.{History, shared_after_all, IsSharedHistory}
 use Rattle.flow_word_shared.specs.declared.view.RingKnown.{RingKnown}
 use Rattle.flow_word_shared.specs.declared.view.Hold.{Hold}
 use Rattle.flow_word_shared.specs.declared.view.RingStart.{RingStart}

@@ -10,13 +10,13 @@ use Rattle.flow_law.specs.declared.fault.FlowFault.TheVariants.{Exhausted, OutOf
 use Rattle.flow_law.specs.declared.outcome.Emit.TheVariants.{Done}
 use Rattle.flow_law.specs.declared.outcome.Next.TheVariants.{Value, Empty}
 use Rattle.flow_law.specs.declared.states.SharedFlowState.{SharedFlowState}
-use Rattle.flow_law.specs.Growth.{Fits, GrowsByOthers, child, loses, sees}
-use Rattle.flow_law.specs.Tokens.{subscription_name}
-use Rattle.flow_law.specs.History.{subscriber, IsGiven}
-use Rattle.flow_law.specs.Promise.{AddsOne}
-use Rattle.flow_law.specs.RealTime.{IsTimed}
-use Rattle.flow_law.specs.SharedFlow.{position_of, own_of, values}
-use Rattle.flow_law.specs.SharedHistory.{History, shared_flow, shared_after_all, IsSharedHistory}
+use Rattle.flow_law.specs.history.Growth.{Fits, GrowsByOthers, child, loses, sees}
+use Rattle.flow_law.specs.history.Tokens.{subscription_name}
+use Rattle.flow_law.specs.history.History.{subscriber, IsGiven}
+use Rattle.flow_law.specs.history.Promise.{AddsOne}
+use Rattle.flow_law.specs.history.RealTime.{IsTimed}
+use Rattle.flow_law.specs.flow.SharedFlow.{position_of, own_of, values}
+use Rattle.flow_law.specs.flow.SharedHistory.{History, shared_flow, shared_after_all, IsSharedHistory}
 use Rattle.flow_word_shared.specs.declared.view.RingKnown.{RingKnown}
 use Rattle.flow_word_shared.specs.declared.view.Hold.{Hold}
 use Rattle.flow_word_shared.specs.declared.view.Reads.{Reads}

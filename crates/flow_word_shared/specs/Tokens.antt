@@ -6,9 +6,9 @@ use Rattle.flow_law.specs.declared.history.Said.{Said}
 use Rattle.flow_law.specs.declared.call.SharedCall.{SharedCall}
 use Rattle.flow_law.specs.declared.call.SharedReply.{SharedReply}
 use Rattle.flow_law.specs.declared.states.SharedFlowState.{SharedFlowState}
-use Rattle.flow_law.specs.Tokens as flows
-use Rattle.flow_law.specs.Promise.{Token}
-use Rattle.flow_law.specs.Tokens.{token}
+use Rattle.flow_law.specs.history.Tokens as flows
+use Rattle.flow_law.specs.history.Promise.{Token}
+use Rattle.flow_law.specs.history.Tokens.{token}
 use Rattle.flow_word_shared.specs.declared.view.RingKnown.{RingKnown}
 use Rattle.flow_word_shared.specs.declared.view.Hold.{Hold}
 use Rattle.flow_word_shared.specs.declared.view.RingStart.{RingStart}

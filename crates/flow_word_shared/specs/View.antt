@@ -6,9 +6,9 @@ use Rattle.flow_law.specs.declared.history.Said.{Said}
 use Rattle.flow_law.specs.declared.call.SharedCall.{SharedCall}
 use Rattle.flow_law.specs.declared.call.SharedReply.{SharedReply}
 use Rattle.flow_law.specs.declared.states.SharedFlowState.{SharedFlowState}
-use Rattle.flow_law.specs.Growth.{first_knowledge, knowledge}
-use Rattle.flow_law.specs.SharedFlow.{first_state}
-use Rattle.flow_law.specs.SharedHistory.{History}
+use Rattle.flow_law.specs.history.Growth.{first_knowledge, knowledge}
+use Rattle.flow_law.specs.flow.SharedFlow.{first_state}
+use Rattle.flow_law.specs.flow.SharedHistory.{History}
 use Rattle.flow_word_shared.specs.declared.view.RingKnown.{RingKnown}
 use Rattle.flow_word_shared.specs.declared.view.Hold.{Hold}
 use Rattle.flow_word_shared.specs.declared.view.Reads.{Reads}

@@ -3,8 +3,8 @@ ghost use Rattle.std.specs.Prelude.{◌≡◌, ◌≢◌, ◌+◌, ◌-◌, ◌<
 ghost use Rattle.std.specs.List.{AllByRecursion};
 ghost use Rattle.std.specs.Result.{OnErr};
 ghost use Rattle.std.specs.Vec.{vec_len, vec_capacity};
-ghost use Rattle.flow_law.specs.Draining.{DrainsBy, IsFull};
-ghost use Rattle.flow_law.specs.Tokens.{numbered_token};
+ghost use Rattle.flow_law.specs.flow.Draining.{DrainsBy, IsFull};
+ghost use Rattle.flow_law.specs.history.Tokens.{numbered_token};
 ghost use Rattle.flow_law.specs.declared.fault.FlowFault.TheVariants.{OutOfMemory};
 ghost use Rattle.flow_law.specs.declared.outcome.Drained.TheVariants.{Gone};
 ghost use Rattle.flow_law.specs.declared.outcome.Next.TheVariants.{Empty};

@@ -4,10 +4,10 @@ ghost use Rattle.flow_law.specs.declared.fault.FlowFault.TheVariants.{Exhausted}
 ghost use Rattle.flow_law.specs.declared.call.SharedCall.TheVariants as call;
 ghost use Rattle.flow_law.specs.declared.call.SharedReply.TheVariants as reply;
 ghost use Rattle.flow_law.specs.declared.outcome.Emit.TheVariants.{Done};
-ghost use Rattle.flow_law.specs.History.{replied, fault_alone};
-ghost use Rattle.flow_law.specs.SharedHistory.{shared_flow};
-ghost use Rattle.flow_law.specs.Tokens.{IsBusy};
-ghost use Rattle.flow_law.specs.Promise.{CallsIn, CallsAtOnceIn};
+ghost use Rattle.flow_law.specs.history.History.{replied, fault_alone};
+ghost use Rattle.flow_law.specs.flow.SharedHistory.{shared_flow};
+ghost use Rattle.flow_law.specs.history.Tokens.{IsBusy};
+ghost use Rattle.flow_law.specs.history.Promise.{CallsIn, CallsAtOnceIn};
 ghost use Rattle.flow_word_shared.specs.Answers.{WordEmitsNow};
 ghost use Rattle.flow_word_shared.specs.Steps.{emission_of, emission_done};
 

@@ -2,9 +2,9 @@
 ghost use Rattle.std.specs.Prelude.{◌≡◌, ◌+◌, ◌<◌, ◌≤◌, ◌^◌, MatchResult, None};
 ghost use Rattle.flow_law.specs.declared.config.Overflow.TheVariants.{DropOldest};
 ghost use Rattle.flow_law.specs.declared.fault.FlowFault.TheVariants.{OutOfMemory};
-ghost use Rattle.flow_law.specs.Growth.{makes, child};
-ghost use Rattle.flow_law.specs.SharedFlow.{config_fault, first_state};
-ghost use Rattle.flow_law.specs.Tokens.{Begins, knowing};
+ghost use Rattle.flow_law.specs.history.Growth.{makes, child};
+ghost use Rattle.flow_law.specs.flow.SharedFlow.{config_fault, first_state};
+ghost use Rattle.flow_law.specs.history.Tokens.{Begins, knowing};
 ghost use Rattle.flow_word_shared.specs.declared.fault.WordFlowFault.TheVariants.{Flow};
 ghost use Rattle.flow_word_shared.specs.Answers.{NoWordFlow, with_word_limit};
 

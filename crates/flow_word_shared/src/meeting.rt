@@ -1,14 +1,14 @@
 //! Meetings, after which two callers have seen the same history, and the laws of what a token has seen.
 ghost use Rattle.std.specs.Prelude.{◌≡◌, ℕ, None, IsSome};
-ghost use Rattle.flow_law.specs.History.{IsHistory};
-ghost use Rattle.flow_law.specs.Lagging.{EachLags};
-ghost use Rattle.flow_law.specs.Laws.{Delivers, NoIdleQueue};
-ghost use Rattle.flow_law.specs.RealTime.{InRealTime, IsTimed};
-ghost use Rattle.flow_law.specs.Replaying.{EachReplays};
-ghost use Rattle.flow_law.specs.SharedFlow.{position_of};
-ghost use Rattle.flow_law.specs.SharedHistory.{shared_flow, state_after};
-ghost use Rattle.flow_law.specs.Tokens.{MeetsIn};
-ghost use Rattle.flow_law.specs.Waiting.{EachWaits};
+ghost use Rattle.flow_law.specs.history.History.{IsHistory};
+ghost use Rattle.flow_law.specs.laws.Lagging.{EachLags};
+ghost use Rattle.flow_law.specs.laws.Laws.{Delivers, NoIdleQueue};
+ghost use Rattle.flow_law.specs.history.RealTime.{InRealTime, IsTimed};
+ghost use Rattle.flow_law.specs.laws.Replaying.{EachReplays};
+ghost use Rattle.flow_law.specs.flow.SharedFlow.{position_of};
+ghost use Rattle.flow_law.specs.flow.SharedHistory.{shared_flow, state_after};
+ghost use Rattle.flow_law.specs.history.Tokens.{MeetsIn};
+ghost use Rattle.flow_law.specs.laws.Waiting.{EachWaits};
 ghost use Rattle.flow_word_shared.specs.Rule.{IsStart};
 ghost use Rattle.flow_word_shared.specs.Tokens.{ring_token, IsHolding};
 ghost use Rattle.flow_word_shared.specs.View.{began_as, only};

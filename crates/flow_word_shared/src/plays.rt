@@ -1,6 +1,6 @@
 //! What each step on a word proves. Nothing here runs.
 ghost use Rattle.std.specs.Prelude.{[], ◌++◌, map, take};
-ghost use Rattle.flow_law.specs.Growth.{makes, child};
+ghost use Rattle.flow_law.specs.history.Growth.{makes, child};
 ghost use Rattle.flow_word_shared.specs.View.{ring_with_knows, first_of_two, rest_of_two};
 ghost use Rattle.flow_word_shared.specs.Steps.{takes, counts_issued, fills, refuses, releases, publishes, counts_mark, refuses_subscriber, runs_ahead, enrolls, resets, counts_live, leaves, looks, reads_cell, confirms, caches, refuses_cache, reads_held, observes_all, looks_back};
 

@@ -3,9 +3,9 @@ ghost use Rattle.std.specs.Prelude.{◌≡◌, ◌≢◌, IfSome, None, Ok};
 ghost use Rattle.flow_law.specs.declared.call.SharedCall.TheVariants as call;
 ghost use Rattle.flow_law.specs.declared.call.SharedReply.TheVariants as reply;
 ghost use Rattle.flow_law.specs.declared.outcome.Next.TheVariants.{Gone};
-ghost use Rattle.flow_law.specs.SharedHistory.{shared_flow};
-ghost use Rattle.flow_law.specs.Tokens.{NextsIn};
-ghost use Rattle.flow_law.specs.Promise.{CallsAtOnceIn};
+ghost use Rattle.flow_law.specs.flow.SharedHistory.{shared_flow};
+ghost use Rattle.flow_law.specs.history.Tokens.{NextsIn};
+ghost use Rattle.flow_law.specs.history.Promise.{CallsAtOnceIn};
 ghost use Rattle.flow_word_shared.specs.Answers.{IsOverrun, WordNextsNow};
 
 use crate::reading::AHEAD;

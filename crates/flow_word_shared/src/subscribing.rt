@@ -3,9 +3,9 @@ ghost use Rattle.std.specs.Prelude.{◌≡◌, IfSome, IfErr, None, []};
 ghost use Rattle.flow_law.specs.declared.fault.FlowFault.TheVariants.{Exhausted};
 ghost use Rattle.flow_law.specs.declared.call.SharedCall.TheVariants as call;
 ghost use Rattle.flow_law.specs.declared.call.SharedReply.TheVariants as reply;
-ghost use Rattle.flow_law.specs.SharedHistory.{shared_flow};
-ghost use Rattle.flow_law.specs.Tokens.{IsBusy, SubscribesIn, UnsubscribesIn};
-ghost use Rattle.flow_law.specs.Promise.{CallsAtOnceIn};
+ghost use Rattle.flow_law.specs.flow.SharedHistory.{shared_flow};
+ghost use Rattle.flow_law.specs.history.Tokens.{IsBusy, SubscribesIn, UnsubscribesIn};
+ghost use Rattle.flow_law.specs.history.Promise.{CallsAtOnceIn};
 
 use crate::plays::{
     CountIssued, CountLive, CountMark, Enroll, Leave, Make, RefuseSubscriber, Release, RunAhead,

@@ -1,7 +1,7 @@
 //! A word flow, and the tokens of its callers.
 ghost use Rattle.std.specs.Prelude.{◌≡◌, ◌<◌, ◌^◌, ◌+◌, ◌%◌, [], None};
 ghost use Rattle.std.specs.Int.{IsPowerOfTwo};
-ghost use Rattle.flow_law.specs.Tokens.{origin, numbered_token};
+ghost use Rattle.flow_law.specs.history.Tokens.{origin, numbered_token};
 ghost use Rattle.flow_word_shared.specs.Rule.{IsStart, capacity_of};
 ghost use Rattle.flow_word_shared.specs.View.{began_as};
 ghost use Rattle.flow_word_shared.specs.Tokens.{WordFlowToken, WordFlowOrigin, WordFlowNumbered, word_flow_id, ring_token, IsHolding, IsReading};

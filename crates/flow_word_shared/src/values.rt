@@ -3,7 +3,7 @@ ghost use Rattle.std.specs.Prelude.{◌≡◌, ⊤, [], None, IfSome, OnSome};
 ghost use Rattle.futures.specs.Poll.{IfReady, OnPending};
 ghost use Rattle.futures.specs.Runs.{After, Within};
 ghost use Rattle.futures.specs.Task.{Covers, IsArmed, Keeps};
-ghost use Rattle.flow_law.specs.SharedHistory.{shared_flow};
+ghost use Rattle.flow_law.specs.flow.SharedHistory.{shared_flow};
 ghost use Rattle.flow_word.specs.Receiving.{WordYields};
 ghost use Rattle.flow_word_shared.specs.Receiving.{WordFlowPolls, WordFlowPollsItem};
 

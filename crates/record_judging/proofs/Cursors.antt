@@ -5,7 +5,7 @@ use Rattle.std.specs.declared.alloc.Global.{Global}
 use Rattle.std.proofs.Math.Nat.{eq-or-lt_of_le}
 use Rattle.std.proofs.lemmas.List.{length-set, length-replicate, get_or-replicate}
 use Rattle.std.proofs.lemmas.Bool.Decides.{eqb_tells}
-use Rattle.flow_law.proofs.Steps.{past_here}
+use Rattle.flow_law.proofs.MailboxSteps.{past_here}
 use Rattle.std.proofs.lemmas.Option.{slice_get_within, get_or_from_slice_get, same_Some}
 use Rattle.flow_check.specs.Orders.{turns_of}
 use Rattle.flow_check.proofs.Places.{get-set_same, get-set_other}

@@ -9,8 +9,8 @@ use Rattle.serde_json.specs.Data.{Data, Items, no_items, item}
 use Rattle.serde_json.specs.Find.{get, as_array}
 use Rattle.flow_law.specs.declared.chain.ChainFault.{ChainFault}
 use Rattle.flow_law.specs.declared.chain.ChainFault.TheVariants.{NotPositive, TooDeep}
-use Rattle.flow_law.specs.ChainRun.{ChainRun, gives}
-use Rattle.flow_law.specs.OperatorRuns.{map_run, filter_run, take_while_run, transform_run, take_run, drop_run, drop_while_run, scan_run, running_reduce_run, flat_map_run, zip_run, distinct_run}
+use Rattle.flow_law.specs.chain.ChainRun.{ChainRun, gives}
+use Rattle.flow_law.specs.chain.OperatorRuns.{map_run, filter_run, take_while_run, transform_run, take_run, drop_run, drop_while_run, scan_run, running_reduce_run, flat_map_run, zip_run, distinct_run}
 use Rattle.flow_cold.specs.declared.script_chain.op.Arithmetic.{Arithmetic}
 use Rattle.flow_cold.specs.declared.script_chain.op.Arithmetic.TheVariants as arithmetic
 use Rattle.flow_cold.specs.declared.script_chain.op.Joining.{Joining}

@@ -2,7 +2,7 @@
 use Rattle.std.specs.Prelude.{◌==◌, ℤ, Bool, false, List, Result, Ok, Err, Vec}
 use Rattle.std.specs.declared.alloc.Global.{Global}
 use Rattle.flow_law.specs.declared.chain.ChainFault.{ChainFault}
-use Rattle.flow_law.specs.ChainRun.{ChainRun}
+use Rattle.flow_law.specs.chain.ChainRun.{ChainRun}
 use Rattle.flow_operators.specs.declared.sources.scripted.Entry.{Entry}
 use Rattle.flow_cold.specs.declared.script_chain.op.Source.{Source}
 use Rattle.flow_cold.specs.declared.script_chain.op.Op.{Op}

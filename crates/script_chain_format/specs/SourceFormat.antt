@@ -5,7 +5,7 @@ use Rattle.std.specs.Option.{option_map_or}
 use Rattle.std.specs.Str.{bytes_eq}
 use Rattle.serde_json.specs.Data.{Data, Items, no_items, item}
 use Rattle.serde_json.specs.Find.{as_number, as_i64, as_str, as_array}
-use Rattle.flow_law.specs.ChainRun.{ChainRun, list_run}
+use Rattle.flow_law.specs.chain.ChainRun.{ChainRun, list_run}
 use Rattle.flow_operators.specs.declared.sources.scripted.Entry.{Entry}
 use Rattle.flow_operators.specs.declared.sources.scripted.Entry.TheVariants as entry
 use Rattle.flow_operators.specs.Sources.{range_run, scripted_run, span}

@@ -1,7 +1,7 @@
 //! Reading a chain, and building it.
 ghost use Rattle.std.specs.Prelude.{◌≡◌, ◌≢◌, Ok, Err, option_map, Result, ℤ};
 ghost use Rattle.serde_json.specs.View.{view, items_view};
-ghost use Rattle.flow_law.specs.ChainRun.{ChainRun};
+ghost use Rattle.flow_law.specs.chain.ChainRun.{ChainRun};
 ghost use Rattle.flow_law.specs.declared.chain.ChainFault.{ChainFault as TheChainFault};
 ghost use Rattle.script_chain_format.specs.declared.reading.fault.ScriptFault.{ScriptFault as TheScriptFault};
 ghost use Rattle.script_chain_format.specs.Results.{Gives};

@@ -5,8 +5,8 @@ use Rattle.std.proofs.lemmas.Grind.{common_steps}
 use Rattle.std.specs.List.{flat_map}
 use Rattle.flow_law.specs.declared.chain.ChainFault.{ChainFault}
 use Rattle.flow_law.specs.declared.chain.End.TheVariants.{Completed}
-use Rattle.flow_law.specs.ChainRun.{ChainRun, gives, ends, list_run}
-use Rattle.flow_law.specs.OperatorRuns.{continued, flat_map_run, followed, map_run}
+use Rattle.flow_law.specs.chain.ChainRun.{ChainRun, gives, ends, list_run}
+use Rattle.flow_law.specs.chain.OperatorRuns.{continued, flat_map_run, followed, map_run}
 use Rattle.flow_operators.specs.Numbers.{is_i64, ranged}
 use Rattle.flow_operators.specs.Sources.{count_up, range_run, span}
 use Rattle.use_flows.specs.Products.{multiples, products}

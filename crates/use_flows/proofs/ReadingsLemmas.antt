@@ -9,10 +9,10 @@ use Rattle.flow_law.specs.declared.call.SharedReply.TheVariants as reply
 use Rattle.flow_law.specs.declared.fault.FlowFault.{FlowFault}
 use Rattle.flow_law.specs.declared.fault.FlowFault.TheVariants.{Exhausted}
 use Rattle.flow_core.specs.SharedCore.{cache_reply}
-use Rattle.flow_law.specs.SharedFlow.{Replied, answer, issuing, is_exhausted, cache_start, values, cache}
-use Rattle.flow_law.specs.EmitRule.{emit_case, appends, append, numbered, try_emit, try_emit_in}
-use Rattle.flow_law.specs.SharedHistory.{Replies, after, reply_by}
-use Rattle.flow_law.specs.Standing.{Core, StandsFor, least_position, first_needed}
+use Rattle.flow_law.specs.flow.SharedFlow.{Replied, answer, issuing, is_exhausted, cache_start, values, cache}
+use Rattle.flow_law.specs.flow.EmitRule.{emit_case, appends, append, numbered, try_emit, try_emit_in}
+use Rattle.flow_law.specs.flow.SharedHistory.{Replies, after, reply_by}
+use Rattle.flow_law.specs.flow.Standing.{Core, StandsFor, least_position, first_needed}
 use Rattle.use_flows.specs.Readings.{IsUnread, last, latest_of, with_reading}
 
 -- dropping all but the last n values first does not change the last n values of the whole

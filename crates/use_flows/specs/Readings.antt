@@ -1,7 +1,7 @@
 -- The readings as contracts describe them, and the core that keeps them.
 use Rattle.std.specs.Prelude.{◌≡◌, ℕ, ◌-◌, List, [], ◌∷◌, ◌++◌, length, drop}
 use Rattle.flow_law.specs.declared.states.SharedFlowState.{SharedFlowState}
-use Rattle.flow_law.specs.Standing.{Core, StandsFor}
+use Rattle.flow_law.specs.flow.Standing.{Core, StandsFor}
 
 -- the last readings, the oldest first, and the most that are kept
 pub record Latest (T : Type 0) : Type 0 where

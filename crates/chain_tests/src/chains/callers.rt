@@ -1,7 +1,7 @@
 //! Callers that collect a chain of a list or a range. Their files in `proofs/` name what the closures compute.
 ghost use Rattle.std.specs.Prelude.{◌≡◌, ◌+ℤ◌, ◌*ℤ◌, pos, IfOk, IfErr};
-ghost use Rattle.flow_law.specs.ChainRun.{Collects, list_run};
-ghost use Rattle.flow_law.specs.OperatorRuns.{filter_run, map_run, take_run};
+ghost use Rattle.flow_law.specs.chain.ChainRun.{Collects, list_run};
+ghost use Rattle.flow_law.specs.chain.OperatorRuns.{filter_run, map_run, take_run};
 ghost use Rattle.flow_cold.specs.Numbers.{ranged};
 ghost use Rattle.flow_operators.specs.Numbers.{is_even};
 ghost use Rattle.flow_operators.specs.Sources.{range_run};

@@ -1,7 +1,7 @@
 //! Building a chain of whole numbers, and asking it.
 ghost use Rattle.std.specs.Prelude.{◌≡◌, ◌≤◌, ⊤, ℕ, ℤ, IfOk, IfErr, MatchResult};
-ghost use Rattle.flow_law.specs.Chain.{meaning_of};
-ghost use Rattle.flow_law.specs.ChainRun.{ChainRun, asks};
+ghost use Rattle.flow_law.specs.chain.Chain.{meaning_of};
+ghost use Rattle.flow_law.specs.chain.ChainRun.{ChainRun, asks};
 ghost use Rattle.flow_cold.specs.Build.{AddsDepth, RefusesOp, RefusesDepth, TakesNone, depth_of, op_depth, op_meaning, op_rest, op_whole};
 ghost use Rattle.flow_cold.specs.Part.{part_depth, part_rest, part_whole};
 ghost use Rattle.flow_cold.specs.ScriptChain.{IsNodeOver, NodeAsksBehind, node_depth, node_rest, node_whole};

@@ -1,7 +1,7 @@
 //! `dropWhile` of whole numbers.
 ghost use Rattle.std.specs.Prelude.{◌≡◌, ◌≢◌, ℤ};
 ghost use Rattle.flow_law.specs.declared.chain.ChainFault.{ChainFault};
-ghost use Rattle.flow_law.specs.ChainRun.{ChainRun, gives};
+ghost use Rattle.flow_law.specs.chain.ChainRun.{ChainRun, gives};
 ghost use Rattle.flow_operators.specs.Behind.{after_drop_while};
 ghost use Rattle.flow_operators.specs.Kept.{drop_while_rest};
 ghost use Rattle.flow_cold.specs.Numbers.{passes};

@@ -1,7 +1,7 @@
 //! The inner numbers that a `flat_map` has not emitted yet.
 ghost use Rattle.std.specs.Prelude.{◌≡◌, ◌≢◌, ℤ, Some, Err};
-ghost use Rattle.flow_law.specs.ChainRun.{ChainRun, gives};
-ghost use Rattle.flow_law.specs.OperatorRuns.{flat_map_run};
+ghost use Rattle.flow_law.specs.chain.ChainRun.{ChainRun, gives};
+ghost use Rattle.flow_law.specs.chain.OperatorRuns.{flat_map_run};
 ghost use Rattle.flow_operators.specs.Behind.{after_flat_map};
 ghost use Rattle.flow_cold.specs.declared.script_chain.op.Spread.TheVariants as spread;
 ghost use Rattle.flow_cold.specs.Numbers.{spread_run};

@@ -1,8 +1,8 @@
 //! A chain of whole numbers as a tree, with sources as its leaves and operators above them.
 ghost use Rattle.std.specs.Prelude.{◌≡◌, ◌≢◌, ◌≤◌, ℤ, true, false};
 ghost use Rattle.flow_law.specs.declared.chain.ChainFault.{ChainFault};
-ghost use Rattle.flow_law.specs.ChainRun.{ChainRun, gives};
-ghost use Rattle.flow_law.specs.OperatorRuns.{zip_run};
+ghost use Rattle.flow_law.specs.chain.ChainRun.{ChainRun, gives};
+ghost use Rattle.flow_law.specs.chain.OperatorRuns.{zip_run};
 ghost use Rattle.flow_cold.specs.declared.script_chain.node.Node.{size-Node};
 ghost use Rattle.flow_operators.specs.declared.cold.Asked.{Asked};
 ghost use Rattle.flow_operators.specs.Asking.{AskGives, IsFinal};

@@ -1,6 +1,6 @@
 //! The operators with one upstream: what each makes of an item.
 ghost use Rattle.std.specs.Prelude.{◌≡◌, ◌≢◌, ℤ, Some, Err};
-ghost use Rattle.flow_law.specs.ChainRun.{ChainRun, gives};
+ghost use Rattle.flow_law.specs.chain.ChainRun.{ChainRun, gives};
 ghost use Rattle.flow_cold.specs.OperatorAsks.{HeldLeaves, StepLeaves, after_held, after_ready};
 ghost use Rattle.flow_cold.specs.Operators.{HeldGives, StepGives, after_number, after_step, first_phase, held_rest, operator_whole, ready_rest, rest_in};
 

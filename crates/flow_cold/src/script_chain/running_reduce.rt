@@ -1,8 +1,8 @@
 //! `runningReduce` of whole numbers.
 ghost use Rattle.std.specs.Prelude.{◌≡◌, ◌≢◌, ℤ};
 ghost use Rattle.flow_law.specs.declared.chain.ChainFault.{ChainFault};
-ghost use Rattle.flow_law.specs.ChainRun.{ChainRun, gives};
-ghost use Rattle.flow_law.specs.OperatorRuns.{running_reduce_run};
+ghost use Rattle.flow_law.specs.chain.ChainRun.{ChainRun, gives};
+ghost use Rattle.flow_law.specs.chain.OperatorRuns.{running_reduce_run};
 ghost use Rattle.flow_cold.specs.Numbers.{computed};
 ghost use Rattle.flow_cold.specs.OperatorAsks.{StepLeaves};
 ghost use Rattle.flow_cold.specs.Operators.{StepGives, after_step};

@@ -1,7 +1,7 @@
 //! An operator with one upstream, in a chain.
 ghost use Rattle.std.specs.Prelude.{◌≡◌, ◌≢◌, ℤ, Some, None, MatchOption, IfSome};
 ghost use Rattle.flow_law.specs.declared.chain.ChainFault.{ChainFault};
-ghost use Rattle.flow_law.specs.ChainRun.{ChainRun};
+ghost use Rattle.flow_law.specs.chain.ChainRun.{ChainRun};
 ghost use Rattle.flow_operators.specs.declared.cold.Asked.{Asked};
 ghost use Rattle.flow_operators.specs.Asking.{AskGives, IsFinal, IsItem};
 ghost use Rattle.flow_operators.specs.Behind.{Leaves};

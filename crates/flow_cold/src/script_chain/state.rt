@@ -1,8 +1,8 @@
 //! The states of the operators with one upstream, and their steps.
 ghost use Rattle.std.specs.Ordering.{int_eq};
 ghost use Rattle.std.specs.Prelude.{◌≡◌, ◌≢◌, suc, ℤ, Some, Err};
-ghost use Rattle.flow_law.specs.ChainRun.{ChainRun, gives};
-ghost use Rattle.flow_law.specs.OperatorRuns.{distinct_run, drop_run, scan_run, take_run, transform_run};
+ghost use Rattle.flow_law.specs.chain.ChainRun.{ChainRun, gives};
+ghost use Rattle.flow_law.specs.chain.OperatorRuns.{distinct_run, drop_run, scan_run, take_run, transform_run};
 ghost use Rattle.flow_operators.specs.Behind.{rest_after_ask, after_distinct, after_drop, after_scan, after_transform};
 ghost use Rattle.flow_cold.specs.Numbers.{computed, sums};
 ghost use Rattle.flow_cold.specs.OperatorAsks.{HeldLeaves, StepLeaves, after_adding};

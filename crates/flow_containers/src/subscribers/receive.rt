@@ -1,6 +1,6 @@
 //! The next value of a subscriber, by one look-up.
 ghost use Rattle.std.specs.Prelude.{◌≡◌, ◌-◌, ◌≤◌, length, IfSome, IsOk};
-ghost use Rattle.flow_law.specs.SharedFlow as flow;
+ghost use Rattle.flow_law.specs.flow.SharedFlow as flow;
 ghost use Rattle.flow_containers.specs.Receiving.{SubscriberReceives};
 
 use crate::subscribers::Subscribers;

@@ -1,7 +1,7 @@
 //! Taking several emitted values for a subscriber at once.
 ghost use Rattle.std.specs.Prelude.{◌≡◌, ◌+◌, ◌-◌, ◌<◌, ◌≤◌, ◌++◌, length, take, drop, IfSome};
 ghost use Rattle.std.specs.Vec.{vec_len, vec_capacity};
-ghost use Rattle.flow_law.specs.SharedFlow as flow;
+ghost use Rattle.flow_law.specs.flow.SharedFlow as flow;
 ghost use Rattle.flow_containers.specs.Receiving.{TakesSome};
 
 use crate::subscribers::Subscribers;

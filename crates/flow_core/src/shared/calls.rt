@@ -1,6 +1,6 @@
 //! The calls of a shared core that give values, end a subscription or empty the replay cache.
 ghost use Rattle.std.specs.Prelude.{IsOk};
-ghost use Rattle.flow_law.specs.Standing.{Conforms};
+ghost use Rattle.flow_law.specs.flow.Standing.{Conforms};
 ghost use Rattle.flow_law.specs.declared.call.SharedCall.TheVariants as call;
 ghost use Rattle.flow_law.specs.declared.call.SharedReply.TheVariants as reply;
 ghost use Rattle.flow_core.specs.SubId.{number_of};

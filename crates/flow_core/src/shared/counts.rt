@@ -1,7 +1,7 @@
 //! The numbers of subscribers and values of a shared core.
 ghost use Rattle.std.specs.Prelude.{◌≡◌, ◌+◌, ◌≤◌, max, length, option_map, slice_get};
-ghost use Rattle.flow_law.specs.SharedFlow.{lag_of};
-ghost use Rattle.flow_law.specs.Standing.{StandsFor, Conforms, held, needed};
+ghost use Rattle.flow_law.specs.flow.SharedFlow.{lag_of};
+ghost use Rattle.flow_law.specs.flow.Standing.{StandsFor, Conforms, held, needed};
 ghost use Rattle.flow_law.specs.declared.states.SharedFlowState.{SharedFlowState};
 ghost use Rattle.flow_law.specs.declared.call.SharedCall.TheVariants as call;
 ghost use Rattle.flow_law.specs.declared.call.SharedReply.TheVariants as reply;

@@ -1,11 +1,11 @@
 //! Emissions into a shared core: their cases, how they wait, and how they are cancelled.
 ghost use Rattle.std.specs.Prelude.{◌≡◌, ◌≢◌, ◌+◌, ◌<◌, true, false, length, IfErr, MatchResult};
 ghost use Rattle.std.specs.Bool.{OnTrue};
-ghost use Rattle.flow_law.specs.SharedFlow as flow;
-ghost use Rattle.flow_law.specs.EmitRule as rule;
-ghost use Rattle.flow_law.specs.SharedStep as step;
-ghost use Rattle.flow_law.specs.Standing.{StandsFor, Conforms};
-ghost use Rattle.flow_law.specs.Sleeping.{first_waiting};
+ghost use Rattle.flow_law.specs.flow.SharedFlow as flow;
+ghost use Rattle.flow_law.specs.flow.EmitRule as rule;
+ghost use Rattle.flow_law.specs.flow.SharedStep as step;
+ghost use Rattle.flow_law.specs.flow.Standing.{StandsFor, Conforms};
+ghost use Rattle.flow_law.specs.history.Sleeping.{first_waiting};
 ghost use Rattle.flow_law.specs.declared.states.SharedFlowState.{SharedFlowState};
 ghost use Rattle.flow_law.specs.declared.call.SharedCall.TheVariants as call;
 ghost use Rattle.flow_law.specs.declared.call.SharedReply.TheVariants as reply;

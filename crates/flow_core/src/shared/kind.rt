@@ -1,7 +1,7 @@
 //! A shared core behind a gate, and as one of the kinds of flow.
-ghost use Rattle.flow_law.specs.SharedFlow.{first_state};
-ghost use Rattle.flow_law.specs.SharedHistory.{shared_flow};
-ghost use Rattle.flow_law.specs.Standing.{StandsFor, StandsForHistory};
+ghost use Rattle.flow_law.specs.flow.SharedFlow.{first_state};
+ghost use Rattle.flow_law.specs.flow.SharedHistory.{shared_flow};
+ghost use Rattle.flow_law.specs.flow.Standing.{StandsFor, StandsForHistory};
 ghost use Rattle.flow_law.proofs.SharedLawful.{shared_lawful};
 ghost use Rattle.flow_law.proofs.SharedSleeping.{shared_sleeping};
 

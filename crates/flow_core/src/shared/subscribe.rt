@@ -1,7 +1,7 @@
 //! New subscribers of a shared flow.
 ghost use Rattle.std.specs.Prelude.{◌≡◌, ℕ, List, [], IfErr};
-ghost use Rattle.flow_law.specs.History.{fault_alone};
-ghost use Rattle.flow_law.specs.Standing.{Conforms};
+ghost use Rattle.flow_law.specs.history.History.{fault_alone};
+ghost use Rattle.flow_law.specs.flow.Standing.{Conforms};
 ghost use Rattle.flow_law.specs.declared.call.SharedCall.TheVariants as call;
 ghost use Rattle.flow_core.specs.SharedCore.{subscribe_reply};
 

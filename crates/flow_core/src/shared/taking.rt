@@ -1,7 +1,7 @@
 //! Taking several values for a subscriber at once.
 ghost use Rattle.std.specs.Prelude.{◌≡◌, ◌+◌, ◌≤◌, Ok};
 ghost use Rattle.std.specs.Vec.{vec_len, vec_capacity};
-ghost use Rattle.flow_law.specs.Draining.{DrainsBy};
+ghost use Rattle.flow_law.specs.flow.Draining.{DrainsBy};
 ghost use Rattle.flow_law.specs.declared.outcome.Drained.TheVariants.{Most};
 ghost use Rattle.flow_core.specs.SubId.{number_of};
 ghost use Rattle.flow_core.specs.SharedCore.{SharedCoreNexts};

@@ -1,7 +1,7 @@
 //! A state core behind a gate, and as one of the kinds of flow.
 ghost use Rattle.std.specs.Prelude.{◌≡◌};
-ghost use Rattle.flow_law.specs.StateFlow.{state_flow};
-ghost use Rattle.flow_law.specs.Standing.{StandsForHistory};
+ghost use Rattle.flow_law.specs.flow.StateFlow.{state_flow};
+ghost use Rattle.flow_law.specs.flow.Standing.{StandsForHistory};
 ghost use Rattle.flow_law.proofs.StateLawful.{state_lawful};
 ghost use Rattle.flow_law.proofs.StateSleeping.{state_sleeping};
 

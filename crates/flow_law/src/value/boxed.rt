@@ -1,6 +1,6 @@
 //! Boxed values as values of flows. Contracts see only the contents of a box.
 ghost use Rattle.std.specs.Prelude.{◌≡◌, ◌↔◌, IsTrue};
-ghost use Rattle.flow_law.specs.Values.{exact_eq, exact_partial_eq, exact_hash};
+ghost use Rattle.flow_law.specs.flow.Values.{exact_eq, exact_partial_eq, exact_hash};
 
 use super::FlowValue;
 use crate::fault::FlowFault;

@@ -1,12 +1,12 @@
 //! Options and tuples as values of flows. A copy fails if the copy of a part fails.
 ghost use Rattle.std.specs.Prelude.{◌≡◌, ◌&&◌, Bool, true, false, Ok, Some, None, nat_eq, ⊤};
-ghost use Rattle.flow_law.specs.Values.{is_same_option, is_same_pair, is_same_triple};
+ghost use Rattle.flow_law.specs.flow.Values.{is_same_option, is_same_pair, is_same_triple};
 
 use super::FlowValue;
 use crate::fault::FlowFault;
 
 impl FlowValue for () {
-    ghost use Rattle.flow_law.specs.Values.{unit_exact};
+    ghost use Rattle.flow_law.specs.flow.Values.{unit_exact};
 
     ghost is_same = { λ x y. true };
 
@@ -26,7 +26,7 @@ impl FlowValue for () {
 }
 
 impl<T: FlowValue> FlowValue for Option<T> {
-    ghost use Rattle.flow_law.specs.Values.{option_exact};
+    ghost use Rattle.flow_law.specs.flow.Values.{option_exact};
 
     ghost is_same = { is_same_option T.is_same };
 
@@ -51,7 +51,7 @@ impl<T: FlowValue> FlowValue for Option<T> {
 }
 
 impl<A: FlowValue, B: FlowValue> FlowValue for (A, B) {
-    ghost use Rattle.flow_law.specs.Values.{pair_exact};
+    ghost use Rattle.flow_law.specs.flow.Values.{pair_exact};
 
     ghost is_same = { is_same_pair A.is_same B.is_same };
 
@@ -69,7 +69,7 @@ impl<A: FlowValue, B: FlowValue> FlowValue for (A, B) {
 }
 
 impl<A: FlowValue, B: FlowValue, C: FlowValue> FlowValue for (A, B, C) {
-    ghost use Rattle.flow_law.specs.Values.{triple_exact};
+    ghost use Rattle.flow_law.specs.flow.Values.{triple_exact};
 
     ghost is_same = { is_same_triple A.is_same B.is_same C.is_same };
 

@@ -2,7 +2,7 @@
 ghost use Rattle.std.specs.Prelude.{◌≡◌, ◌↔◌, IsTrue, IfOk, IfErr};
 ghost use Rattle.std.specs.Fmt.{debug_list};
 ghost use Rattle.std.specs.Hash as fed;
-ghost use Rattle.flow_law.specs.Values.{is_same_list, list_exact, exact_eq, exact_partial_eq, exact_hash};
+ghost use Rattle.flow_law.specs.flow.Values.{is_same_list, list_exact, exact_eq, exact_partial_eq, exact_hash};
 
 use super::FlowValue;
 use crate::fault::FlowFault;

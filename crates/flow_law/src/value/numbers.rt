@@ -1,7 +1,7 @@
 //! Numbers and characters as values of flows. A copy of one takes no memory.
 ghost use Rattle.std.specs.Ordering.{int_eq};
 ghost use Rattle.std.specs.Prelude.{◌≡◌, Ok, nat_eq, ⊤};
-ghost use Rattle.flow_law.specs.Values.{whole_exact, number_exact};
+ghost use Rattle.flow_law.specs.flow.Values.{whole_exact, number_exact};
 
 use super::FlowValue;
 use crate::fault::FlowFault;

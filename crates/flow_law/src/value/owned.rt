@@ -2,7 +2,7 @@
 ghost use Rattle.std.specs.Prelude.{◌≡◌, ◌↔◌, IsTrue, IfOk, Some, nat_eq, string_bytes};
 ghost use Rattle.std.specs.Fmt.{debug_str, styled_text};
 ghost use Rattle.std.specs.Hash as fed;
-ghost use Rattle.flow_law.specs.Values.{is_same_list, numbers_exact, exact_eq, exact_partial_eq, exact_hash};
+ghost use Rattle.flow_law.specs.flow.Values.{is_same_list, numbers_exact, exact_eq, exact_partial_eq, exact_hash};
 
 use super::FlowValue;
 use crate::errors::OutOfMemory;

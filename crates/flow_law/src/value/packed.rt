@@ -3,7 +3,7 @@ ghost use Rattle.std.specs.Char.{IsScalar};
 ghost use Rattle.std.specs.Int.{cast_signed};
 ghost use Rattle.std.specs.Prelude.{◌≡◌, ℕ, ◌^◌, ◌<◌, ◌==◌};
 ghost use Rattle.std.proofs.Common.{sym, ◌∙◌};
-ghost use Rattle.flow_law.specs.Packs.{below_word, short_below, byte_below, bit_below, scalar_below, none_below, bit_once, signed_once};
+ghost use Rattle.flow_law.specs.flow.Packs.{below_word, short_below, byte_below, bit_below, scalar_below, none_below, bit_once, signed_once};
 ghost use mir.Syntax.{w8, w16, w32, w64};
 
 /// A type whose values are packed into a word. Each value has one pack, and no two values share one, so words can be

@@ -1,6 +1,6 @@
 //! Options and pairs that fit a word, because their parts fit half of one.
 ghost use Rattle.std.specs.Prelude.{◌≡◌, ◌^◌, ◌<◌};
-ghost use Rattle.flow_law.specs.Packs.{packs_option, option_of, packs_pair, pair_of, option_fits, option_once, pair_fits, pair_once};
+ghost use Rattle.flow_law.specs.flow.Packs.{packs_option, option_of, packs_pair, pair_of, option_fits, option_once, pair_fits, pair_once};
 
 use super::packed::{Half, Packed};
 

@@ -1,7 +1,7 @@
 //! Booleans as values of flows.
 ghost use Rattle.std.specs.Bool.{beq};
 ghost use Rattle.std.specs.Prelude.{◌≡◌, Ok, ⊤};
-ghost use Rattle.flow_law.specs.Values.{truth_exact};
+ghost use Rattle.flow_law.specs.flow.Values.{truth_exact};
 
 use super::FlowValue;
 use crate::fault::FlowFault;

@@ -1,6 +1,6 @@
 //! `distinctUntilChanged`: the items that differ from the one before.
 ghost use Rattle.std.specs.Prelude.{◌≡◌, true, None};
-ghost use Rattle.flow_law.specs.OperatorRuns.{distinct_run, is_repeated};
+ghost use Rattle.flow_law.specs.chain.OperatorRuns.{distinct_run, is_repeated};
 ghost use Rattle.flow_operators.specs.Behind.{Leaves, after_distinct};
 ghost use Rattle.flow_operators.specs.Bound.{upstream_bound};
 ghost use Rattle.flow_operators.specs.Upstreams.{chain_of, is_ended, left_of};

@@ -1,6 +1,6 @@
 //! `drop`: all but the first items.
 ghost use Rattle.std.specs.Prelude.{◌≡◌, true};
-ghost use Rattle.flow_law.specs.OperatorRuns.{drop_run};
+ghost use Rattle.flow_law.specs.chain.OperatorRuns.{drop_run};
 ghost use Rattle.flow_operators.specs.Behind.{Leaves, after_drop};
 ghost use Rattle.flow_operators.specs.Bound.{upstream_bound};
 ghost use Rattle.flow_operators.specs.Upstreams.{chain_of, is_ended, left_of};

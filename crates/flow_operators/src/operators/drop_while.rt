@@ -1,7 +1,7 @@
 //! `dropWhile`: the items from the first one that fails a test.
 ghost use Rattle.std.specs.Prelude.{◌≡◌, true, Bool};
 ghost use Rattle.std.specs.Fn.{FnReturnsAt};
-ghost use Rattle.flow_law.specs.OperatorRuns.{drop_while_run};
+ghost use Rattle.flow_law.specs.chain.OperatorRuns.{drop_while_run};
 ghost use Rattle.flow_operators.specs.Behind.{Leaves, after_drop_while};
 ghost use Rattle.flow_operators.specs.Bound.{upstream_bound};
 ghost use Rattle.flow_operators.specs.Closures.{Decides};

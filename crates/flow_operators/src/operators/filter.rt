@@ -1,7 +1,7 @@
 //! `filter`: the items that pass a test.
 ghost use Rattle.std.specs.Prelude.{◌≡◌, true, Bool};
 ghost use Rattle.std.specs.Fn.{FnReturnsAt};
-ghost use Rattle.flow_law.specs.OperatorRuns.{filter_run};
+ghost use Rattle.flow_law.specs.chain.OperatorRuns.{filter_run};
 ghost use Rattle.flow_operators.specs.Behind.{Leaves, after_filter};
 ghost use Rattle.flow_operators.specs.Bound.{upstream_bound};
 ghost use Rattle.flow_operators.specs.Closures.{Decides};

@@ -1,7 +1,7 @@
 //! `flatMapConcat`: inner chains, one after the other.
 ghost use Rattle.std.specs.Prelude.{◌≡◌, ◌≢◌, ◌⊎◌, ◌<◌, ◌+◌, ◌*◌, true, None, Result, IfOk, IfSome};
-ghost use Rattle.flow_law.specs.ChainRun.{ChainRun};
-ghost use Rattle.flow_law.specs.OperatorRuns.{flat_map_run, followed};
+ghost use Rattle.flow_law.specs.chain.ChainRun.{ChainRun};
+ghost use Rattle.flow_law.specs.chain.OperatorRuns.{flat_map_run, followed};
 ghost use Rattle.flow_operators.specs.Behind.{Leaves, after_flat_map, unless_completed};
 ghost use Rattle.flow_operators.specs.Kept.{inner_left, most_inner, unless_ended};
 ghost use Rattle.flow_operators.specs.Upstreams.{chain_of, is_ended};

@@ -1,7 +1,7 @@
 //! `map`: what a closure makes of each item.
 ghost use Rattle.std.specs.Prelude.{◌≡◌, true, Result};
 ghost use Rattle.flow_law.specs.declared.chain.ChainFault.{ChainFault};
-ghost use Rattle.flow_law.specs.OperatorRuns.{map_run};
+ghost use Rattle.flow_law.specs.chain.OperatorRuns.{map_run};
 ghost use Rattle.flow_operators.specs.Bound.{upstream_bound};
 ghost use Rattle.flow_operators.specs.Closures.{Computes, NeverRefuses};
 ghost use Rattle.flow_operators.specs.Upstreams.{AsksUpstream, chain_of, is_ended, left_of};

@@ -1,6 +1,6 @@
 //! `map` over a closure that cannot fail.
 ghost use Rattle.std.specs.Prelude.{◌≡◌, true, Ok};
-ghost use Rattle.flow_law.specs.OperatorRuns.{map_run};
+ghost use Rattle.flow_law.specs.chain.OperatorRuns.{map_run};
 ghost use Rattle.flow_operators.specs.Bound.{upstream_bound};
 ghost use Rattle.flow_operators.specs.Closures.{Makes};
 ghost use Rattle.flow_operators.specs.Upstreams.{AsksUpstream, chain_of, is_ended, left_of};

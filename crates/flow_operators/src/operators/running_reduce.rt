@@ -1,7 +1,7 @@
 //! `runningReduce`: the first item, then the results so far.
 ghost use Rattle.std.specs.Prelude.{◌≡◌, true, None, Result};
 ghost use Rattle.flow_law.specs.declared.chain.ChainFault.{ChainFault};
-ghost use Rattle.flow_law.specs.OperatorRuns.{running_reduce_run};
+ghost use Rattle.flow_law.specs.chain.OperatorRuns.{running_reduce_run};
 ghost use Rattle.flow_operators.specs.Bound.{upstream_bound};
 ghost use Rattle.flow_operators.specs.Closures.{ComputesPairs, NeverRefusesPairs};
 ghost use Rattle.flow_operators.specs.Upstreams.{AsksUpstream, chain_of, is_ended, left_of};

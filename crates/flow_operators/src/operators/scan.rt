@@ -1,8 +1,8 @@
 //! `scan`: an initial value, then the results so far.
 ghost use Rattle.std.specs.Prelude.{◌≡◌, ◌+◌, true, Result};
 ghost use Rattle.flow_law.specs.declared.chain.ChainFault.{ChainFault};
-ghost use Rattle.flow_law.specs.ChainRun.{gives};
-ghost use Rattle.flow_law.specs.OperatorRuns.{scan_run};
+ghost use Rattle.flow_law.specs.chain.ChainRun.{gives};
+ghost use Rattle.flow_law.specs.chain.OperatorRuns.{scan_run};
 ghost use Rattle.flow_operators.specs.Closures.{ComputesPairs, NeverRefusesPairs};
 ghost use Rattle.flow_operators.specs.Results.{AsksScanned, initial_of, is_scan_over, most_results, results_rest, scanned};
 ghost use Rattle.std.proofs.Common.{arith};

@@ -5,7 +5,7 @@ ghost use Rattle.flow_operators.specs.Bound.{upstream_bound};
 ghost use Rattle.flow_operators.specs.SameChain.{StaysChain};
 ghost use Rattle.flow_operators.specs.Taking.{items_left, left_after};
 ghost use Rattle.flow_operators.specs.Upstreams.{AsksUpstream, chain_of, is_ended, left_of};
-ghost use Rattle.flow_law.specs.OperatorRuns.{take_run};
+ghost use Rattle.flow_law.specs.chain.OperatorRuns.{take_run};
 
 use crate::cold::{Asked, Cold};
 use crate::upstream::Upstream;

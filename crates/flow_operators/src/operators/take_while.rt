@@ -1,6 +1,6 @@
 //! `takeWhile`: the items before the first one that fails a test.
 ghost use Rattle.std.specs.Prelude.{◌≡◌, true, Bool};
-ghost use Rattle.flow_law.specs.OperatorRuns.{take_while_run};
+ghost use Rattle.flow_law.specs.chain.OperatorRuns.{take_while_run};
 ghost use Rattle.flow_operators.specs.Bound.{upstream_bound};
 ghost use Rattle.flow_operators.specs.Closures.{Decides};
 ghost use Rattle.flow_operators.specs.Upstreams.{AsksUpstream, chain_of, is_ended, left_of};

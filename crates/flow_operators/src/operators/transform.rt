@@ -1,6 +1,6 @@
 //! `transform`: any number of items for each item.
 ghost use Rattle.std.specs.Prelude.{◌≡◌, ◌≢◌, ◌∷◌, ◌+◌, ◌*◌, ◌^◌, true, None, [], List, Result, MatchOption, length};
-ghost use Rattle.flow_law.specs.OperatorRuns.{prepended, transform_run};
+ghost use Rattle.flow_law.specs.chain.OperatorRuns.{prepended, transform_run};
 ghost use Rattle.flow_operators.specs.Behind.{Leaves, after_transform, unless_empty};
 ghost use Rattle.flow_operators.specs.Kept.{unless_ended, images_left};
 ghost use Rattle.flow_operators.specs.Upstreams.{chain_of, is_ended};

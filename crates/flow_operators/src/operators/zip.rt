@@ -1,7 +1,7 @@
 //! `zip`: pairs of two chains.
 ghost use Rattle.std.specs.Prelude.{◌≡◌, ◌+◌, true, Result};
 ghost use Rattle.flow_law.specs.declared.chain.ChainFault.{ChainFault};
-ghost use Rattle.flow_law.specs.OperatorRuns.{zip_run};
+ghost use Rattle.flow_law.specs.chain.OperatorRuns.{zip_run};
 ghost use Rattle.flow_operators.specs.Closures.{ComputesPairs, NeverRefusesPairs};
 ghost use Rattle.flow_operators.specs.Pairs.{AsksSides, is_zip_over, left_chain, most_pairs, pairs_rest, right_chain};
 ghost use Rattle.std.proofs.Common.{arith};

@@ -1,7 +1,7 @@
 //! A list as a chain.
 ghost use Rattle.std.specs.Prelude.{◌≡◌, ◌≤◌, ◌-◌, ◌^◌, drop, length, ⊤};
 ghost use Rattle.flow_operators.specs.Bound.{limited_to};
-ghost use Rattle.flow_law.specs.ChainRun.{ChainRun, list_run};
+ghost use Rattle.flow_law.specs.chain.ChainRun.{ChainRun, list_run};
 ghost use Rattle.std.proofs.Common.{arith};
 
 use crate::cold::{Asked, Cold};

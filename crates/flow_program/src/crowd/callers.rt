@@ -1,6 +1,6 @@
 //! The callers of a crowd, before their threads start.
 ghost use Rattle.std.specs.Prelude.{◌≡◌, IfSome};
-ghost use Rattle.flow_law.specs.Growth.{first_knowledge};
+ghost use Rattle.flow_law.specs.history.Growth.{first_knowledge};
 ghost use Rattle.flow_program.specs.Crowds.{AreMade};
 
 use crate::crowd::size::CrowdSize;

@@ -1,6 +1,6 @@
 //! The subscribers of a crowd, and their threads.
 ghost use Rattle.std.specs.Prelude.{◌≡◌, [], ◌+◌, ◌<◌, ◌≤◌, All, ℕ, IfSome, length, slice_index_or, vec_capacity, vec_len};
-ghost use Rattle.flow_law.specs.Done.{done_by};
+ghost use Rattle.flow_law.specs.history.Done.{done_by};
 ghost use Rattle.flow_program.specs.Callers.{Reads};
 ghost use Rattle.flow_program.specs.Crowds.{HasTakenAs, IsMaker, IsNewSubscription, WillRead};
 

@@ -1,11 +1,11 @@
 //! A seat bound to its flow, and what several callers and readers did, once their threads have ended.
 ghost use Rattle.std.specs.Prelude.{◌≡◌, ◌∷◌, ◌++◌, ℕ, ◌<◌, All, IfOk, MatchResult, length, map, slice_index_or, vec_len};
-ghost use Rattle.flow_law.specs.Closed.{makes_many, nth_child};
-ghost use Rattle.flow_law.specs.Growth.{makes, child};
-ghost use Rattle.flow_law.specs.HandleFaults.{answer_by, busy_fault, number_fault};
-ghost use Rattle.flow_law.specs.Handles.{called_by, SubscribesBound};
-ghost use Rattle.flow_law.specs.Rounds.{OnlyMeets, MeetsInTurn, HasClosedHistory};
-ghost use Rattle.flow_law.specs.Tokens.{knowing};
+ghost use Rattle.flow_law.specs.laws.Closed.{makes_many, nth_child};
+ghost use Rattle.flow_law.specs.history.Growth.{makes, child};
+ghost use Rattle.flow_law.specs.history.HandleFaults.{answer_by, busy_fault, number_fault};
+ghost use Rattle.flow_law.specs.history.Handles.{called_by, SubscribesBound};
+ghost use Rattle.flow_law.specs.history.Rounds.{OnlyMeets, MeetsInTurn, HasClosedHistory};
+ghost use Rattle.flow_law.specs.history.Tokens.{knowing};
 ghost use Rattle.flow_shared.specs.Calls.{Counts, CountsNow, Meets};
 
 use super::held::{HoldsFlow, SharesFlow, once_more};
@@ -49,7 +49,7 @@ impl<S: FlowCore, A: Allocator + Copy, H: HoldsFlow<S, A>> Model for BoundSeat<S
     ghost use Rattle.std.specs.Prelude.{◌≡◌};
     ghost use Rattle.atomic_table.specs.Seated.{TableId};
     ghost use Rattle.flow_law.specs.declared.history.Said.{Said};
-    ghost use Rattle.flow_law.specs.Handles.{CallerOf, called_by};
+    ghost use Rattle.flow_law.specs.history.Handles.{CallerOf, called_by};
 
     ghost Value = { CallerOf TableId S.State (Said S.Call S.Reply) };
 

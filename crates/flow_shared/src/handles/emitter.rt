@@ -1,9 +1,9 @@
 //! Emitting into a shared flow through a handle.
 ghost use Rattle.std.specs.Prelude.{◌≡◌, IfOk, IfErr};
-ghost use Rattle.flow_law.specs.HandleFaults.{answer_by, handed_by, busy_fault, emit_now_fault, limit_fault, memory_fault, number_fault};
-ghost use Rattle.flow_law.specs.Handles.{called_by, SubscribesBound};
-ghost use Rattle.flow_law.specs.History.{fault_alone};
-ghost use Rattle.flow_law.specs.SharedHistory.{shared_flow};
+ghost use Rattle.flow_law.specs.history.HandleFaults.{answer_by, handed_by, busy_fault, emit_now_fault, limit_fault, memory_fault, number_fault};
+ghost use Rattle.flow_law.specs.history.Handles.{called_by, SubscribesBound};
+ghost use Rattle.flow_law.specs.history.History.{fault_alone};
+ghost use Rattle.flow_law.specs.flow.SharedHistory.{shared_flow};
 ghost use Rattle.flow_law.specs.declared.call.SharedCall.TheVariants as call;
 ghost use Rattle.flow_law.specs.declared.call.SharedReply.TheVariants as reply;
 ghost use Rattle.flow_core.specs.SharedCore.{try_emit_reply, cache_reply};

@@ -2,11 +2,11 @@
 ghost use Rattle.std.specs.Prelude.{◌≡◌, IsOk, IfErr, MatchResult};
 ghost use Rattle.std.specs.Result.{OnErr};
 ghost use Rattle.flow_law.specs.declared.errors.TryNextError.TheVariants as try_next;
-ghost use Rattle.flow_law.specs.Draining.{DrainsBy, IsFull};
-ghost use Rattle.flow_law.specs.Growth.{makes, child};
-ghost use Rattle.flow_law.specs.HandleFaults.{answer_by, memory_fault, try_next_fault};
-ghost use Rattle.flow_law.specs.Handles.{called_by, read_by, next_in};
-ghost use Rattle.flow_law.specs.Tokens.{knowing};
+ghost use Rattle.flow_law.specs.flow.Draining.{DrainsBy, IsFull};
+ghost use Rattle.flow_law.specs.history.Growth.{makes, child};
+ghost use Rattle.flow_law.specs.history.HandleFaults.{answer_by, memory_fault, try_next_fault};
+ghost use Rattle.flow_law.specs.history.Handles.{called_by, read_by, next_in};
+ghost use Rattle.flow_law.specs.history.Tokens.{knowing};
 ghost use Rattle.flow_shared.specs.Calls.{NextsOf, NextsNow, Unsubscribes, UnsubscribesNow};
 ghost use Rattle.flow_shared.specs.BoundReplies.{drained_by, left_by, left_flow};
 
@@ -67,7 +67,7 @@ impl<S: ReaderCalls, A: Allocator + Copy, H: HoldsFlow<S, A>> Model for BoundSub
     ghost use Rattle.std.specs.Prelude.{◌≡◌};
     ghost use Rattle.atomic_table.specs.Seated.{TableId};
     ghost use Rattle.flow_law.specs.declared.history.Said.{Said};
-    ghost use Rattle.flow_law.specs.Handles.{ReaderOf, read_by};
+    ghost use Rattle.flow_law.specs.history.Handles.{ReaderOf, read_by};
 
     ghost Value = { ReaderOf TableId S.State (Said S.Call S.Reply) };
 

@@ -1,11 +1,11 @@
 //! Reading and setting the value of a state flow through a handle.
 ghost use Rattle.std.specs.Prelude.{◌≡◌, Ok, IfOk, IfErr, IsErr, IsOk, MatchResult};
 ghost use Rattle.std.specs.Fn.{FnReturnsAt};
-ghost use Rattle.flow_law.specs.HandleFaults.{answer_by, handed_by, busy_fault, memory_fault, unsupported_fault};
-ghost use Rattle.flow_law.specs.Handles.{called_by};
-ghost use Rattle.flow_law.specs.Promise.{CallsIn};
-ghost use Rattle.flow_law.specs.StateFlow.{state_flow};
-ghost use Rattle.flow_law.specs.Updates.{Accepts, ReadsInVain, Refuses, RefusesOrKeepsNone, StopsAt, Updates};
+ghost use Rattle.flow_law.specs.history.HandleFaults.{answer_by, handed_by, busy_fault, memory_fault, unsupported_fault};
+ghost use Rattle.flow_law.specs.history.Handles.{called_by};
+ghost use Rattle.flow_law.specs.history.Promise.{CallsIn};
+ghost use Rattle.flow_law.specs.flow.StateFlow.{state_flow};
+ghost use Rattle.flow_law.specs.history.Updates.{Accepts, ReadsInVain, Refuses, RefusesOrKeepsNone, StopsAt, Updates};
 ghost use Rattle.flow_law.specs.declared.call.StateCall.TheVariants as call;
 ghost use Rattle.flow_law.specs.declared.call.StateReply.TheVariants as reply;
 ghost use Rattle.flow_core.specs.StateCore.{value_reply, state_cache_reply, reset_reply};

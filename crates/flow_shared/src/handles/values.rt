@@ -3,7 +3,7 @@ ghost use Rattle.std.specs.Prelude.{◌≡◌, ⊤, List, [], Option, Some, IfSo
 ghost use Rattle.futures.specs.Poll.{IfReady, OnPending};
 ghost use Rattle.futures.specs.Runs.{After, Within};
 ghost use Rattle.futures.specs.Task.{Covers, IsArmed, Keeps};
-ghost use Rattle.flow_law.specs.StateFlow.{state_flow};
+ghost use Rattle.flow_law.specs.flow.StateFlow.{state_flow};
 ghost use Rattle.flow_shared.specs.Polling.{GivesChanged, PollsChange, PollsItem, PollsNext, Yields, polled_by};
 
 use super::held::HoldsFlow;
@@ -72,7 +72,7 @@ pub struct FlowValues<'a, S: ReaderCalls, A: Allocator + Copy = Global> {
 impl<'a, S: ReaderCalls, A: Allocator + Copy> Model for FlowValues<'a, S, A> {
     ghost use Rattle.atomic_table.specs.Seated.{TableId};
     ghost use Rattle.flow_law.specs.declared.history.Said.{Said};
-    ghost use Rattle.flow_law.specs.Handles.{ReaderOf};
+    ghost use Rattle.flow_law.specs.history.Handles.{ReaderOf};
 
     ghost Value = { ReaderOf TableId S.State (Said S.Call S.Reply) };
 
@@ -150,7 +150,7 @@ impl<'a, T: FlowValue, A: Allocator + Copy> Model for StateChangedFuture<'a, T, 
     ghost use Rattle.flow_law.specs.declared.call.StateCall.{StateCall};
     ghost use Rattle.flow_law.specs.declared.call.StateReply.{StateReply};
     ghost use Rattle.flow_law.specs.declared.states.StateFlowState.{StateFlowState};
-    ghost use Rattle.flow_law.specs.Handles.{ReaderOf};
+    ghost use Rattle.flow_law.specs.history.Handles.{ReaderOf};
 
     ghost Value = { Option
         (ReaderOf TableId (StateFlowState T) (Said (StateCall T) (StateReply T))) };

@@ -1,9 +1,9 @@
 //! Views of a flow, which only read: hand one out to code that must not emit or set (`asSharedFlow`, `asStateFlow`).
 ghost use Rattle.std.specs.Prelude.{◌≡◌, IsOk};
-ghost use Rattle.flow_law.specs.Growth.{makes, child};
-ghost use Rattle.flow_law.specs.HandleFaults.{answer_by, memory_fault, number_fault};
-ghost use Rattle.flow_law.specs.Handles.{SubscribesBound};
-ghost use Rattle.flow_law.specs.Tokens.{knowing};
+ghost use Rattle.flow_law.specs.history.Growth.{makes, child};
+ghost use Rattle.flow_law.specs.history.HandleFaults.{answer_by, memory_fault, number_fault};
+ghost use Rattle.flow_law.specs.history.Handles.{SubscribesBound};
+ghost use Rattle.flow_law.specs.history.Tokens.{knowing};
 ghost use Rattle.flow_law.specs.declared.call.SharedCall.TheVariants as shared_call;
 ghost use Rattle.flow_law.specs.declared.call.StateCall.TheVariants as state_call;
 ghost use Rattle.flow_core.specs.SharedCore.{cache_reply};
@@ -38,7 +38,7 @@ pub type StateView<'a, T, A = Global> = FlowView<'a, StateCore<T, A>, A>;
 impl<'a, S: FlowCore, A: Allocator + Copy> Model for FlowView<'a, S, A> {
     ghost use Rattle.atomic_table.specs.Seated.{TableId};
     ghost use Rattle.flow_law.specs.declared.history.Said.{Said};
-    ghost use Rattle.flow_law.specs.Handles.{CallerOf};
+    ghost use Rattle.flow_law.specs.history.Handles.{CallerOf};
 
     ghost Value = { CallerOf TableId S.State (Said S.Call S.Reply) };
 

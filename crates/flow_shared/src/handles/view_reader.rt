@@ -1,10 +1,10 @@
 //! A reader of a view: it receives, and gives neither an emitter nor a setter.
 ghost use Rattle.std.specs.Prelude.{◌≡◌, true, false, IsOk};
 ghost use Rattle.std.specs.Fn.{FnReturnsAt};
-ghost use Rattle.flow_law.specs.HandleFaults.{answer_by, memory_fault};
-ghost use Rattle.flow_law.specs.Handles.{next_in};
-ghost use Rattle.flow_law.specs.SharedHistory.{shared_flow};
-ghost use Rattle.flow_law.specs.StateFlow.{state_flow};
+ghost use Rattle.flow_law.specs.history.HandleFaults.{answer_by, memory_fault};
+ghost use Rattle.flow_law.specs.history.Handles.{next_in};
+ghost use Rattle.flow_law.specs.flow.SharedHistory.{shared_flow};
+ghost use Rattle.flow_law.specs.flow.StateFlow.{state_flow};
 ghost use Rattle.flow_shared.specs.Calls.{NextsOf, Unsubscribes};
 ghost use Rattle.flow_shared.specs.Receiving.{FlowReceives, NextsUntil};
 ghost use Rattle.flow_shared.specs.WaitingFor.{ReceivesIf};
@@ -32,7 +32,7 @@ pub struct ViewReader<'a, S: ReaderCalls, A: Allocator + Copy = Global> {
 impl<'a, S: ReaderCalls, A: Allocator + Copy> Model for ViewReader<'a, S, A> {
     ghost use Rattle.atomic_table.specs.Seated.{TableId};
     ghost use Rattle.flow_law.specs.declared.history.Said.{Said};
-    ghost use Rattle.flow_law.specs.Handles.{ReaderOf};
+    ghost use Rattle.flow_law.specs.history.Handles.{ReaderOf};
 
     ghost Value = { ReaderOf TableId S.State (Said S.Call S.Reply) };
 

@@ -2,10 +2,10 @@
 //! one, or until a time limit.
 ghost use Rattle.std.specs.Prelude.{◌≡◌, Ok, None, true, false, IsOk};
 ghost use Rattle.std.specs.Fn.{FnReturnsAt};
-ghost use Rattle.flow_law.specs.HandleFaults.{answer_by, memory_fault};
-ghost use Rattle.flow_law.specs.Handles.{next_in};
-ghost use Rattle.flow_law.specs.SharedHistory.{shared_flow};
-ghost use Rattle.flow_law.specs.StateFlow.{state_flow};
+ghost use Rattle.flow_law.specs.history.HandleFaults.{answer_by, memory_fault};
+ghost use Rattle.flow_law.specs.history.Handles.{next_in};
+ghost use Rattle.flow_law.specs.flow.SharedHistory.{shared_flow};
+ghost use Rattle.flow_law.specs.flow.StateFlow.{state_flow};
 ghost use Rattle.flow_shared.specs.Calls.{NextsOf};
 ghost use Rattle.flow_shared.specs.Receiving.{FlowReceives, NextsUntil};
 ghost use Rattle.flow_shared.specs.WaitingFor.{Looks, NextsIf, ReceivesIf};

@@ -1,7 +1,7 @@
 //! Emissions whose threads sleep while they wait, for as long as it takes or within a time limit.
 ghost use Rattle.std.specs.Prelude.{◌≡◌, IfErr};
-ghost use Rattle.flow_law.specs.History.{IsEmission};
-ghost use Rattle.flow_law.specs.SharedHistory.{shared_flow};
+ghost use Rattle.flow_law.specs.history.History.{IsEmission};
+ghost use Rattle.flow_law.specs.flow.SharedHistory.{shared_flow};
 ghost use Rattle.flow_sleepers.specs.Waiters.{IsReadyToWait};
 ghost use Rattle.flow_shared.specs.EmitFutures.{EmitEnds};
 ghost use Rattle.flow_shared.specs.Sending.{Sends, SendEndsBy, EndsInTime, SendsInTime};

@@ -1,6 +1,6 @@
 //! The calls that only shared flows have.
 ghost use Rattle.std.specs.Prelude.{◌≡◌, IfErr};
-ghost use Rattle.flow_law.specs.History.{fault_alone};
+ghost use Rattle.flow_law.specs.history.History.{fault_alone};
 ghost use Rattle.flow_law.specs.declared.call.SharedCall.TheVariants as call;
 ghost use Rattle.flow_law.specs.declared.call.SharedReply.TheVariants as reply;
 ghost use Rattle.flow_shared.specs.CoreCalls.{after_emit, after_polling};

@@ -2,7 +2,7 @@
 ghost use Rattle.std.specs.Int.{cast_signed};
 ghost use Rattle.std.specs.Prelude.{◌^◌, ◌<◌};
 ghost use Rattle.std.proofs.Common.{ap};
-ghost use Rattle.flow_law.specs.Packs.{below_word, signed_once};
+ghost use Rattle.flow_law.specs.flow.Packs.{below_word, signed_once};
 ghost use mir.Syntax.{w32};
 
 use flow_law::Packed;

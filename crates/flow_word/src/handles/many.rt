@@ -1,7 +1,7 @@
 //! Callers with a thread each, and what they did, once these threads have ended.
 ghost use Rattle.std.specs.Prelude.{◌≡◌, ◌∷◌, ℕ, ◌<◌, All, IfOk, length, map, slice_index_or, vec_len};
-ghost use Rattle.flow_law.specs.Rounds.{OnlyMeets, MeetsInTurn, IsFinalValue};
-ghost use Rattle.flow_law.specs.StateFlow.{state_flow};
+ghost use Rattle.flow_law.specs.history.Rounds.{OnlyMeets, MeetsInTurn, IsFinalValue};
+ghost use Rattle.flow_law.specs.flow.StateFlow.{state_flow};
 ghost use Rattle.flow_word.specs.Handles.{MakesMany, AreNextSeats};
 
 use super::setter::WordSetter;

@@ -1,11 +1,11 @@
 //! A subscription that is bound to its word state.
 ghost use Rattle.std.specs.Prelude.{◌≡◌, ℕ, Ok};
-ghost use Rattle.flow_law.specs.Conflation.{Conflates};
-ghost use Rattle.flow_law.specs.Current.{Converges};
-ghost use Rattle.flow_law.specs.Handles.{read_by, next_of};
-ghost use Rattle.flow_law.specs.StateFlow.{IsStateHistory, state_flow};
-ghost use Rattle.flow_law.specs.RealTime.{InRealTime};
-ghost use Rattle.flow_law.specs.Tokens.{NextsIn, UnsubscribesIn};
+ghost use Rattle.flow_law.specs.laws.Conflation.{Conflates};
+ghost use Rattle.flow_law.specs.laws.Current.{Converges};
+ghost use Rattle.flow_law.specs.history.Handles.{read_by, next_of};
+ghost use Rattle.flow_law.specs.flow.StateFlow.{IsStateHistory, state_flow};
+ghost use Rattle.flow_law.specs.history.RealTime.{InRealTime};
+ghost use Rattle.flow_law.specs.history.Tokens.{NextsIn, UnsubscribesIn};
 ghost use Rattle.flow_word.specs.Handles.{IsThereAfter};
 
 use super::setter::WordSetter;
@@ -31,7 +31,7 @@ impl<T: Packed> Drop for WordReader<'_, T> {
 
 impl<'a, T: Packed> Model for WordReader<'a, T> {
     ghost use Rattle.std.specs.Prelude.{◌≡◌};
-    ghost use Rattle.flow_law.specs.Handles.{read_by};
+    ghost use Rattle.flow_law.specs.history.Handles.{read_by};
     ghost use Rattle.flow_word.specs.Handles.{ReaderOfWord};
 
     ghost Value = { ReaderOfWord T };

@@ -1,14 +1,14 @@
 //! A seat that is bound to its word state.
 ghost use Rattle.std.specs.Prelude.{◌≡◌, ℕ};
-ghost use Rattle.flow_law.specs.Conflation.{Conflates};
-ghost use Rattle.flow_law.specs.Current.{Converges};
-ghost use Rattle.flow_law.specs.Growth.{makes, child};
-ghost use Rattle.flow_law.specs.HandleFaults.{answer_by, limit_fault};
-ghost use Rattle.flow_law.specs.Handles.{called_by, SubscribesBound};
-ghost use Rattle.flow_law.specs.StateFlow.{IsStateHistory, state_flow};
-ghost use Rattle.flow_law.specs.Tokens.{MeetsIn, knowing};
-ghost use Rattle.flow_law.specs.Promise.{CallsAtOnceIn};
-ghost use Rattle.flow_law.specs.RealTime.{InRealTime};
+ghost use Rattle.flow_law.specs.laws.Conflation.{Conflates};
+ghost use Rattle.flow_law.specs.laws.Current.{Converges};
+ghost use Rattle.flow_law.specs.history.Growth.{makes, child};
+ghost use Rattle.flow_law.specs.history.HandleFaults.{answer_by, limit_fault};
+ghost use Rattle.flow_law.specs.history.Handles.{called_by, SubscribesBound};
+ghost use Rattle.flow_law.specs.flow.StateFlow.{IsStateHistory, state_flow};
+ghost use Rattle.flow_law.specs.history.Tokens.{MeetsIn, knowing};
+ghost use Rattle.flow_law.specs.history.Promise.{CallsAtOnceIn};
+ghost use Rattle.flow_law.specs.history.RealTime.{InRealTime};
 ghost use Rattle.flow_law.specs.declared.call.StateCall.TheVariants as call;
 ghost use Rattle.flow_law.specs.declared.call.StateReply.TheVariants as reply;
 
@@ -36,7 +36,7 @@ impl<T: Packed> Drop for WordSetter<'_, T> {
 
 impl<'a, T: Packed> Model for WordSetter<'a, T> {
     ghost use Rattle.std.specs.Prelude.{◌≡◌};
-    ghost use Rattle.flow_law.specs.Handles.{called_by};
+    ghost use Rattle.flow_law.specs.history.Handles.{called_by};
     ghost use Rattle.flow_word.specs.Handles.{CallerOfWord};
 
     ghost Value = { CallerOfWord T };

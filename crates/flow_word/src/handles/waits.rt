@@ -2,7 +2,7 @@
 ghost use Rattle.std.specs.Prelude.{◌≡◌, true, false, None};
 ghost use Rattle.std.specs.Fn.{FnReturnsAt};
 ghost use Rattle.futures.specs.Task.{IsArmed, Keeps};
-ghost use Rattle.flow_law.specs.StateFlow.{state_flow};
+ghost use Rattle.flow_law.specs.flow.StateFlow.{state_flow};
 ghost use Rattle.flow_word.specs.Handles.{ReaderOfWord};
 ghost use Rattle.flow_word.specs.Receiving.{FindsNone, WordReceives, ReceivesInTime};
 ghost use Rattle.flow_word.specs.WaitingFor.{WordLooks, WordReceivesIf, ReceivesIfInTime};

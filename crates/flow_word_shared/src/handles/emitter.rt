@@ -3,18 +3,18 @@ ghost use Rattle.std.specs.Prelude.{◌≡◌, ℕ, [], IfErr};
 ghost use Rattle.flow_law.specs.declared.call.SharedCall.TheVariants as call;
 ghost use Rattle.flow_law.specs.declared.call.SharedReply.TheVariants as reply;
 ghost use Rattle.flow_law.specs.declared.outcome.Emit.TheVariants.{Done};
-ghost use Rattle.flow_law.specs.Growth.{makes, child};
-ghost use Rattle.flow_law.specs.HandleFaults.{answer_by, handed_by, busy_fault, limit_fault, memory_fault};
-ghost use Rattle.flow_law.specs.Handles.{called_by, SubscribesBound};
-ghost use Rattle.flow_law.specs.History.{IsHistory, replied, fault_alone};
-ghost use Rattle.flow_law.specs.Lagging.{EachLags};
-ghost use Rattle.flow_law.specs.Laws.{Delivers, NoIdleQueue};
-ghost use Rattle.flow_law.specs.Promise.{CallsIn, CallsAtOnceIn};
-ghost use Rattle.flow_law.specs.RealTime.{InRealTime};
-ghost use Rattle.flow_law.specs.Replaying.{EachReplays};
-ghost use Rattle.flow_law.specs.SharedHistory.{shared_flow, state_after};
-ghost use Rattle.flow_law.specs.Tokens.{MeetsIn, knowing};
-ghost use Rattle.flow_law.specs.Waiting.{EachWaits};
+ghost use Rattle.flow_law.specs.history.Growth.{makes, child};
+ghost use Rattle.flow_law.specs.history.HandleFaults.{answer_by, handed_by, busy_fault, limit_fault, memory_fault};
+ghost use Rattle.flow_law.specs.history.Handles.{called_by, SubscribesBound};
+ghost use Rattle.flow_law.specs.history.History.{IsHistory, replied, fault_alone};
+ghost use Rattle.flow_law.specs.laws.Lagging.{EachLags};
+ghost use Rattle.flow_law.specs.laws.Laws.{Delivers, NoIdleQueue};
+ghost use Rattle.flow_law.specs.history.Promise.{CallsIn, CallsAtOnceIn};
+ghost use Rattle.flow_law.specs.history.RealTime.{InRealTime};
+ghost use Rattle.flow_law.specs.laws.Replaying.{EachReplays};
+ghost use Rattle.flow_law.specs.flow.SharedHistory.{shared_flow, state_after};
+ghost use Rattle.flow_law.specs.history.Tokens.{MeetsIn, knowing};
+ghost use Rattle.flow_law.specs.laws.Waiting.{EachWaits};
 ghost use Rattle.flow_word_shared.specs.Answers.{WordEmitsNow, WordResetsNow};
 
 use super::reader::WordFlowReader;
@@ -42,7 +42,7 @@ impl<T: Packed> Drop for WordEmitter<'_, T> {
 
 impl<'a, T: Packed> Model for WordEmitter<'a, T> {
     ghost use Rattle.std.specs.Prelude.{◌≡◌};
-    ghost use Rattle.flow_law.specs.Handles.{called_by};
+    ghost use Rattle.flow_law.specs.history.Handles.{called_by};
     ghost use Rattle.flow_word_shared.specs.Handles.{WordFlowCallerOf};
 
     ghost Value = { WordFlowCallerOf T };

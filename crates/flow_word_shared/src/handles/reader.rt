@@ -3,19 +3,19 @@ ghost use Rattle.std.specs.Prelude.{◌≡◌, ◌≢◌, ℕ, Ok, IsSome};
 ghost use Rattle.std.specs.Result.{OnErr};
 ghost use Rattle.flow_law.specs.declared.outcome.Drained.TheVariants.{Gone};
 ghost use Rattle.flow_law.specs.declared.outcome.Next.TheVariants as no_more;
-ghost use Rattle.flow_law.specs.Draining.{DrainsBy, IsFull};
-ghost use Rattle.flow_law.specs.Growth.{makes, child};
-ghost use Rattle.flow_law.specs.HandleFaults.{answer_by, busy_fault, memory_fault};
-ghost use Rattle.flow_law.specs.Handles.{read_by, next_of, next_in};
-ghost use Rattle.flow_law.specs.History.{IsHistory};
-ghost use Rattle.flow_law.specs.Lagging.{EachLags};
-ghost use Rattle.flow_law.specs.Laws.{Delivers, NoIdleQueue};
-ghost use Rattle.flow_law.specs.RealTime.{InRealTime};
-ghost use Rattle.flow_law.specs.Replaying.{EachReplays};
-ghost use Rattle.flow_law.specs.SharedFlow.{position_of};
-ghost use Rattle.flow_law.specs.SharedHistory.{shared_flow, state_after};
-ghost use Rattle.flow_law.specs.Tokens.{NextsIn, UnsubscribesIn, knowing};
-ghost use Rattle.flow_law.specs.Waiting.{EachWaits};
+ghost use Rattle.flow_law.specs.flow.Draining.{DrainsBy, IsFull};
+ghost use Rattle.flow_law.specs.history.Growth.{makes, child};
+ghost use Rattle.flow_law.specs.history.HandleFaults.{answer_by, busy_fault, memory_fault};
+ghost use Rattle.flow_law.specs.history.Handles.{read_by, next_of, next_in};
+ghost use Rattle.flow_law.specs.history.History.{IsHistory};
+ghost use Rattle.flow_law.specs.laws.Lagging.{EachLags};
+ghost use Rattle.flow_law.specs.laws.Laws.{Delivers, NoIdleQueue};
+ghost use Rattle.flow_law.specs.history.RealTime.{InRealTime};
+ghost use Rattle.flow_law.specs.laws.Replaying.{EachReplays};
+ghost use Rattle.flow_law.specs.flow.SharedFlow.{position_of};
+ghost use Rattle.flow_law.specs.flow.SharedHistory.{shared_flow, state_after};
+ghost use Rattle.flow_law.specs.history.Tokens.{NextsIn, UnsubscribesIn, knowing};
+ghost use Rattle.flow_law.specs.laws.Waiting.{EachWaits};
 ghost use Rattle.flow_word_shared.specs.Answers.{WordFlowNexts, WordNextsNow};
 
 use super::emitter::WordEmitter;
@@ -43,7 +43,7 @@ impl<T: Packed> Drop for WordFlowReader<'_, T> {
 
 impl<'a, T: Packed> Model for WordFlowReader<'a, T> {
     ghost use Rattle.std.specs.Prelude.{◌≡◌};
-    ghost use Rattle.flow_law.specs.Handles.{read_by};
+    ghost use Rattle.flow_law.specs.history.Handles.{read_by};
     ghost use Rattle.flow_word_shared.specs.Handles.{WordFlowReaderOf};
 
     ghost Value = { WordFlowReaderOf T };

@@ -1,7 +1,7 @@
 //! Calls of a reader that sleep until there is a value.
 ghost use Rattle.std.specs.Prelude.{◌≡◌, None};
 ghost use Rattle.futures.specs.Task.{IsArmed, Keeps};
-ghost use Rattle.flow_law.specs.SharedHistory.{shared_flow};
+ghost use Rattle.flow_law.specs.flow.SharedHistory.{shared_flow};
 ghost use Rattle.flow_word.specs.Receiving.{FindsNone, WordReceives, ReceivesInTime};
 ghost use Rattle.flow_word_shared.specs.Handles.{WordFlowReaderOf};
 ghost use Rattle.flow_word_shared.specs.Receiving.{WordFlowPolls};

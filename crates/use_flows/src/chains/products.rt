@@ -1,7 +1,7 @@
 //! A chain whose inner chains capture the outer item, with a contract that says which list it gives.
 ghost use Rattle.std.specs.Prelude.{◌≡◌, ◌≢◌, IfOk, IfErr};
 ghost use Rattle.flow_law.specs.declared.chain.End.{End};
-ghost use Rattle.flow_law.specs.ChainRun.{Collects, list_run};
+ghost use Rattle.flow_law.specs.chain.ChainRun.{Collects, list_run};
 ghost use Rattle.use_flows.specs.Products.{products};
 
 use anyhow::Result;

@@ -1,7 +1,7 @@
 use Rattle.std.proofs.Common.{sym, ap, ◌∙◌, subst}
 use Rattle.std.specs.Prelude.{is_some}
 use Rattle.std.proofs.lemmas.Bool.{false≢true}
-use Rattle.flow_law.specs.SharedFlow.{config_fault}
+use Rattle.flow_law.specs.flow.SharedFlow.{config_fault}
 use Rattle.flow_check.specs.declared.shared_calls.SharedEntry.{SharedEntry}
 use Rattle.flow_check.specs.Records.{CallsByCaller, IsWellTimed}
 use Rattle.flow_check.specs.Remaining.{GoesThroughAll}

@@ -2,7 +2,7 @@ use Rattle.std.proofs.Common.{◌≡◌, ◌+◌, ◌≤◌, ◌∷◌, [], ◌+
 use Rattle.std.specs.Prelude.{Ok, Err}
 use Rattle.std.specs.Vec.{vec_len, vec_capacity}
 use Rattle.std.proofs.lemmas.Result.{err_from_is_err_and}
-use Rattle.flow_law.specs.Draining.{DrainsBy, EndsBy}
+use Rattle.flow_law.specs.flow.Draining.{DrainsBy, EndsBy}
 use Rattle.flow_law.proofs.DrainingLemmas.{HasTaken, taken_none, taken_more, takes_most}
 use Rattle.flow_core.specs.SubId.{number_of}
 use Rattle.flow_core.proofs.DrainSteps.{by_empty, by_gone, by_fault, for_memory, where_ok}

@@ -1,4 +1,4 @@
-use Rattle.flow_law.proofs.Lagging.{lags}
+use Rattle.flow_law.proofs.LaggedReads.{lags}
 use Rattle.flow_law.proofs.laws.law_lagged.Goals as goal
 
 pub returns : goal.returns

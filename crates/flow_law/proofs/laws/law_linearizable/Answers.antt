@@ -1,5 +1,5 @@
-use Rattle.flow_law.specs.SharedHistory.{shared_flow}
-use Rattle.flow_law.specs.StateFlow.{state_flow}
+use Rattle.flow_law.specs.flow.SharedHistory.{shared_flow}
+use Rattle.flow_law.specs.flow.StateFlow.{state_flow}
 use Rattle.flow_law.proofs.RealTimeLemmas.{linearizes}
 use Rattle.flow_law.proofs.laws.law_linearizable.Goals as goal
 

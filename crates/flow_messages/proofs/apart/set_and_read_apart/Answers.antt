@@ -1,9 +1,9 @@
 use Rattle.std.proofs.Common.{◌∙◌, ap, sym, subst}
 use Rattle.flow_law.specs.declared.call.StateCall.TheVariants.{Set, GetValue}
 use Rattle.flow_law.specs.declared.call.StateReply.TheVariants.{Done, Got}
-use Rattle.flow_law.specs.Promise.{CallsIn}
-use Rattle.flow_law.specs.StateFlow.{state_flow}
-use Rattle.flow_law.specs.Tokens.{MeetsIn}
+use Rattle.flow_law.specs.history.Promise.{CallsIn}
+use Rattle.flow_law.specs.flow.StateFlow.{state_flow}
+use Rattle.flow_law.specs.history.Tokens.{MeetsIn}
 use Rattle.flow_messages.proofs.ApartLemmas.{sees_both}
 use Rattle.flow_messages.proofs.apart.set_and_read_apart.Goals as goal
 

@@ -1,7 +1,7 @@
 use Rattle.std.proofs.Common.{◌≡◌, Bool}
 use Rattle.std.specs.Prelude.{filter}
 use Rattle.std.specs.Fn.{FnReturnsAt}
-use Rattle.flow_law.specs.ChainRun.{items, ending}
+use Rattle.flow_law.specs.chain.ChainRun.{items, ending}
 use Rattle.flow_operators.specs.Closures.{Decides}
 use Rattle.flow_operators.specs.SameChain.{StaysChain}
 use Rattle.flow_operators.specs.Stopping.{StandsAfterFound}

@@ -1,6 +1,6 @@
 use Rattle.std.proofs.Common.{◌≡◌, Result}
 use Rattle.flow_law.specs.declared.chain.ChainFault.{ChainFault}
-use Rattle.flow_law.specs.ChainRun.{items, ending}
+use Rattle.flow_law.specs.chain.ChainRun.{items, ending}
 use Rattle.flow_operators.specs.Closures.{ComputesPairs}
 use Rattle.flow_operators.specs.SameChain.{StaysChain}
 use Rattle.flow_operators.specs.Stopping.{StandsAfterFailed}

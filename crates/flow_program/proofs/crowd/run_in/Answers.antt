@@ -1,7 +1,7 @@
 use Rattle.std.proofs.Common.{arith, ◌≡◌, ◌<◌, ◌∷◌, ◌++◌, get_or, map, ap, sym, subst, ◌∙◌, length, vec_items}
-use Rattle.flow_law.specs.Handles.{called_by}
-use Rattle.flow_law.specs.Rounds.{HasClosedHistory}
-use Rattle.flow_law.specs.SharedHistory.{shared_flow}
+use Rattle.flow_law.specs.history.Handles.{called_by}
+use Rattle.flow_law.specs.history.Rounds.{HasClosedHistory}
+use Rattle.flow_law.specs.flow.SharedHistory.{shared_flow}
 use Rattle.flow_program.specs.Crowds.{AreMade}
 use Rattle.flow_program.proofs.EndLemmas.{each_got_all}
 use Rattle.flow_program.proofs.PlaceLemmas.{one_of}

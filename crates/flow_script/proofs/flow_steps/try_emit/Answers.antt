@@ -1,6 +1,6 @@
 use Rattle.std.proofs.Common.{refl, subst}
 use Rattle.std.proofs.Math.Facts.{to_z-of_z}
-use Rattle.flow_law.specs.Standing.{Documents}
+use Rattle.flow_law.specs.flow.Standing.{Documents}
 use Rattle.script_format.specs.declared.script.FlowStep.TheVariants as step
 use Rattle.flow_script.specs.Answers.{as_answer, tested}
 use Rattle.flow_script.specs.Shown.{kept_numbers}

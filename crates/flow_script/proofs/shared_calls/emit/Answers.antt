@@ -2,8 +2,8 @@ use Rattle.std.proofs.Common.{refl, subst}
 use Rattle.std.proofs.Math.Facts.{to_z-of_z}
 use Rattle.flow_law.specs.declared.call.SharedCall.TheVariants.{Emit}
 use Rattle.flow_law.specs.declared.call.SharedReply.TheVariants.{Refused}
-use Rattle.flow_law.specs.SharedHistory.{shared_flow}
-use Rattle.flow_law.specs.Standing.{Conforms, StandsFor}
+use Rattle.flow_law.specs.flow.SharedHistory.{shared_flow}
+use Rattle.flow_law.specs.flow.Standing.{Conforms, StandsFor}
 use Rattle.script_format.specs.declared.script.FlowStep.TheVariants as step
 use Rattle.flow_script.specs.Answers.{as_answer}
 use Rattle.flow_script.specs.SharedMeaning.{plays_shared}

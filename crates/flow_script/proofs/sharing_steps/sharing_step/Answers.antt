@@ -1,7 +1,7 @@
 use Rattle.std.proofs.Common.{◌≡◌, ℕ, ℤ, refl, subst}
 use Rattle.std.specs.Prelude.{IfOk}
-use Rattle.flow_law.specs.SharingCalls.{HubCall, HubAnswer}
-use Rattle.flow_law.specs.Steps.{After}
+use Rattle.flow_law.specs.sharing.SharingCalls.{HubCall, HubAnswer}
+use Rattle.flow_law.specs.sharing.Steps.{After}
 use Rattle.script_format.specs.declared.script.FlowStep.{FlowStep}
 use Rattle.script_format.specs.declared.script.FlowStep.TheVariants as step
 use Rattle.flow_script.specs.FlowMeaning.{Turn}

@@ -3,8 +3,8 @@ use Rattle.std.proofs.Math.Facts.{to_z-of_z}
 use mir.Val.{to_z, of_z}
 use Rattle.flow_law.specs.declared.call.StateCall.TheVariants.{CompareAndSet}
 use Rattle.flow_law.specs.declared.call.StateReply.TheVariants.{Answered}
-use Rattle.flow_law.specs.StateFlow.{state_flow}
-use Rattle.flow_law.specs.Standing.{StateConforms}
+use Rattle.flow_law.specs.flow.StateFlow.{state_flow}
+use Rattle.flow_law.specs.flow.Standing.{StateConforms}
 use Rattle.script_format.specs.declared.script.FlowStep.TheVariants as step
 use Rattle.flow_script.specs.Answers.{tested}
 use Rattle.flow_script.specs.StateMeaning.{IsState, plays_state}

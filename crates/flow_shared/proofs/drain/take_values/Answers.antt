@@ -4,7 +4,7 @@ use Rattle.std.proofs.lemmas.Result.{err_from_is_err_and}
 use Rattle.flow_core.specs.SubId.{number_of}
 use Rattle.flow_law.specs.declared.outcome.Drained.TheVariants as drained
 use Rattle.flow_law.proofs.DrainingLemmas.{HasTaken, taken_none, taken_more, takes_most, takes_before}
-use Rattle.flow_law.specs.Draining.{TakesBy, EndsByCall}
+use Rattle.flow_law.specs.flow.Draining.{TakesBy, EndsByCall}
 use Rattle.flow_shared.specs.Attended.{AttendedAs}
 use Rattle.flow_shared.specs.Drains.{CoreNexts}
 use Rattle.flow_shared.proofs.Drains.{taken_room}

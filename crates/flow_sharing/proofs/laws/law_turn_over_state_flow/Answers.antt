@@ -1,4 +1,4 @@
-use Rattle.flow_law.specs.StateFlow.{state_flow}
+use Rattle.flow_law.specs.flow.StateFlow.{state_flow}
 use Rattle.flow_sharing.specs.StateFlowHub.{StateSays}
 use Rattle.flow_sharing.proofs.HubLemmas.{state-by-seats}
 use Rattle.flow_sharing.proofs.TurnBySeatsLemmas.{turn-by-seats}

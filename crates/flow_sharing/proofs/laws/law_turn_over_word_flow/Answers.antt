@@ -1,4 +1,4 @@
-use Rattle.flow_law.specs.SharedHistory.{shared_flow}
+use Rattle.flow_law.specs.flow.SharedHistory.{shared_flow}
 use Rattle.flow_sharing.specs.SharedFlowHub.{SharedSays}
 use Rattle.flow_sharing.proofs.HubLemmas.{shared-by-seats}
 use Rattle.flow_sharing.proofs.TurnBySeatsLemmas.{turn-by-seats}

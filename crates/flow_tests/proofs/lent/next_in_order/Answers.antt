@@ -1,6 +1,6 @@
 use Rattle.std.proofs.Common.{◌≡◌, ap, subst}
 use Rattle.std.specs.Prelude.{Ok}
-use Rattle.flow_law.specs.SharedHistory.{shared_flow}
+use Rattle.flow_law.specs.flow.SharedHistory.{shared_flow}
 use Rattle.flow_shared.specs.Calls.{Nexts}
 use Rattle.flow_tests.specs.LentFlows.{HasAll}
 use Rattle.flow_tests.proofs.LentLemmas.{has_all_now, reads_in_order}

@@ -1,7 +1,7 @@
 use Rattle.std.proofs.Common.{◌≡◌, None, refl, sym, ap, ◌∙◌, subst}
 use Rattle.flow_law.specs.declared.config.Config.{Config}
-use Rattle.flow_law.specs.SharedFlow.{NoFlow, config_fault, first_state}
-use Rattle.flow_law.specs.Standing.{Core, StandsFor}
+use Rattle.flow_law.specs.flow.SharedFlow.{NoFlow, config_fault, first_state}
+use Rattle.flow_law.specs.flow.Standing.{Core, StandsFor}
 use Rattle.flow_turns.specs.CoreHub.{core_of}
 use Rattle.flow_turns.proofs.share.share_in.Goals as goal
 

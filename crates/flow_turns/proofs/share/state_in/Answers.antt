@@ -1,6 +1,6 @@
 use Rattle.std.proofs.Common.{ap, ◌∙◌}
 use Rattle.flow_law.specs.declared.report.ShareFault.TheVariants.{Flow}
-use Rattle.flow_law.specs.StateFlow.{first_state_flow}
+use Rattle.flow_law.specs.flow.StateFlow.{first_state_flow}
 use Rattle.flow_turns.specs.StateHub.{state_core_of, reset_value}
 use Rattle.flow_turns.proofs.share.state_in.Goals as goal
 

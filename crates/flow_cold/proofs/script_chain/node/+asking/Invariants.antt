@@ -1,5 +1,5 @@
 use Rattle.std.proofs.Common.{◌≡◌, ◌≤◌, ◌+◌, ◌*◌, max, ℤ}
-use Rattle.flow_law.specs.ChainRun.{ChainRun, asks}
+use Rattle.flow_law.specs.chain.ChainRun.{ChainRun, asks}
 use Rattle.flow_cold.specs.declared.script_chain.node.Node.{size-Node}
 use Rattle.flow_cold.specs.OperatorAsks.{after_stage}
 use Rattle.flow_cold.specs.Operators.{IsStageOver, operator_whole, stage_rest}

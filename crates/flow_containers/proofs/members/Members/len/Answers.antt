@@ -1,5 +1,5 @@
 use Rattle.std.proofs.Common.{subst}
-use Rattle.flow_law.specs.Laws.{RisesTo}
+use Rattle.flow_law.specs.laws.Laws.{RisesTo}
 use Rattle.flow_containers.specs.Members.{Membership, member_numbers}
 use Rattle.flow_containers.proofs.MembershipLemmas.{rises}
 use Rattle.flow_containers.proofs.members.Members.len.Goals as goal

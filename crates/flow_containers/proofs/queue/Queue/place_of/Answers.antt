@@ -3,7 +3,7 @@ use Rattle.std.specs.Prelude.{nat_lt, ◌^◌}
 use Rattle.std.specs.List.Sorted.{IsPartitionPoint}
 use Rattle.std.proofs.lemmas.List.Sorted.{IsPartitionPoint-from_clause, IsPartitionedBy-ltb}
 use Rattle.std.proofs.lemmas.List.{get_or_default}
-use Rattle.flow_law.specs.Laws.{RisesTo}
+use Rattle.flow_law.specs.laws.Laws.{RisesTo}
 use Rattle.flow_containers.specs.Queue.{IsPlace, Rises, numbered_of}
 use Rattle.flow_containers.specs.declared.queue.Queued.{Queued}
 use Rattle.flow_containers.proofs.QueueLemmas.{numbers_of, non_decreasing, place_found, place_missing}

@@ -1,5 +1,5 @@
 use Rattle.std.proofs.Common.{◌-◌, map, sym, subst, arith}
-use Rattle.flow_law.specs.Laws.{RisesTo}
+use Rattle.flow_law.specs.laws.Laws.{RisesTo}
 use Rattle.flow_containers.proofs.QueueLemmas.{rises_pushed}
 use Rattle.flow_containers.proofs.queue.Queue.push.Goals as goal
 

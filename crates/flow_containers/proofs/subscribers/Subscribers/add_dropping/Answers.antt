@@ -1,5 +1,5 @@
 use Rattle.std.proofs.Common.{◌≡◌, ◌+◌, ◌-◌, ◌≤◌, length, refl, sym, ap, subst, ◌∙◌, arith}
-use Rattle.flow_law.specs.SharedFlow.{raise_to}
+use Rattle.flow_law.specs.flow.SharedFlow.{raise_to}
 use Rattle.flow_containers.specs.Subscribers.{Standing}
 use Rattle.flow_containers.proofs.SubscribersLemmas.{standing_same, shift_room, dropped, dropped_list, length-shifted}
 use Rattle.flow_containers.proofs.subscribers.Subscribers.add_dropping.Goals as goal

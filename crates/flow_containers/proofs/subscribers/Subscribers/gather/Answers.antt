@@ -1,5 +1,5 @@
 use Rattle.std.proofs.Common.{◌≡◌, ◌+◌, ◌-◌, length, map, refl, sym, ap, subst, ◌∙◌, arith}
-use Rattle.flow_law.specs.SharedFlow.{stand_at, raise_to}
+use Rattle.flow_law.specs.flow.SharedFlow.{stand_at, raise_to}
 use Rattle.flow_containers.specs.Subscribers.{Standing, subscribers_read, AreSound}
 use Rattle.flow_containers.specs.PositionCounts.{AreWithin}
 use Rattle.flow_containers.proofs.RaisedLemmas.{raise_to_last, raise_to_first}

@@ -1,6 +1,6 @@
 use Rattle.std.proofs.Common.{◌≡◌, ◌-◌, max, Some, None, sym, ap, ◌∙◌, arith}
 use Rattle.std.specs.Option.{option_map}
-use Rattle.flow_law.specs.SharedFlow.{position_of}
+use Rattle.flow_law.specs.flow.SharedFlow.{position_of}
 use Rattle.flow_containers.specs.declared.members.enroll.Row.{Row}
 use Rattle.flow_containers.specs.Members.{row_of}
 use Rattle.flow_containers.specs.Subscribers.{Standing, subscribers_read}

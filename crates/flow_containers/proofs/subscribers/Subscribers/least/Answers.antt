@@ -1,5 +1,5 @@
 use Rattle.std.proofs.Common.{◌+◌, ◌-◌, ◌≤◌, length, sym, ap, subst, ◌∙◌, arith}
-use Rattle.flow_law.specs.Standing.{least_position}
+use Rattle.flow_law.specs.flow.Standing.{least_position}
 use Rattle.flow_law.proofs.CoveringLemmas.{least_position_bound}
 use Rattle.flow_containers.specs.Subscribers.{Standing, subscribers_read}
 use Rattle.flow_containers.proofs.CountLemmas.{least_is}

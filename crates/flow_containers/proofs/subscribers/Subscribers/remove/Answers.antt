@@ -2,7 +2,7 @@ use Rattle.std.proofs.Common.{◌≡◌, ◌-◌, max, length, Some, None, refl,
 use Rattle.std.specs.Prelude.{is_some}
 use Rattle.std.specs.Option.{option_map}
 use Rattle.std.proofs.lemmas.List.{length-set}
-use Rattle.flow_law.specs.SharedFlow.{position_of, without}
+use Rattle.flow_law.specs.flow.SharedFlow.{position_of, without}
 use Rattle.flow_containers.specs.declared.members.enroll.Row.{Row}
 use Rattle.flow_containers.specs.Members.{row_of}
 use Rattle.flow_containers.specs.Subscribers.{Standing, subscribers_read}

@@ -1,8 +1,8 @@
 use Rattle.std.proofs.Common.{◌≡◌, true, false, map, ◌∙◌, ◌+◌, ◌∷◌, ◌++◌, [], sym, ap, refl, subst, length, arith}
 use Rattle.flow_law.specs.declared.states.Numbered.{Numbered}
-use Rattle.flow_law.specs.SharedFlow.{is_blocked}
-use Rattle.flow_law.specs.Covering.{Covers}
-use Rattle.flow_law.specs.Laws.{RisesTo}
+use Rattle.flow_law.specs.flow.SharedFlow.{is_blocked}
+use Rattle.flow_law.specs.flow.Covering.{Covers}
+use Rattle.flow_law.specs.laws.Laws.{RisesTo}
 use Rattle.flow_law.proofs.Rows.{rises_from}
 use Rattle.std.proofs.lemmas.List.{nil_from_length}
 use Rattle.flow_law.proofs.CoveringLemmas.{settle_first, settle_blocked, settle_idle}

@@ -1,8 +1,8 @@
 use Rattle.std.proofs.Common.{◌≡◌, ◌-◌, ◌==◌, ◌∙◌, true, false, length, refl, sym, ap, subst}
-use Rattle.flow_law.specs.EmitRule.{append}
+use Rattle.flow_law.specs.flow.EmitRule.{append}
 use Rattle.std.specs.Bool.{OnFalse}
-use Rattle.flow_law.specs.Standing.{StandsFor}
-use Rattle.flow_law.specs.Covering.{Covers, kept_start}
+use Rattle.flow_law.specs.flow.Standing.{StandsFor}
+use Rattle.flow_law.specs.flow.Covering.{Covers, kept_start}
 use Rattle.flow_law.proofs.HoldingLemmas.{covers}
 use Rattle.flow_core.specs.SharedCore.{fields_of, kept_full}
 use Rattle.flow_core.proofs.SoundLemmas.{sound_issued, number_left}

@@ -1,6 +1,6 @@
 use Rattle.std.proofs.Common.{◌≡◌, ◌∙◌, true, sym, ap, subst}
-use Rattle.flow_law.specs.EmitRule.{append, drop_oldest}
-use Rattle.flow_law.specs.Covering.{Covers}
+use Rattle.flow_law.specs.flow.EmitRule.{append, drop_oldest}
+use Rattle.flow_law.specs.flow.Covering.{Covers}
 use Rattle.flow_core.specs.SharedCore.{fields_of, kept_full}
 use Rattle.flow_core.proofs.SoundLemmas.{sound_issued, number_left}
 use Rattle.flow_core.proofs.EmissionLemmas.{covers-dropped, near_dropped}

@@ -1,5 +1,5 @@
 use Rattle.std.proofs.Common.{length, ap, arith}
-use Rattle.flow_law.specs.Covering.{kept_start}
+use Rattle.flow_law.specs.flow.Covering.{kept_start}
 use Rattle.flow_law.proofs.CoveringLemmas.{least_position_bound}
 use Rattle.flow_core.specs.SharedCore.{fields_of}
 use Rattle.flow_core.proofs.shared.SharedCore.cache_start.Goals as goal

@@ -1,4 +1,4 @@
-use Rattle.flow_law.specs.Draining.{EndsBy}
+use Rattle.flow_law.specs.flow.Draining.{EndsBy}
 use Rattle.flow_core.specs.SubId.{number_of}
 use Rattle.flow_core.specs.SharedCore.{SharedCoreNexts}
 use Rattle.flow_core.proofs.TakingLemmas.{drains_on}

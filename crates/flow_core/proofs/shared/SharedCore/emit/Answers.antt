@@ -2,10 +2,10 @@ use Rattle.std.proofs.Common.{◌∙◌, ◌+◌, sym, ap, subst}
 use Rattle.flow_law.specs.declared.outcome.Emit.TheVariants.{Done, Queued}
 use Rattle.flow_law.specs.declared.call.SharedCall.TheVariants as call
 use Rattle.flow_law.specs.declared.call.SharedReply.TheVariants as reply
-use Rattle.flow_law.specs.SharedFlow.{answer, issuing}
-use Rattle.flow_law.specs.EmitRule.{appends, offers, queues, drops_latest, drops_oldest, emit, append, suspend, drop_oldest}
-use Rattle.flow_law.specs.SharedHistory.{Replies, reply_by}
-use Rattle.flow_law.specs.Standing.{StandsFor}
+use Rattle.flow_law.specs.flow.SharedFlow.{answer, issuing}
+use Rattle.flow_law.specs.flow.EmitRule.{appends, offers, queues, drops_latest, drops_oldest, emit, append, suspend, drop_oldest}
+use Rattle.flow_law.specs.flow.SharedHistory.{Replies, reply_by}
+use Rattle.flow_law.specs.flow.Standing.{StandsFor}
 use Rattle.flow_law.proofs.HoldingLemmas.{covers}
 use Rattle.flow_core.proofs.CallLemmas.{emits_in, took_number, refused_number}
 use Rattle.flow_core.proofs.shared.SharedCore.emit.Goals as goal

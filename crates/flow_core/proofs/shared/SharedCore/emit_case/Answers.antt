@@ -1,6 +1,6 @@
 use Rattle.std.proofs.Common.{◌≡◌, ◌∙◌, ◌+◌, ◌<◌, ◌≤◌, false, length, sym, ap, arith}
-use Rattle.flow_law.specs.SharedFlow.{is_blocked, capacity}
-use Rattle.flow_law.specs.EmitRule.{when_blocked}
+use Rattle.flow_law.specs.flow.SharedFlow.{is_blocked, capacity}
+use Rattle.flow_law.specs.flow.EmitRule.{when_blocked}
 use Rattle.flow_core.proofs.CallLemmas.{in_open, in_offers, in_blocked}
 use Rattle.flow_core.proofs.shared.SharedCore.emit_case.Goals as goal
 

@@ -1,6 +1,6 @@
 use Rattle.std.proofs.Common.{◌≡◌, ◌∙◌, ◌+◌, ◌-◌, true, false, if◌then◌else◌, length, sym, ap, arith}
-use Rattle.flow_law.specs.SharedFlow.{is_offering, cache_start}
-use Rattle.flow_law.specs.Covering.{kept_start}
+use Rattle.flow_law.specs.flow.SharedFlow.{is_offering, cache_start}
+use Rattle.flow_law.specs.flow.Covering.{kept_start}
 use Rattle.flow_law.proofs.CoveringLemmas.{least_position_bound}
 use Rattle.flow_law.proofs.HoldingLemmas.{start_is}
 use Rattle.flow_core.specs.SharedCore.{window_of, fields_of, kept_full}
@@ -14,7 +14,7 @@ returns-then-is_offering-clause-within g c =
     let none = ap (λ core. core.config.replay + core.config.extra) c.self.view_is ∙ own.0 in
     let full : kept_full (fields_of i) ≡ true = ap kept_full c.self.view_is ∙ own.1 in
     let least = offered_least i.subscribers.floor i.subscribers.emitted (window_of i.config) (kept_start (fields_of i)) i.subscribers.list c.self.invariant.within (omega (arith, none)) full in
-    let need = ap (λ core. Rattle.flow_law.specs.Covering.kept_need core) c.self.view_is in
+    let need = ap (λ core. Rattle.flow_law.specs.flow.Covering.kept_need core) c.self.view_is in
     let count = ap (λ core. core.appended) c.self.view_is in (
       omega (arith, c.saturating_sub.ensures, c.emitted.ensures, least, need),
       omega (arith, c.saturating_sub.ensures, c.emitted.ensures, count),

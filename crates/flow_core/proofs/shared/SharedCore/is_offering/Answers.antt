@@ -1,5 +1,5 @@
 use Rattle.std.proofs.Common.{◌≡◌, ◌∙◌, ◌&&◌, ◌==◌, ◌+◌, true, sym, ap, subst}
-use Rattle.flow_law.specs.Covering.{Covers}
+use Rattle.flow_law.specs.flow.Covering.{Covers}
 use Rattle.flow_containers.specs.Subscribers.{is_full}
 use Rattle.flow_core.specs.SharedCore.{fields_of, kept_full}
 use Rattle.flow_containers.proofs.QueueLemmas.{equal}

@@ -3,11 +3,11 @@ use Rattle.std.specs.List.{slice_get}
 use Rattle.std.specs.Option.{IfSome}
 use Rattle.std.specs.Bool.{OnFalse}
 use Rattle.flow_law.specs.declared.call.SharedReply.TheVariants as reply
-use Rattle.flow_law.specs.SharedFlow.{own_of, position_of, values, with_own, move_to, cache_start}
-use Rattle.flow_law.specs.SharedStep.{advance, keep_own, settle}
-use Rattle.flow_law.specs.SharedHistory.{reply_by}
-use Rattle.flow_law.specs.Standing.{StandsFor}
-use Rattle.flow_law.specs.Covering.{Covers, kept_start}
+use Rattle.flow_law.specs.flow.SharedFlow.{own_of, position_of, values, with_own, move_to, cache_start}
+use Rattle.flow_law.specs.flow.SharedStep.{advance, keep_own, settle}
+use Rattle.flow_law.specs.flow.SharedHistory.{reply_by}
+use Rattle.flow_law.specs.flow.Standing.{StandsFor}
+use Rattle.flow_law.specs.flow.Covering.{Covers, kept_start}
 use Rattle.flow_law.proofs.CoveringLemmas.{covers-subscribers, least_position-move_to, least_position-with_own}
 use Rattle.flow_law.proofs.HoldingLemmas.{covers, same_value, stands-own}
 use Rattle.std.specs.Prelude.{Ok}

@@ -1,7 +1,7 @@
 use Rattle.std.proofs.Common.{◌≡◌, ◌∙◌, ◌||◌, ◌==◌, sym, ap}
 use Rattle.std.specs.List.{list_any}
 use Rattle.flow_law.specs.declared.call.SharedReply.TheVariants as reply
-use Rattle.flow_law.specs.SharedFlow.{is_queued, is_offered_as}
+use Rattle.flow_law.specs.flow.SharedFlow.{is_queued, is_offered_as}
 use Rattle.flow_law.proofs.HoldingLemmas.{covers}
 use Rattle.flow_core.proofs.shared.SharedCore.poll.Goals as goal
 

@@ -1,7 +1,7 @@
 use Rattle.std.proofs.Common.{◌≡◌, ◌+◌, ◌-◌, ◌<◌, ◌≤◌, ◌∷◌, ◌++◌, [], true, length, sym, ap, ◌∙◌, subst, arith}
 use Rattle.circular_buffer.specs.Buffer.{buffer, keep_last}
-use Rattle.flow_law.specs.SharedFlow.{raise_to}
-use Rattle.flow_law.specs.Covering.{kept_start}
+use Rattle.flow_law.specs.flow.SharedFlow.{raise_to}
+use Rattle.flow_law.specs.flow.Covering.{kept_start}
 use Rattle.flow_law.proofs.CoveringLemmas.{least_position-raise_to}
 use Rattle.flow_core.specs.SharedCore.{window_of, kept_full, fields_of, IsSound}
 use Rattle.flow_core.proofs.RingLemmas.{within-raised, full_long}

@@ -1,9 +1,9 @@
 use Rattle.std.proofs.Common.{◌≡◌, ◌≢◌, ◌-◌, true, List, [], ◌∷◌, ◌∙◌, length, refl, sym, ap, subst, drop}
 use Rattle.flow_law.specs.declared.call.SharedReply.TheVariants as reply
-use Rattle.flow_law.specs.SharedFlow.{cache}
-use Rattle.flow_law.specs.SharedHistory.{hands_out}
-use Rattle.flow_law.specs.Standing.{StandsFor}
-use Rattle.flow_law.specs.Covering.{kept_start}
+use Rattle.flow_law.specs.flow.SharedFlow.{cache}
+use Rattle.flow_law.specs.flow.SharedHistory.{hands_out}
+use Rattle.flow_law.specs.flow.Standing.{StandsFor}
+use Rattle.flow_law.specs.flow.Covering.{kept_start}
 use Rattle.flow_law.proofs.HoldingLemmas.{same_cache}
 use Rattle.flow_core.specs.SharedCore.{fields_of}
 use Rattle.flow_core.proofs.shared.SharedCore.replay_cache.Goals as goal

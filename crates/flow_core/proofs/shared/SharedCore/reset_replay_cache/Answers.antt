@@ -1,6 +1,6 @@
 use Rattle.std.proofs.Common.{sym, refl, subst}
-use Rattle.flow_law.specs.SharedStep.{forget}
-use Rattle.flow_law.specs.Covering.{Covers}
+use Rattle.flow_law.specs.flow.SharedStep.{forget}
+use Rattle.flow_law.specs.flow.Covering.{Covers}
 use Rattle.flow_law.proofs.CoveringLemmas.{covers-forget}
 use Rattle.flow_law.proofs.HoldingLemmas.{covers}
 use Rattle.flow_core.specs.SharedCore.{fields_of, IsSound}

@@ -1,7 +1,7 @@
 use Rattle.std.proofs.Common.{◌≡◌, length}
 use Rattle.flow_law.specs.declared.states.SharedFlowState.{SharedFlowState}
-use Rattle.flow_law.specs.SharedStep.{settle}
-use Rattle.flow_law.specs.Covering.{Covers}
+use Rattle.flow_law.specs.flow.SharedStep.{settle}
+use Rattle.flow_law.specs.flow.Covering.{Covers}
 use Rattle.flow_core.proofs.shared.SharedCore.settle.Given as goal
 
 -- settling leads to the same states as when the loop began

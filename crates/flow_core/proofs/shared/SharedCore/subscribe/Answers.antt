@@ -1,6 +1,6 @@
 use Rattle.std.proofs.Common.{Ok, Err, subst}
 use Rattle.flow_law.specs.declared.call.SharedCall.TheVariants as call
-use Rattle.flow_law.specs.Standing.{Conforms}
+use Rattle.flow_law.specs.flow.Standing.{Conforms}
 use Rattle.flow_core.specs.SharedCore.{subscribe_reply}
 use Rattle.flow_core.proofs.shared.SharedCore.subscribe.Goals as goal
 

@@ -1,10 +1,10 @@
 use Rattle.std.proofs.Common.{◌≡◌, ◌∙◌, ◌+◌, ◌++◌, ◌∷◌, [], false, not, map, refl, sym, ap, subst, arith}
 use Rattle.flow_law.specs.declared.call.SharedReply.TheVariants as reply
-use Rattle.flow_law.specs.SharedFlow.{answer, is_exhausted}
-use Rattle.flow_law.specs.SharedStep.{subscribe, enroll}
-use Rattle.flow_law.specs.SharedHistory.{reply_by, is_refused}
-use Rattle.flow_law.specs.Standing.{StandsFor}
-use Rattle.flow_law.specs.Covering.{kept_start, kept_need}
+use Rattle.flow_law.specs.flow.SharedFlow.{answer, is_exhausted}
+use Rattle.flow_law.specs.flow.SharedStep.{subscribe, enroll}
+use Rattle.flow_law.specs.flow.SharedHistory.{reply_by, is_refused}
+use Rattle.flow_law.specs.flow.Standing.{StandsFor}
+use Rattle.flow_law.specs.flow.Covering.{kept_start, kept_need}
 use Rattle.flow_law.proofs.Rows.{rises_higher}
 use Rattle.flow_law.proofs.CoveringLemmas.{least_position-append}
 use Rattle.flow_law.proofs.HoldingLemmas.{covers, stands-enroll}

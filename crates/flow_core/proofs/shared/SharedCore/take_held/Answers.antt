@@ -3,9 +3,9 @@ use Rattle.std.specs.Prelude.{Ok}
 use Rattle.std.specs.Option.{IfSome}
 use Rattle.std.proofs.lemmas.List.{nil_from_length}
 use Rattle.flow_law.specs.declared.outcome.Drained.TheVariants.{Most}
-use Rattle.flow_law.specs.Draining.{DrainsBy}
-use Rattle.flow_law.specs.SharedFlow.{position_of, move_to}
-use Rattle.flow_law.specs.Covering.{Covers, kept_start}
+use Rattle.flow_law.specs.flow.Draining.{DrainsBy}
+use Rattle.flow_law.specs.flow.SharedFlow.{position_of, move_to}
+use Rattle.flow_law.specs.flow.Covering.{Covers, kept_start}
 use Rattle.flow_law.proofs.CoveringLemmas.{least_position-move_to}
 use Rattle.flow_law.proofs.HoldingLemmas.{covers}
 use Rattle.flow_core.specs.SubId.{number_of}

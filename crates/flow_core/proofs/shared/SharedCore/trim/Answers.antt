@@ -1,6 +1,6 @@
 use Rattle.std.proofs.Common.{◌≡◌, ◌+◌, ◌-◌, length, drop, sym, ap, ◌∙◌, subst, arith}
-use Rattle.flow_law.specs.Standing.{StandsFor, least_position}
-use Rattle.flow_law.specs.Covering.{Covers, kept_start, kept_need}
+use Rattle.flow_law.specs.flow.Standing.{StandsFor, least_position}
+use Rattle.flow_law.specs.flow.Covering.{Covers, kept_start, kept_need}
 use Rattle.flow_law.proofs.CoveringLemmas.{least_position_bound}
 use Rattle.flow_law.proofs.HoldingLemmas.{tidy}
 use Rattle.flow_core.specs.SharedCore.{window_of, fields_of, IsSound}

@@ -1,9 +1,9 @@
 use Rattle.std.proofs.Common.{true, sym, ap, subst}
 use Rattle.flow_law.specs.declared.call.SharedCall.TheVariants as call
 use Rattle.flow_law.specs.declared.call.SharedReply.TheVariants as reply
-use Rattle.flow_law.specs.EmitRule.{appends, drops_latest, drops_oldest, try_emit, append, drop_oldest}
-use Rattle.flow_law.specs.SharedHistory.{Replies, reply_by}
-use Rattle.flow_law.specs.Standing.{StandsFor}
+use Rattle.flow_law.specs.flow.EmitRule.{appends, drops_latest, drops_oldest, try_emit, append, drop_oldest}
+use Rattle.flow_law.specs.flow.SharedHistory.{Replies, reply_by}
+use Rattle.flow_law.specs.flow.Standing.{StandsFor}
 use Rattle.flow_law.proofs.HoldingLemmas.{covers}
 use Rattle.flow_core.proofs.CallLemmas.{tries_in, took_number, refused_number}
 use Rattle.flow_core.proofs.shared.SharedCore.try_emit.Goals as goal

@@ -1,9 +1,9 @@
 use Rattle.std.proofs.Common.{◌∙◌, sym, ap, subst, arith}
 use Rattle.std.specs.Prelude.{is_some}
 use Rattle.flow_law.specs.declared.call.SharedReply.TheVariants as reply
-use Rattle.flow_law.specs.SharedFlow.{position_of, without, cache_start}
-use Rattle.flow_law.specs.SharedStep.{leave}
-use Rattle.flow_law.specs.Covering.{Covers, kept_start}
+use Rattle.flow_law.specs.flow.SharedFlow.{position_of, without, cache_start}
+use Rattle.flow_law.specs.flow.SharedStep.{leave}
+use Rattle.flow_law.specs.flow.Covering.{Covers, kept_start}
 use Rattle.flow_law.proofs.CoveringLemmas.{covers-subscribers, least_position-without}
 use Rattle.flow_law.proofs.HoldingLemmas.{covers}
 use Rattle.flow_core.specs.SharedCore.{window_of, fields_of, IsSound}

@@ -1,10 +1,10 @@
 use Rattle.std.proofs.Common.{◌≡◌, [], ◌∙◌, ◌+◌, true, not, ◌==◌, map, length, sym, ap, subst, cond, arith}
 use Rattle.std.specs.Prelude.{filter}
-use Rattle.flow_law.specs.Laws.{RisesTo}
+use Rattle.flow_law.specs.laws.Laws.{RisesTo}
 use Rattle.flow_law.specs.declared.states.Numbered.{Numbered}
 use Rattle.flow_law.specs.declared.states.SharedFlowState.{SharedFlowState}
-use Rattle.flow_law.specs.SharedFlow.{is_offered_as, stand_at, cache_start}
-use Rattle.flow_law.specs.Covering.{Covers, kept_start}
+use Rattle.flow_law.specs.flow.SharedFlow.{is_offered_as, stand_at, cache_start}
+use Rattle.flow_law.specs.flow.Covering.{Covers, kept_start}
 use Rattle.flow_law.proofs.Rows.{rises_filter}
 use Rattle.flow_law.proofs.CoveringLemmas.{covers-subscribers, least_position-gathered}
 use Rattle.flow_core.specs.SharedCore.{window_of, fields_of, IsSound}

@@ -3,7 +3,7 @@ use Rattle.flow_law.specs.declared.outcome.Next.TheVariants.{Value, Empty, Gone}
 use Rattle.flow_law.specs.declared.call.StateReply.TheVariants as reply
 use Rattle.flow_law.specs.declared.states.StateFlowState.{StateFlowState}
 use Rattle.flow_law.specs.declared.call.StateCall.TheVariants as call
-use Rattle.flow_law.specs.StateFlow.{last_got_by, with_last, Receives, StateFlowReplies}
+use Rattle.flow_law.specs.flow.StateFlow.{last_got_by, with_last, Receives, StateFlowReplies}
 use Rattle.flow_containers.specs.Members.{with_row}
 use Rattle.flow_core.specs.StateCore.{state_subscriber_of, state_fields_of}
 use Rattle.flow_core.proofs.StateLemmas.{last_is, got, copy_refused}

@@ -2,7 +2,7 @@ use Rattle.std.proofs.Common.{◌≡◌, ◌∙◌, map, refl, sym, ap}
 use Rattle.std.specs.Prelude.{is_some}
 use Rattle.flow_law.specs.declared.call.StateReply.TheVariants as reply
 use Rattle.flow_law.specs.declared.states.StateFlowState.{StateFlowState}
-use Rattle.flow_law.specs.StateFlow.{last_got_by, without_subscriber}
+use Rattle.flow_law.specs.flow.StateFlow.{last_got_by, without_subscriber}
 use Rattle.flow_core.specs.StateCore.{state_subscriber_of, state_fields_of}
 use Rattle.flow_core.proofs.StateLemmas.{last_is}
 use Rattle.flow_containers.proofs.SubscriberLemmas.{without_subscriber-row}

@@ -1,7 +1,7 @@
 use Rattle.std.proofs.Common.{List, subst}
 use Rattle.flow_law.specs.declared.history.HistoryEvent.{HistoryEvent}
-use Rattle.flow_law.specs.Growth.{Fits}
-use Rattle.flow_law.specs.RealTime.{IsTimed}
+use Rattle.flow_law.specs.history.Growth.{Fits}
+use Rattle.flow_law.specs.history.RealTime.{IsTimed}
 use Rattle.flow_gate.specs.Tokens.{GateOrigin}
 use Rattle.flow_gate.proofs.Closing.{closes}
 use Rattle.flow_gate.proofs.Seats.{idle_view}

@@ -1,6 +1,6 @@
 use Rattle.std.proofs.Common.{◌≡◌, ◌≤◌}
-use Rattle.flow_law.specs.Growth.{knowledge}
-use Rattle.flow_law.specs.Tokens.{knowing}
+use Rattle.flow_law.specs.history.Growth.{knowledge}
+use Rattle.flow_law.specs.history.Tokens.{knowing}
 use Rattle.flow_gate.specs.Tokens.{idle_seat}
 use Rattle.flow_gate.proofs.gate.Gate.enter_waiting.Given as goal
 

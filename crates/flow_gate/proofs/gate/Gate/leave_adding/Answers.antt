@@ -1,5 +1,5 @@
 use Rattle.std.proofs.Common.{rules, Some, ap, sym, subst}
-use Rattle.flow_law.specs.Growth.{after_events}
+use Rattle.flow_law.specs.history.Growth.{after_events}
 use Rattle.flow_gate.proofs.Keeps.{leaves}
 use Rattle.flow_gate.proofs.Seats.{me_of}
 use Rattle.flow_gate.proofs.gate.Gate.leave_adding.Goals as goal

@@ -1,7 +1,7 @@
 use Rattle.std.proofs.Common.{rules, Some, None, ◌≡◌, false, [], ◌∷◌, ◌++◌, map, sym, ap, ◌∙◌}
 use Rattle.flow_gate.specs.declared.view.SeatView.{SeatView}
 use Rattle.flow_gate.specs.View.{seat_view}
-use Rattle.flow_law.specs.Growth.{sees}
+use Rattle.flow_law.specs.history.Growth.{sees}
 use Rattle.flow_gate.proofs.Keeps.{spares, joins_seats, observes_from, parts_seats}
 use Rattle.flow_gate.proofs.Seats.{me_of, idle_view}
 use Rattle.flow_gate.proofs.gate.Gate.meet_from.Goals as goal

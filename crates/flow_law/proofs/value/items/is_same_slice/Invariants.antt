@@ -1,5 +1,5 @@
 use Rattle.std.proofs.Common.{◌≡◌, length}
-use Rattle.flow_law.specs.Values.{is_same_list}
+use Rattle.flow_law.specs.flow.Values.{is_same_list}
 use Rattle.flow_law.proofs.value.items.is_same_slice.Given as goal
 
 abbrev pub invariant-loop-first : goal.invariant-loop-first

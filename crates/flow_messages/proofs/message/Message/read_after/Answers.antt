@@ -2,8 +2,8 @@ use Rattle.std.proofs.Common.{subst}
 use Rattle.std.proofs.Math.Logic.{∥∥₁_map}
 use Rattle.flow_law.specs.declared.call.StateCall.TheVariants.{GetValue}
 use Rattle.flow_law.specs.declared.call.StateReply.TheVariants.{Got}
-use Rattle.flow_law.specs.StateFlow.{state_flow}
-use Rattle.flow_law.specs.Promise.{CallsIn}
+use Rattle.flow_law.specs.flow.StateFlow.{state_flow}
+use Rattle.flow_law.specs.history.Promise.{CallsIn}
 use Rattle.flow_messages.proofs.BeforeLemmas.{reads_after}
 use Rattle.flow_messages.proofs.message.Message.read_after.Goals as goal
 

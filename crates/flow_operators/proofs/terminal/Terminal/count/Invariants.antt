@@ -1,5 +1,5 @@
 use Rattle.std.proofs.Common.{◌≡◌, ◌+◌, ◌<◌, ◌^◌, length}
-use Rattle.flow_law.specs.ChainRun.{items, ending}
+use Rattle.flow_law.specs.chain.ChainRun.{items, ending}
 use Rattle.flow_operators.specs.Collecting.{IsRestOf}
 use Rattle.flow_operators.specs.SameChain.{StaysChain}
 use Rattle.flow_operators.proofs.terminal.Terminal.count.Given as goal

@@ -1,5 +1,5 @@
 use Rattle.std.proofs.Common.{◌≡◌}
-use Rattle.flow_law.specs.ChainRun.{items, ending}
+use Rattle.flow_law.specs.chain.ChainRun.{items, ending}
 use Rattle.flow_operators.specs.SameChain.{StaysChain}
 use Rattle.flow_operators.specs.Terminal.{last_of, last_after}
 use Rattle.flow_operators.proofs.terminal.Terminal.last.Given as goal

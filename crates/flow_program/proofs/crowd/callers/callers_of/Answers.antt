@@ -1,6 +1,6 @@
 use Rattle.std.proofs.Common.{arith, ◌≡◌, ◌+◌, ap, sym, subst, ◌∙◌, get_or, vec_items}
-use Rattle.flow_law.specs.Closed.{nth_child}
-use Rattle.flow_law.specs.Done.{done_by}
+use Rattle.flow_law.specs.laws.Closed.{nth_child}
+use Rattle.flow_law.specs.history.Done.{done_by}
 use Rattle.flow_program.specs.Crowds.{IsNewSubscription}
 use Rattle.flow_program.proofs.crowd.callers.callers_of.Goals as goal
 

@@ -1,6 +1,6 @@
 use Rattle.std.proofs.Common.{◌∙◌, ◌∷◌, [], subst, sym}
-use Rattle.flow_law.specs.Rounds.{HasClosedHistory}
-use Rattle.flow_law.specs.SharedHistory.{shared_flow}
+use Rattle.flow_law.specs.history.Rounds.{HasClosedHistory}
+use Rattle.flow_law.specs.flow.SharedHistory.{shared_flow}
 use Rattle.flow_program.specs.Callers.{Reads}
 use Rattle.flow_program.specs.Numbers.{numbers_from}
 use Rattle.flow_program.proofs.CallerLemmas.{numbers_length}

@@ -1,5 +1,5 @@
 use Rattle.std.proofs.Common.{arith, ◌*◌, ◌<◌, ap, sym, subst, ◌∙◌, get_or, vec_items, vec_len}
-use Rattle.flow_law.specs.Handles.{called_by, read_by}
+use Rattle.flow_law.specs.history.Handles.{called_by, read_by}
 use Rattle.flow_program.specs.Crowds.{HasSent, HasTaken}
 use Rattle.flow_program.proofs.EndLemmas.{sent_as, taken_as}
 use Rattle.flow_program.proofs.PlaceLemmas.{one_of}

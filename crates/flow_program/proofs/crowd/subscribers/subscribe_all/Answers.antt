@@ -1,5 +1,5 @@
 use Rattle.std.proofs.Common.{arith, ◌≡◌, ◌+◌, ◌≤◌, ap, sym, subst, ◌∙◌, length, vec_items}
-use Rattle.flow_law.specs.Done.{done_by}
+use Rattle.flow_law.specs.history.Done.{done_by}
 use Rattle.flow_program.specs.Crowds.{IsNewSubscription}
 use Rattle.flow_program.proofs.PlaceLemmas.{pushed_each}
 use Rattle.flow_program.proofs.SubscribedLemmas.{subscribed_next}

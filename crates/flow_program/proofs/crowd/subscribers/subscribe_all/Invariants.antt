@@ -1,5 +1,5 @@
 use Rattle.std.proofs.Common.{◌≡◌, ℕ, ◌+◌, ◌<◌, ◌≤◌, get_or, vec_items, vec_len, vec_capacity}
-use Rattle.flow_law.specs.Done.{done_by}
+use Rattle.flow_law.specs.history.Done.{done_by}
 use Rattle.flow_program.specs.Crowds.{IsMaker, IsNewSubscription}
 use Rattle.flow_program.proofs.crowd.subscribers.subscribe_all.Given as goal
 

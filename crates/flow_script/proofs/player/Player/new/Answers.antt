@@ -8,8 +8,8 @@ use Rattle.flow_law.specs.declared.fault.FlowFault.{FlowFault}
 use Rattle.flow_law.specs.declared.fault.FlowFault.TheVariants.{OutOfMemory}
 use Rattle.flow_law.specs.declared.report.ShareFault.{ShareFault}
 use Rattle.flow_law.specs.declared.report.ShareFault.TheVariants as share_fault
-use Rattle.flow_law.specs.SharedFlow.{NoFlow, first_state}
-use Rattle.flow_law.specs.StateFlow.{first_state_flow}
+use Rattle.flow_law.specs.flow.SharedFlow.{NoFlow, first_state}
+use Rattle.flow_law.specs.flow.StateFlow.{first_state_flow}
 use Rattle.script_format.specs.Actions.{head_of_flow}
 use Rattle.script_chain_format.specs.Chains.{build_of}
 use Rattle.script_format.specs.Heads.{Head, state_chain}

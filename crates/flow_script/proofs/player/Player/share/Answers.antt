@@ -1,7 +1,7 @@
 use Rattle.std.proofs.Common.{ℤ, Ok, Err, None, ap, ◌∙◌}
 use Rattle.std.specs.Option.{option_map_or}
-use Rattle.flow_law.specs.SharedFlow.{first_state}
-use Rattle.flow_law.specs.SharingTurn.{SharingState}
+use Rattle.flow_law.specs.flow.SharedFlow.{first_state}
+use Rattle.flow_law.specs.sharing.SharingTurn.{SharingState}
 use Rattle.flow_law.specs.declared.states.EmittingFlow.{EmittingFlow}
 use Rattle.flow_cold.specs.ScriptChain.{node_rest}
 use Rattle.flow_law.specs.declared.report.ShareFault.TheVariants.{Flow}

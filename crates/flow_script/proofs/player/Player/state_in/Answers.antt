@@ -2,7 +2,7 @@ use Rattle.std.proofs.Common.{◌≡◌, ℤ, ap, subst, ◌∙◌}
 use Rattle.std.proofs.Math.Facts.{to_z-of_z}
 use Rattle.flow_law.specs.declared.states.StateAndInitial.{StateAndInitial}
 use Rattle.flow_law.specs.declared.states.StateFlowState.{StateFlowState}
-use Rattle.flow_law.specs.StateFlow.{first_state_flow}
+use Rattle.flow_law.specs.flow.StateFlow.{first_state_flow}
 use Rattle.flow_cold.specs.ScriptChain.{node_rest}
 use Rattle.flow_turns.specs.StateHub.{state_core_of, reset_value, state_flow_of}
 use Rattle.script_format.specs.Heads.{state_chain}

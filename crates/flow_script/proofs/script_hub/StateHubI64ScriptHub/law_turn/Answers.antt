@@ -1,6 +1,6 @@
 use Rattle.std.proofs.Common.{refl, sym, ap, ◌∙◌}
-use Rattle.flow_law.specs.SharingCalls.{with_hub}
-use Rattle.flow_law.specs.SharingFlows.{flow_turn, state_reply}
+use Rattle.flow_law.specs.sharing.SharingCalls.{with_hub}
+use Rattle.flow_law.specs.sharing.SharingFlows.{flow_turn, state_reply}
 use Rattle.flow_turns.specs.StateHub.{state_flow_of}
 use Rattle.flow_script.proofs.script_hub.StateHubI64ScriptHub.law_turn.Goals as goal
 

@@ -1,6 +1,6 @@
 use Rattle.std.proofs.Common.{refl, subst}
 use Rattle.std.specs.Prelude.{IfOk}
-use Rattle.flow_law.specs.StateFlow.{state_flow}
+use Rattle.flow_law.specs.flow.StateFlow.{state_flow}
 use Rattle.flow_script.specs.FlowMeaning.{flow_step_turn}
 use Rattle.flow_script.specs.StateMeaning.{IsState, plays_state}
 use Rattle.flow_script.specs.Shown.{FollowsStep}

@@ -2,7 +2,7 @@ use Rattle.std.proofs.Common.{rules, ◌≡◌, ap, subst, sym, w64, ◌∙◌}
 use Rattle.std.specs.Prelude.{IfOk}
 use Rattle.std.proofs.Math.Facts.{to_z-of_z}
 use mir.Val.{to_z, of_z}
-use Rattle.flow_law.specs.StateFlow.{state_flow}
+use Rattle.flow_law.specs.flow.StateFlow.{state_flow}
 use Rattle.script_format.specs.declared.script.FlowStep.{FlowStep}
 use Rattle.script_format.specs.declared.script.FlowStep.TheVariants.{Set, CompareAndSet}
 use Rattle.flow_script.specs.FlowMeaning.{own_turn}

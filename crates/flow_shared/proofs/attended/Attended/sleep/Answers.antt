@@ -1,5 +1,5 @@
 use Rattle.std.proofs.Common.{◌≡◌, ℕ, true, subst}
-use Rattle.flow_law.specs.Sleeping.{FindsNothing}
+use Rattle.flow_law.specs.history.Sleeping.{FindsNothing}
 use Rattle.flow_shared.specs.CoreCalls.{MaySleep}
 use Rattle.flow_shared.proofs.Attending.{joins}
 use Rattle.flow_shared.proofs.attended.Attended.sleep.Goals as goal

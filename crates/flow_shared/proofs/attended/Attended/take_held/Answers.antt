@@ -1,7 +1,7 @@
 use Rattle.std.proofs.Common.{inl, ◌≡◌, true, refl}
 use Rattle.flow_core.specs.SubId.{number_of}
 use Rattle.flow_core.proofs.TakingLemmas.{drains_none, drains_lifted}
-use Rattle.flow_law.specs.History.{replied}
+use Rattle.flow_law.specs.history.History.{replied}
 use Rattle.flow_shared.specs.Attended.{AttendedAs}
 use Rattle.flow_shared.specs.Drains.{CoreNexts}
 use Rattle.flow_shared.proofs.Attending.{alone_after}

@@ -1,8 +1,8 @@
 use Rattle.std.proofs.Common.{◌++◌, ◌∷◌, [], length, refl, sym, ap, subst}
-use Rattle.flow_law.specs.Growth.{event}
-use Rattle.flow_law.specs.Promise.{said}
-use Rattle.flow_law.specs.Standing.{StandsForHistory}
-use Rattle.flow_law.specs.Tokens.{subscription_name}
+use Rattle.flow_law.specs.history.Growth.{event}
+use Rattle.flow_law.specs.history.Promise.{said}
+use Rattle.flow_law.specs.flow.Standing.{StandsForHistory}
+use Rattle.flow_law.specs.history.Tokens.{subscription_name}
 use Rattle.flow_shared.specs.Attended.{AttendedAs}
 use Rattle.flow_shared.proofs.Inside.{lent_stands, may_leave, has_said}
 use Rattle.flow_shared.proofs.flow.Flow.call_and_wake.Goals as goal

@@ -1,6 +1,6 @@
 use Rattle.std.proofs.Common.{refl, sym, ap, subst}
-use Rattle.flow_law.specs.History.{MayCall}
-use Rattle.flow_law.specs.Tokens.{subscription_name}
+use Rattle.flow_law.specs.history.History.{MayCall}
+use Rattle.flow_law.specs.history.Tokens.{subscription_name}
 use Rattle.flow_shared.specs.Attended.{AttendedAs}
 use Rattle.flow_shared.specs.Calls.{Calls}
 use Rattle.flow_shared.proofs.Inside.{found, lent_stands, may_inside, stands_inside, says_inside, calls}

@@ -1,7 +1,7 @@
 use Rattle.std.proofs.Common.{ap, sym, ◌∙◌, subst}
-use Rattle.flow_law.specs.Growth.{Fits}
-use Rattle.flow_law.specs.History.{after_all}
-use Rattle.flow_law.specs.Standing.{StandsForHistory}
+use Rattle.flow_law.specs.history.Growth.{Fits}
+use Rattle.flow_law.specs.history.History.{after_all}
+use Rattle.flow_law.specs.flow.Standing.{StandsForHistory}
 use Rattle.flow_shared.proofs.flow.Flow.close.Goals as goal
 
 pub returns-in-Some : goal.returns-in-Some

@@ -1,6 +1,6 @@
 use Rattle.std.proofs.Common.{sym, subst}
 use Rattle.std.specs.Result.{OnErr}
-use Rattle.flow_law.specs.Draining.{IsFull}
+use Rattle.flow_law.specs.flow.Draining.{IsFull}
 use Rattle.flow_shared.proofs.DrainEnds.{drain_fault, ends_alike}
 use Rattle.flow_shared.proofs.Drains.{never_ends_gone}
 use Rattle.flow_shared.proofs.flow.Flow.drain.Goals as goal

@@ -5,8 +5,8 @@ use Rattle.flow_law.specs.declared.fault.FlowFault.{FlowFault}
 use Rattle.flow_law.specs.declared.outcome.Next.{Next}
 use Rattle.flow_law.specs.declared.outcome.Drained.{Drained}
 use Rattle.flow_law.specs.declared.outcome.Drained.TheVariants as drained
-use Rattle.flow_law.specs.Draining.{DrainsBy}
-use Rattle.flow_law.specs.Tokens.{numbered_token}
+use Rattle.flow_law.specs.flow.Draining.{DrainsBy}
+use Rattle.flow_law.specs.history.Tokens.{numbered_token}
 use Rattle.flow_law.proofs.DrainingLemmas.{HasTaken}
 use Rattle.flow_core.specs.SubId.{number_of}
 use Rattle.flow_shared.specs.Calls.{NextsOf}

@@ -1,7 +1,7 @@
 use Rattle.std.proofs.Common.{◌≡◌, ◌≤◌, ◌-◌}
 use Rattle.flow_core.specs.SubId.{number_of}
-use Rattle.flow_law.specs.History.{IsSubscription}
-use Rattle.flow_law.specs.Tokens.{numbered_token}
+use Rattle.flow_law.specs.history.History.{IsSubscription}
+use Rattle.flow_law.specs.history.Tokens.{numbered_token}
 use Rattle.flow_law.proofs.DrainingLemmas.{HasTaken}
 use Rattle.flow_shared.specs.Calls.{NextsOf}
 use Rattle.flow_shared.proofs.flow.Flow.drain_by.Given as goal

@@ -1,5 +1,5 @@
 use Rattle.std.proofs.Common.{sym, subst}
-use Rattle.flow_law.specs.History.{IsSubscription}
+use Rattle.flow_law.specs.history.History.{IsSubscription}
 use Rattle.flow_core.specs.SubId.{number_of}
 use Rattle.flow_law.proofs.TokenLemmas.{subscription_met}
 use Rattle.flow_shared.proofs.flow.Flow.meet_subscription.Goals as goal

@@ -2,8 +2,8 @@ use Rattle.std.proofs.Common.{◌≡◌, ◌⊎◌, Result, Err, IfErr, sym, ap,
 use Rattle.std.proofs.lemmas.Result.{err_from_is_err_and}
 use Rattle.flow_law.specs.declared.fault.FlowFault.{FlowFault}
 use Rattle.flow_law.specs.declared.fault.FlowFault.TheVariants.{OutOfMemory, Exhausted}
-use Rattle.flow_law.specs.History.{IsSubscription, replied}
-use Rattle.flow_law.specs.Tokens.{subscription_name}
+use Rattle.flow_law.specs.history.History.{IsSubscription, replied}
+use Rattle.flow_law.specs.history.Tokens.{subscription_name}
 use Rattle.flow_core.specs.SubId.{number_of}
 use Rattle.flow_shared.specs.Calls.{Calls}
 use Rattle.flow_law.proofs.TokenLemmas.{subscription_made, subscribe_fault}

@@ -1,10 +1,10 @@
 use Rattle.std.proofs.Common.{refl, sym, ap, subst, arith}
 use Rattle.flow_core.specs.SubId.{number_of}
-use Rattle.flow_law.specs.Draining.{DrainsBy}
-use Rattle.flow_law.specs.Growth.{after_events}
-use Rattle.flow_law.specs.History.{IsSubscription}
-use Rattle.flow_law.specs.Standing.{StandsForHistory}
-use Rattle.flow_law.specs.Tokens.{numbered_token}
+use Rattle.flow_law.specs.flow.Draining.{DrainsBy}
+use Rattle.flow_law.specs.history.Growth.{after_events}
+use Rattle.flow_law.specs.history.History.{IsSubscription}
+use Rattle.flow_law.specs.flow.Standing.{StandsForHistory}
+use Rattle.flow_law.specs.history.Tokens.{numbered_token}
 use Rattle.flow_shared.specs.Attended.{AttendedAs}
 use Rattle.flow_shared.specs.Calls.{NextsOf}
 use Rattle.flow_shared.specs.Drains.{said_since}

@@ -1,6 +1,6 @@
 use Rattle.std.proofs.Common.{true, Err, refl, sym, subst}
-use Rattle.flow_law.specs.History.{IsSubscription}
-use Rattle.flow_law.specs.Tokens.{numbered_token}
+use Rattle.flow_law.specs.history.History.{IsSubscription}
+use Rattle.flow_law.specs.history.Tokens.{numbered_token}
 use Rattle.flow_core.specs.SubId.{number_of}
 use Rattle.flow_shared.specs.Calls.{CallsAtOnce, UnsubscribesNow}
 use Rattle.flow_law.proofs.TokenLemmas.{was_there}

@@ -1,6 +1,6 @@
 use Rattle.std.proofs.Common.{sym, subst}
-use Rattle.flow_law.specs.History.{IsSubscription}
-use Rattle.flow_law.specs.StateFlow.{state_flow}
+use Rattle.flow_law.specs.history.History.{IsSubscription}
+use Rattle.flow_law.specs.flow.StateFlow.{state_flow}
 use Rattle.flow_core.specs.SubId.{number_of}
 use Rattle.flow_law.proofs.SeenLemmas.{state_has}
 use Rattle.flow_shared.proofs.laws.Flow+StateCore+T+A+A.seen_by_subscription.Goals as goal

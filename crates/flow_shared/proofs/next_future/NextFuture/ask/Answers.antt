@@ -1,6 +1,6 @@
 use Rattle.std.proofs.Common.{Some, ap, sym, ◌∙◌, subst}
 use Rattle.futures.specs.declared.task.Poll.TheVariants.{Ready}
-use Rattle.flow_law.specs.SharedHistory.{shared_flow}
+use Rattle.flow_law.specs.flow.SharedHistory.{shared_flow}
 use Rattle.flow_law.proofs.SharedLawful.{shared_lawful}
 use Rattle.flow_shared.specs.Calls.{NextsNow}
 use Rattle.flow_shared.specs.NextFutures.{NextPolls}

@@ -1,7 +1,7 @@
 use Rattle.std.proofs.Common.{◌≡◌, inr, refl, sym, subst, None, Result, Ok, Err, IfOk, IfErr, MatchResult}
-use Rattle.flow_law.specs.SharedFlow.{first_state, config_fault}
-use Rattle.flow_law.specs.Standing.{StandsFor}
-use Rattle.flow_law.specs.Tokens.{Begins}
+use Rattle.flow_law.specs.flow.SharedFlow.{first_state, config_fault}
+use Rattle.flow_law.specs.flow.Standing.{StandsFor}
+use Rattle.flow_law.specs.history.Tokens.{Begins}
 use Rattle.flow_shared.proofs.shared.Flow+SharedCore+T+A+A.new.Goals as goal
 
 -- by whether a flow was made

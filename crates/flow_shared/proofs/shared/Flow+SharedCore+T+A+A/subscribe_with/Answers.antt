@@ -1,9 +1,9 @@
 use Rattle.std.proofs.Common.{◌≡◌, ◌⊎◌, ℕ, List, Err, IfErr, sym, ap, ◌∙◌, subst}
 use Rattle.std.proofs.lemmas.Result.{err_from_is_err_and}
 use Rattle.flow_law.specs.declared.fault.FlowFault.TheVariants.{OutOfMemory, Exhausted}
-use Rattle.flow_law.specs.History.{IsSubscription, fault_alone}
-use Rattle.flow_law.specs.Tokens.{subscription_name}
-use Rattle.flow_law.specs.SharedHistory.{shared_flow}
+use Rattle.flow_law.specs.history.History.{IsSubscription, fault_alone}
+use Rattle.flow_law.specs.history.Tokens.{subscription_name}
+use Rattle.flow_law.specs.flow.SharedHistory.{shared_flow}
 use Rattle.flow_law.specs.declared.call.SharedCall.TheVariants as call
 use Rattle.flow_law.proofs.SharedLawful.{shared_lawful, shared_subscribing}
 use Rattle.flow_law.proofs.TokenLemmas.{subscription_made}

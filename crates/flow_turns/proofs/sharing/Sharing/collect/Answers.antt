@@ -1,7 +1,7 @@
 use Rattle.std.proofs.Common.{true, false, Ok, Err, refl, sym, ap, ◌∙◌, subst}
 use Rattle.flow_law.specs.declared.report.Event.TheVariants.{Idle, Waiting, Completed}
-use Rattle.flow_law.specs.Steps.{Takes}
-use Rattle.flow_law.specs.SharingTurn.{SharingState, reported, send}
+use Rattle.flow_law.specs.sharing.Steps.{Takes}
+use Rattle.flow_law.specs.sharing.SharingTurn.{SharingState, reported, send}
 use Rattle.flow_turns.specs.SharingViews.{sharing_state}
 use Rattle.flow_turns.specs.TurnClauses.{ended_after}
 use Rattle.flow_turns.specs.TurnParts.{sharing_parts, ActsBy}

@@ -1,6 +1,6 @@
 use Rattle.std.proofs.Common.{◌≡◌, false, Ok, Err, refl, sym, ap, ◌∙◌, subst}
 use Rattle.std.proofs.lemmas.Result.{err_from_is_err_and}
-use Rattle.flow_law.specs.SharingTurn.{collect_while_running, reset_if_due}
+use Rattle.flow_law.specs.sharing.SharingTurn.{collect_while_running, reset_if_due}
 use Rattle.flow_turns.specs.SharingViews.{sharing_state}
 use Rattle.flow_turns.specs.TurnParts.{sharing_parts, ActsBy, GoesOn}
 use Rattle.flow_turns.proofs.StepLemmas.{resets-hub}

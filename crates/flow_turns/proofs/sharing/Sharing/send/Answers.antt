@@ -1,7 +1,7 @@
 use Rattle.std.proofs.Common.{◌≡◌, None, refl, sym, ◌∙◌}
 use Rattle.flow_law.specs.declared.chain.End.TheVariants.{Completed as AtEnd, Failed}
 use Rattle.flow_law.specs.declared.report.Event.TheVariants.{Pending, Completed}
-use Rattle.flow_law.specs.SharingCalls.{item, pending, end}
+use Rattle.flow_law.specs.sharing.SharingCalls.{item, pending, end}
 use Rattle.flow_turns.specs.SharingViews.{sharing_state}
 use Rattle.flow_turns.specs.TurnParts.{sharing_parts}
 use Rattle.flow_turns.proofs.StepLemmas.{event-is-no-end, fault-is-no-end, puts-kept, asks-chain}

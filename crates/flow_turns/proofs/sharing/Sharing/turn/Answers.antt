@@ -5,9 +5,9 @@ use Rattle.flow_law.specs.declared.sharing.SharingObservation.{SharingObservatio
 use Rattle.flow_law.specs.declared.report.Report.{Report}
 use Rattle.flow_law.specs.declared.report.ShareFault.{ShareFault}
 use Rattle.flow_law.specs.declared.report.ShareFault.TheVariants.{Backwards, Ended}
-use Rattle.flow_law.specs.SharingCalls.{HubStep}
-use Rattle.flow_law.specs.SharingTurn.{SharingState, Turned, refusal, reported}
-use Rattle.flow_law.specs.TurnMeaning.{TurnResets}
+use Rattle.flow_law.specs.sharing.SharingCalls.{HubStep}
+use Rattle.flow_law.specs.sharing.SharingTurn.{SharingState, Turned, refusal, reported}
+use Rattle.flow_law.specs.sharing.TurnMeaning.{TurnResets}
 use Rattle.flow_law.proofs.TurnMeaningLemmas.{turn-means}
 use Rattle.flow_law.proofs.TurnResetLemmas.{uncounted-resets, uncalled-resets, unobserved-resets, begun-resets}
 use Rattle.flow_law.proofs.TurnQuietLemmas.{turn-quiet}

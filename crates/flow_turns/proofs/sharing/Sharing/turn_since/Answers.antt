@@ -3,8 +3,8 @@ use Rattle.flow_law.specs.declared.sharing.Command.TheVariants.{Keep}
 use Rattle.flow_law.specs.declared.report.Report.{Report}
 use Rattle.flow_law.specs.declared.report.ShareFault.{ShareFault}
 use Rattle.flow_law.specs.declared.report.ShareFault.TheVariants.{Ended}
-use Rattle.flow_law.specs.SharingCalls.{counts}
-use Rattle.flow_law.specs.SharingTurn.{reported}
+use Rattle.flow_law.specs.sharing.SharingCalls.{counts}
+use Rattle.flow_law.specs.sharing.SharingTurn.{reported}
 use Rattle.flow_turns.specs.Runs.{RunTurn, SomeRunTurn}
 use Rattle.flow_turns.specs.TurnParts.{ActsBy, CallsHub}
 use Rattle.flow_turns.proofs.PassingLemmas.{counted-turn, read-passed, unread-passed}

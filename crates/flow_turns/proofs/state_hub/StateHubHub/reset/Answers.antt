@@ -1,5 +1,5 @@
 use Rattle.std.proofs.Common.{refl, subst}
-use Rattle.flow_law.specs.Standing.{StateConforms}
+use Rattle.flow_law.specs.flow.Standing.{StateConforms}
 use Rattle.flow_law.specs.declared.call.StateCall.TheVariants as call
 use Rattle.flow_law.specs.declared.call.StateReply.TheVariants as reply
 use Rattle.flow_turns.proofs.state_hub.StateHubHub.reset.Goals as goal

@@ -1,5 +1,5 @@
 use Rattle.std.proofs.Common.{◌∙◌, subst}
-use Rattle.flow_law.specs.StateFlow.{state_flow}
+use Rattle.flow_law.specs.flow.StateFlow.{state_flow}
 use Rattle.flow_word.specs.Receiving.{WordGivesChanged, WordReceives, not_asked}
 use Rattle.flow_word.proofs.Waits.{in_vain_all, receives_far}
 use Rattle.flow_word.proofs.changed_future.ChangedFutureFuture.poll.Goals as goal

@@ -1,8 +1,8 @@
 use Rattle.std.proofs.Common.{rules, List, ap, sym, ◌∙◌, subst}
 use Rattle.atomic_table.specs.Table.{Me}
 use Rattle.flow_law.specs.declared.states.StateFlowState.{StateFlowState}
-use Rattle.flow_law.specs.StateFlow.{StateHistory, state_flow, IsStateHistory}
-use Rattle.flow_law.specs.RealTime.{IsTimed}
+use Rattle.flow_law.specs.flow.StateFlow.{StateHistory, state_flow, IsStateHistory}
+use Rattle.flow_law.specs.history.RealTime.{IsTimed}
 use Rattle.flow_law.proofs.Owners.{history_left}
 use Rattle.flow_law.proofs.RealTimeLemmas.{IsTimed-seen}
 use Rattle.flow_word.specs.declared.view.Known.{Known}

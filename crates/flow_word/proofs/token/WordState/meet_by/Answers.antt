@@ -3,9 +3,9 @@ use Rattle.std.specs.List.{AllByRecursion}
 use Rattle.atomic_table.specs.Table.{Me}
 use Rattle.atomic_table.specs.declared.shared.Seat.{Seat}
 use Rattle.flow_law.specs.declared.states.StateFlowState.{StateFlowState}
-use Rattle.flow_law.specs.Growth.{Fits, sees}
-use Rattle.flow_law.specs.StateFlow.{IsStateHistory}
-use Rattle.flow_law.specs.Tokens.{token}
+use Rattle.flow_law.specs.history.Growth.{Fits, sees}
+use Rattle.flow_law.specs.flow.StateFlow.{IsStateHistory}
+use Rattle.flow_law.specs.history.Tokens.{token}
 use Rattle.flow_word.specs.declared.view.Known.{Known}
 use Rattle.flow_word.specs.View.{begun, only_in_view, with_knows, first_in_view, others_in_view}
 use Rattle.flow_word.specs.Tokens.{word_id}

@@ -1,5 +1,5 @@
 use Rattle.std.proofs.Common.{◌∙◌, sym, subst}
-use Rattle.flow_law.specs.StateFlow.{IsStateHistory}
+use Rattle.flow_law.specs.flow.StateFlow.{IsStateHistory}
 use Rattle.flow_word.specs.View.{begun, only_in_view}
 use Rattle.flow_word.specs.Steps.{HasGot}
 use Rattle.flow_word.specs.Tokens.{WordToken}

@@ -7,8 +7,8 @@ use Rattle.flow_law.specs.declared.call.StateReply.TheVariants as reply
 use Rattle.flow_law.specs.declared.outcome.Next.{Next}
 use Rattle.flow_law.specs.declared.outcome.Next.TheVariants.{Value, Empty}
 use Rattle.flow_law.specs.declared.states.StateFlowState.{StateFlowState}
-use Rattle.flow_law.specs.Promise.{AddsOne, CallsIn}
-use Rattle.flow_law.specs.StateFlow.{state_flow, IsStateHistory}
+use Rattle.flow_law.specs.history.Promise.{AddsOne, CallsIn}
+use Rattle.flow_law.specs.flow.StateFlow.{state_flow, IsStateHistory}
 use Rattle.flow_word.specs.declared.view.Known.{Known}
 use Rattle.flow_word.specs.declared.view.Start.{Start}
 use Rattle.flow_word.specs.View.{begun, got_last, only_in_view}

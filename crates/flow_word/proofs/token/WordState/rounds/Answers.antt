@@ -1,5 +1,5 @@
 use Rattle.std.proofs.Common.{refl, sym, subst, ◌∙◌}
-use Rattle.flow_law.specs.Updates.{none_lost, one_lost}
+use Rattle.flow_law.specs.history.Updates.{none_lost, one_lost}
 use Rattle.flow_word.proofs.token.WordState.rounds.Goals as goal
 
 pub loop-init : goal.loop-init

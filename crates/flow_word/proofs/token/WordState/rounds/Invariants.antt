@@ -1,5 +1,5 @@
 use Rattle.std.proofs.Common.{◌≡◌}
-use Rattle.flow_law.specs.Updates.{LosesRounds}
+use Rattle.flow_law.specs.history.Updates.{LosesRounds}
 use Rattle.flow_word.proofs.token.WordState.rounds.Given as goal
 
 abbrev pub invariant-loop : goal.invariant-loop

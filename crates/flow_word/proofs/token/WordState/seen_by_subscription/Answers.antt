@@ -2,8 +2,8 @@ use Rattle.std.proofs.Common.{List, refl, sym, subst}
 use Rattle.std.specs.Prelude.{IsSome}
 use Rattle.atomic_table.specs.Table.{Me}
 use Rattle.flow_law.specs.declared.states.StateFlowState.{StateFlowState}
-use Rattle.flow_law.specs.StateFlow.{state_after_all}
-use Rattle.flow_law.specs.Current.{IsThere}
+use Rattle.flow_law.specs.flow.StateFlow.{state_after_all}
+use Rattle.flow_law.specs.laws.Current.{IsThere}
 use Rattle.flow_word.specs.declared.view.Known.{Known}
 use Rattle.flow_word.specs.View.{begun, only_in_view}
 use Rattle.flow_law.proofs.RealTimeLemmas.{in_real_time}

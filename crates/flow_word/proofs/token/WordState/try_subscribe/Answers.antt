@@ -2,10 +2,10 @@ use Rattle.std.proofs.Common.{rules, Some, None, ◌≡◌, ◌+◌, ◌/◌, �
 use Rattle.flow_law.specs.declared.call.StateCall.TheVariants.{Subscribe}
 use Rattle.flow_law.specs.declared.call.StateReply.TheVariants.{Subscribed}
 use Rattle.flow_law.specs.declared.states.StateFlowState.{StateFlowState}
-use Rattle.flow_law.specs.Growth.{makes, child}
-use Rattle.flow_law.specs.Promise.{AddsOne}
-use Rattle.flow_law.specs.StateFlow.{IsStateHistory}
-use Rattle.flow_law.specs.Tokens.{token, subscription_name}
+use Rattle.flow_law.specs.history.Growth.{makes, child}
+use Rattle.flow_law.specs.history.Promise.{AddsOne}
+use Rattle.flow_law.specs.flow.StateFlow.{IsStateHistory}
+use Rattle.flow_law.specs.history.Tokens.{token, subscription_name}
 use Rattle.flow_word.specs.View.{StateKnowledge, begun, only_in_view, with_knows}
 use Rattle.flow_word.specs.Tokens.{word_id, token_of}
 use Rattle.flow_word.proofs.SeatSteps.{making}

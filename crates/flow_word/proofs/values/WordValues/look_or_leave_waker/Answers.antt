@@ -1,5 +1,5 @@
 use Rattle.std.proofs.Common.{subst}
-use Rattle.flow_law.specs.StateFlow.{state_flow}
+use Rattle.flow_law.specs.flow.StateFlow.{state_flow}
 use Rattle.flow_word.specs.Receiving.{ReceivesInTime}
 use Rattle.flow_word.proofs.values.WordValues.look_or_leave_waker.Goals as goal
 

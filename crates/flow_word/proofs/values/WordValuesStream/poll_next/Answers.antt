@@ -1,5 +1,5 @@
 use Rattle.std.proofs.Common.{subst}
-use Rattle.flow_law.specs.StateFlow.{state_flow}
+use Rattle.flow_law.specs.flow.StateFlow.{state_flow}
 use Rattle.flow_word.specs.Receiving.{not_asked, WordYields}
 use Rattle.flow_word.proofs.Waits.{yields_rest, yields_far, in_vain_all}
 use Rattle.flow_word.proofs.values.WordValuesStream.poll_next.Goals as goal

@@ -1,5 +1,5 @@
 use Rattle.std.proofs.Common.{◌∙◌, subst}
-use Rattle.flow_law.specs.SharedHistory.{shared_flow}
+use Rattle.flow_law.specs.flow.SharedHistory.{shared_flow}
 use Rattle.flow_word.specs.Receiving.{WordReceives}
 use Rattle.flow_word_shared.specs.Receiving.{WordFlowGives}
 use Rattle.flow_word_shared.proofs.Polls.{pends_receives}

@@ -2,9 +2,9 @@ use Rattle.std.proofs.Common.{◌≡◌, ℕ, ◌+◌, ◌-◌, ◌/◌, ◌%◌
 use Rattle.std.specs.Prelude.{max}
 use Rattle.std.specs.Mem.Slots.{slots_items}
 use Rattle.flow_law.specs.declared.states.SharedFlowState.{SharedFlowState}
-use Rattle.flow_law.specs.Growth.{Fits}
-use Rattle.flow_law.specs.SharedHistory.{shared_flow}
-use Rattle.flow_law.specs.Standing.{StandsForHistory}
+use Rattle.flow_law.specs.history.Growth.{Fits}
+use Rattle.flow_law.specs.flow.SharedHistory.{shared_flow}
+use Rattle.flow_law.specs.flow.Standing.{StandsForHistory}
 use Rattle.flow_word_shared.specs.Closing.{StandsAsClosed, closed_flow}
 use Rattle.flow_word_shared.specs.Rule.{head}
 use Rattle.flow_word_shared.specs.View.{only}

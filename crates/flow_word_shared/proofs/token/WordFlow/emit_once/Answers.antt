@@ -3,10 +3,10 @@ use Rattle.std.proofs.Math.Nat.{mod-lt}
 use Rattle.flow_law.specs.declared.call.SharedCall.{SharedCall}
 use Rattle.flow_law.specs.declared.call.SharedReply.{SharedReply}
 use Rattle.flow_law.specs.declared.states.SharedFlowState.{SharedFlowState}
-use Rattle.flow_law.specs.History.{IsHistory}
-use Rattle.flow_law.specs.Promise.{AddsOne}
-use Rattle.flow_law.specs.SharedHistory.{shared_flow}
-use Rattle.flow_law.specs.Tokens.{token}
+use Rattle.flow_law.specs.history.History.{IsHistory}
+use Rattle.flow_law.specs.history.Promise.{AddsOne}
+use Rattle.flow_law.specs.flow.SharedHistory.{shared_flow}
+use Rattle.flow_law.specs.history.Tokens.{token}
 use Rattle.flow_word_shared.specs.Tokens.{word_flow_id, ring_token}
 use Rattle.flow_word_shared.specs.View.{SharedKnowledge, began_as, only, holding}
 use Rattle.flow_word_shared.proofs.EmitSteps.{taking, counting, filling, refusing, releasing, publishing}

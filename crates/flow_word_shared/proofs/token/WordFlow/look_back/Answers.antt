@@ -1,9 +1,9 @@
 use Rattle.std.proofs.Common.{rules, List, ap, sym, ◌∙◌, subst}
 use Rattle.atomic_table.specs.Table.{Me}
 use Rattle.flow_law.specs.declared.states.SharedFlowState.{SharedFlowState}
-use Rattle.flow_law.specs.History.{IsHistory}
-use Rattle.flow_law.specs.SharedHistory.{History, shared_flow}
-use Rattle.flow_law.specs.RealTime.{IsTimed}
+use Rattle.flow_law.specs.history.History.{IsHistory}
+use Rattle.flow_law.specs.flow.SharedHistory.{History, shared_flow}
+use Rattle.flow_law.specs.history.RealTime.{IsTimed}
 use Rattle.flow_law.proofs.Owners.{history_left}
 use Rattle.flow_law.proofs.RealTimeLemmas.{IsTimed-seen}
 use Rattle.flow_word_shared.specs.declared.view.RingKnown.{RingKnown}

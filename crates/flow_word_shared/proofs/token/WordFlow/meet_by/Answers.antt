@@ -3,10 +3,10 @@ use Rattle.std.specs.List.{AllByRecursion}
 use Rattle.atomic_table.specs.Table.{Me}
 use Rattle.atomic_table.specs.declared.shared.Seat.{Seat}
 use Rattle.flow_law.specs.declared.states.SharedFlowState.{SharedFlowState}
-use Rattle.flow_law.specs.Growth.{Fits, sees}
-use Rattle.flow_law.specs.History.{IsHistory}
-use Rattle.flow_law.specs.SharedHistory.{shared_flow}
-use Rattle.flow_law.specs.Tokens.{token}
+use Rattle.flow_law.specs.history.Growth.{Fits, sees}
+use Rattle.flow_law.specs.history.History.{IsHistory}
+use Rattle.flow_law.specs.flow.SharedHistory.{shared_flow}
+use Rattle.flow_law.specs.history.Tokens.{token}
 use Rattle.flow_word_shared.specs.declared.view.RingKnown.{RingKnown}
 use Rattle.flow_word_shared.specs.declared.view.RingStart.{RingStart}
 use Rattle.flow_word_shared.specs.Rule.{IsStart}

@@ -1,6 +1,6 @@
 use Rattle.std.proofs.Common.{◌≤◌, length, sym, subst, ◌∙◌}
-use Rattle.flow_law.specs.History.{IsHistory}
-use Rattle.flow_law.specs.SharedHistory.{shared_flow}
+use Rattle.flow_law.specs.history.History.{IsHistory}
+use Rattle.flow_law.specs.flow.SharedHistory.{shared_flow}
 use Rattle.flow_word_shared.specs.Steps.{IsAt, log_after}
 use Rattle.flow_word_shared.specs.Tokens.{WordFlowToken}
 use Rattle.flow_word_shared.specs.View.{only}

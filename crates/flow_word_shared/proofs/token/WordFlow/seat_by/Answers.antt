@@ -1,5 +1,5 @@
 use Rattle.std.proofs.Common.{rules, ◌≡◌, ◌≤◌, [], ◌∷◌, map, length, Some, None, refl, sym, ap, subst, ◌∙◌}
-use Rattle.flow_law.specs.Growth.{makes}
+use Rattle.flow_law.specs.history.Growth.{makes}
 use Rattle.flow_word_shared.specs.Steps.{IsAt, MeOf, log_after}
 use Rattle.flow_word_shared.specs.View.{only, reading, ring_with_knows}
 use Rattle.flow_word_shared.proofs.SeatSteps.{making}

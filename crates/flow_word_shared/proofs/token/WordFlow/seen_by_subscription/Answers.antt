@@ -2,8 +2,8 @@ use Rattle.std.proofs.Common.{List, refl, sym, subst}
 use Rattle.std.specs.Prelude.{IsSome}
 use Rattle.atomic_table.specs.Table.{Me}
 use Rattle.flow_law.specs.declared.states.SharedFlowState.{SharedFlowState}
-use Rattle.flow_law.specs.SharedFlow.{position_of}
-use Rattle.flow_law.specs.SharedHistory.{state_after}
+use Rattle.flow_law.specs.flow.SharedFlow.{position_of}
+use Rattle.flow_law.specs.flow.SharedHistory.{state_after}
 use Rattle.flow_word_shared.specs.declared.view.RingKnown.{RingKnown}
 use Rattle.flow_word_shared.specs.View.{only}
 use Rattle.flow_law.proofs.RealTimeLemmas.{in_real_time}

@@ -2,8 +2,8 @@ use Rattle.std.proofs.Common.{sym, subst, arith}
 use Rattle.flow_law.specs.declared.call.SharedCall.TheVariants as call
 use Rattle.flow_law.specs.declared.call.SharedReply.TheVariants as reply
 use Rattle.flow_law.specs.declared.outcome.Next.TheVariants.{Value}
-use Rattle.flow_law.specs.SharedHistory.{shared_flow}
-use Rattle.flow_law.specs.Promise.{CallsAtOnceIn}
+use Rattle.flow_law.specs.flow.SharedHistory.{shared_flow}
+use Rattle.flow_law.specs.history.Promise.{CallsAtOnceIn}
 use Rattle.flow_word_shared.specs.Answers.{IsOverrun}
 use Rattle.flow_word_shared.specs.Tokens.{WordFlowNumbered, ring_token}
 use Rattle.flow_word_shared.proofs.Told.{saw_then, saw_overrun}

@@ -3,11 +3,11 @@ use Rattle.std.specs.Prelude.{max}
 use Rattle.flow_law.specs.declared.call.SharedCall.TheVariants as call
 use Rattle.flow_law.specs.declared.call.SharedReply.TheVariants as reply
 use Rattle.flow_law.specs.declared.states.SharedFlowState.{SharedFlowState}
-use Rattle.flow_law.specs.Growth.{makes, child}
-use Rattle.flow_law.specs.History as histories
-use Rattle.flow_law.specs.Promise.{AddsOne}
-use Rattle.flow_law.specs.SharedHistory.{shared_flow}
-use Rattle.flow_law.specs.Tokens.{token, subscription_name}
+use Rattle.flow_law.specs.history.Growth.{makes, child}
+use Rattle.flow_law.specs.history.History as histories
+use Rattle.flow_law.specs.history.Promise.{AddsOne}
+use Rattle.flow_law.specs.flow.SharedHistory.{shared_flow}
+use Rattle.flow_law.specs.history.Tokens.{token, subscription_name}
 use Rattle.flow_word_shared.specs.declared.view.RingKnown.{RingKnown}
 use Rattle.flow_word_shared.specs.declared.view.RingStart.{RingStart}
 use Rattle.flow_word_shared.specs.Steps.{IsAt, MeOf, log_after}

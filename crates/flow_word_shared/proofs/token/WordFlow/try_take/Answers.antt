@@ -1,5 +1,5 @@
 use Rattle.std.proofs.Common.{ap, subst, refl, arith}
-use Rattle.flow_law.specs.Tokens.{numbered_token}
+use Rattle.flow_law.specs.history.Tokens.{numbered_token}
 use Rattle.flow_word_shared.specs.Answers.{IsOverrun, WordFlowNexts, NextsTaken}
 use Rattle.flow_word_shared.specs.Tokens.{WordFlowNumbered, ring_token}
 use Rattle.flow_word_shared.proofs.Told.{saw_overrun, tried_takes}

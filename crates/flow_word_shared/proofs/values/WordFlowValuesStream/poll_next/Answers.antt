@@ -1,5 +1,5 @@
 use Rattle.std.proofs.Common.{subst}
-use Rattle.flow_law.specs.SharedHistory.{shared_flow}
+use Rattle.flow_law.specs.flow.SharedHistory.{shared_flow}
 use Rattle.flow_word.specs.Receiving.{WordYields}
 use Rattle.flow_word.proofs.Waits.{yields_rest}
 use Rattle.flow_word_shared.proofs.Polls.{pends_yields}

@@ -1,7 +1,7 @@
 use Rattle.std.proofs.Common.{◌≡◌, ◌<◌, ◌^◌, ℤ, pos, ◌*ℤ◌, Ok, sym, ap, ◌∙◌, subst, arith, rules}
 use Rattle.std.proofs.lemmas.Grind.{common_steps}
-use Rattle.flow_law.specs.ChainRun.{Collects}
-use Rattle.flow_law.specs.OperatorRuns.{flat_map_run, map_run}
+use Rattle.flow_law.specs.chain.ChainRun.{Collects}
+use Rattle.flow_law.specs.chain.OperatorRuns.{flat_map_run, map_run}
 use Rattle.flow_operators.specs.Numbers.{ranged}
 use Rattle.flow_operators.specs.Sources.{range_run}
 use Rattle.use_flows.proofs.ProductsLemmas.{multiples_run, products_run, readings}

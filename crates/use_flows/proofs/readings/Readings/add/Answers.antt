@@ -1,7 +1,7 @@
 use Rattle.std.proofs.Common.{◌∙◌, ap, subst}
 use Rattle.flow_law.specs.declared.call.SharedCall.TheVariants as call
-use Rattle.flow_law.specs.SharedHistory.{Replies, after}
-use Rattle.flow_law.specs.Standing.{StandsFor}
+use Rattle.flow_law.specs.flow.SharedHistory.{Replies, after}
+use Rattle.flow_law.specs.flow.Standing.{StandsFor}
 use Rattle.flow_core.specs.SharedCore.{try_emit_reply}
 use Rattle.use_flows.specs.Readings.{with_reading}
 use Rattle.use_flows.proofs.ReadingsLemmas.{stands_after, added}

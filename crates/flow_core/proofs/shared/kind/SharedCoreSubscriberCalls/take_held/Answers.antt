@@ -1,5 +1,5 @@
-use Rattle.flow_law.specs.SharedHistory.{shared_flow}
-use Rattle.flow_law.specs.Standing.{StandsFor, Documents}
+use Rattle.flow_law.specs.flow.SharedHistory.{shared_flow}
+use Rattle.flow_law.specs.flow.Standing.{StandsFor, Documents}
 use Rattle.flow_law.specs.declared.call.SharedCall.TheVariants as call
 use Rattle.flow_core.specs.SubId.{number_of}
 use Rattle.flow_core.specs.SharedCore.{SharedCoreNexts, next_reply}

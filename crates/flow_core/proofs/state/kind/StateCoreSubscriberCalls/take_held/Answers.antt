@@ -1,6 +1,6 @@
-use Rattle.flow_law.specs.History.{replied}
-use Rattle.flow_law.specs.StateFlow.{state_flow}
-use Rattle.flow_law.specs.Standing.{Documents}
+use Rattle.flow_law.specs.history.History.{replied}
+use Rattle.flow_law.specs.flow.StateFlow.{state_flow}
+use Rattle.flow_law.specs.flow.Standing.{Documents}
 use Rattle.std.specs.Prelude.{◌≡◌}
 use Rattle.flow_core.specs.SubId.{number_of}
 use Rattle.flow_core.proofs.TakingLemmas.{drains_none}

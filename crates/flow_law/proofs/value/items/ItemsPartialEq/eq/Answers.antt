@@ -1,4 +1,4 @@
-use Rattle.flow_law.specs.Values.{list_exact}
+use Rattle.flow_law.specs.flow.Values.{list_exact}
 use Rattle.flow_law.proofs.value.items.ItemsPartialEq.eq.Goals as goal
 
 pub returns-clause-exact : goal.returns-clause-exact

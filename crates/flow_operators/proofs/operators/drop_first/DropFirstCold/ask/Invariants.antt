@@ -1,5 +1,5 @@
 use Rattle.std.proofs.Common.{◌≡◌, ◌≤◌, true}
-use Rattle.flow_law.specs.OperatorRuns.{drop_run}
+use Rattle.flow_law.specs.chain.OperatorRuns.{drop_run}
 use Rattle.flow_operators.specs.Behind.{after_drop}
 use Rattle.flow_operators.specs.SameChain.{StaysChain}
 use Rattle.flow_operators.specs.Upstreams.{chain_of, is_ended, left_of}

@@ -1,6 +1,6 @@
 use Rattle.std.proofs.Common.{arith, inl, refl, sym, ap, ◌∙◌}
 use Rattle.std.proofs.lemmas.Grind.{common_steps}
-use Rattle.flow_law.specs.OperatorRuns.{filter_run}
+use Rattle.flow_law.specs.chain.OperatorRuns.{filter_run}
 use Rattle.flow_operators.specs.Behind.{rest_after_ask}
 use Rattle.flow_operators.specs.Passing.{from_passing}
 use Rattle.flow_operators.specs.Upstreams.{chain_of, left_of}

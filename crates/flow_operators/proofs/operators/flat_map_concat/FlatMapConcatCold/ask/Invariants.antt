@@ -1,8 +1,8 @@
 use Rattle.std.proofs.Common.{◌≡◌, ◌≤◌, ◌+◌, ◌*◌, false, Result}
 use Rattle.std.specs.Prelude.{IfSome}
 use Rattle.flow_law.specs.declared.chain.ChainFault.{ChainFault}
-use Rattle.flow_law.specs.ChainRun.{ChainRun}
-use Rattle.flow_law.specs.OperatorRuns.{flat_map_run, followed}
+use Rattle.flow_law.specs.chain.ChainRun.{ChainRun}
+use Rattle.flow_law.specs.chain.OperatorRuns.{flat_map_run, followed}
 use Rattle.flow_operators.specs.Behind.{after_flat_map, unless_completed}
 use Rattle.flow_operators.specs.Closures.{Opens, OpensOnly}
 use Rattle.flow_operators.specs.InnerChains.{ReadsByItem, inner_chain, rest_by_item}

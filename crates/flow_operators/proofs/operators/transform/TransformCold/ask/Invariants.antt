@@ -1,6 +1,6 @@
 use Rattle.std.proofs.Common.{◌≡◌, ◌≤◌, ◌+◌, ◌*◌, ◌^◌, false, length, Result, List}
 use Rattle.flow_law.specs.declared.chain.ChainFault.{ChainFault}
-use Rattle.flow_law.specs.OperatorRuns.{prepended, transform_run}
+use Rattle.flow_law.specs.chain.OperatorRuns.{prepended, transform_run}
 use Rattle.flow_operators.specs.Behind.{after_transform, unless_empty}
 use Rattle.flow_operators.specs.Closures.{ComputesBy}
 use Rattle.flow_operators.specs.Kept.{images_left}

@@ -1,5 +1,5 @@
 use Rattle.std.proofs.Common.{arith, ◌≡◌, ◌∙◌, get_or, subst}
-use Rattle.flow_law.specs.Tokens.{MeetsIn}
+use Rattle.flow_law.specs.history.Tokens.{MeetsIn}
 use Rattle.flow_law.proofs.RoundLemmas.{one_met, same_by_place}
 use Rattle.flow_shared.proofs.handles.caller.FlowCaller+S+A.meet_all.Goals as goal
 

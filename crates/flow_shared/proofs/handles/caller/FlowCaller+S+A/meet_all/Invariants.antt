@@ -1,5 +1,5 @@
 use Rattle.std.proofs.Common.{◌≡◌, ℕ, ◌<◌, ◌≤◌, get_or}
-use Rattle.flow_law.specs.Rounds.{OnlyMeets, MeetsInTurn}
+use Rattle.flow_law.specs.history.Rounds.{OnlyMeets, MeetsInTurn}
 use Rattle.flow_shared.proofs.handles.caller.FlowCaller+S+A.meet_all.Given as goal
 
 abbrev pub invariant-loop-k : goal.invariant-loop-k

@@ -1,6 +1,6 @@
 use Rattle.std.proofs.Common.{◌≡◌, ◌∙◌, get_or, subst}
-use Rattle.flow_law.specs.Rounds.{MeetsInTurn}
-use Rattle.flow_law.specs.Promise.{CallsIn}
+use Rattle.flow_law.specs.history.Rounds.{MeetsInTurn}
+use Rattle.flow_law.specs.history.Promise.{CallsIn}
 use Rattle.flow_law.proofs.RoundLemmas.{closed_around}
 use Rattle.flow_shared.proofs.handles.caller.FlowCaller+S+A.meet_twice.Goals as goal
 

@@ -1,5 +1,5 @@
 use Rattle.std.proofs.Common.{◌∙◌, Some, None}
-use Rattle.flow_law.specs.HandleFaults.{memory_fault}
+use Rattle.flow_law.specs.history.HandleFaults.{memory_fault}
 use Rattle.flow_shared.proofs.Waits.{is_refused, has_next, goes_on}
 use Rattle.flow_shared.proofs.handles.reader.BoundSubscription.await_next_within.Goals as goal
 

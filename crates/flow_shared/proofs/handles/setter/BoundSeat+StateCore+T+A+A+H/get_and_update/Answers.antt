@@ -1,6 +1,6 @@
 use Rattle.std.proofs.Common.{refl, ◌∙◌}
 use Rattle.std.specs.Fn.{FnReturnsAt}
-use Rattle.flow_law.specs.Updates.{none_lost, Accepts, Refuses}
+use Rattle.flow_law.specs.history.Updates.{none_lost, Accepts, Refuses}
 use Rattle.flow_shared.proofs.Rounds.{lost_by, won_by, stopped_by}
 use Rattle.flow_shared.proofs.handles.setter.BoundSeat+StateCore+T+A+A+H.get_and_update.Goals as goal
 

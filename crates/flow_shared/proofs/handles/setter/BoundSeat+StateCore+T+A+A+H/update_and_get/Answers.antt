@@ -1,6 +1,6 @@
 use Rattle.std.proofs.Common.{inr, refl, sym, subst, ◌∙◌}
 use Rattle.std.specs.Fn.{FnReturnsAt}
-use Rattle.flow_law.specs.Updates.{none_lost, Accepts, RefusesOrKeepsNone, Updates}
+use Rattle.flow_law.specs.history.Updates.{none_lost, Accepts, RefusesOrKeepsNone, Updates}
 use Rattle.flow_shared.proofs.Rounds.{lost_by, won_by, stopped_by, refused_or_kept_none}
 use Rattle.flow_shared.proofs.handles.setter.BoundSeat+StateCore+T+A+A+H.update_and_get.Goals as goal
 

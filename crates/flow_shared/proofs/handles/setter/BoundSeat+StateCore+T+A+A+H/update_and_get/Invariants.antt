@@ -1,6 +1,6 @@
 use Rattle.std.proofs.Common.{◌≡◌}
 use Rattle.std.specs.Fn.{FnReturnsAt}
-use Rattle.flow_law.specs.Updates.{Accepts, LosesRounds}
+use Rattle.flow_law.specs.history.Updates.{Accepts, LosesRounds}
 use Rattle.flow_shared.proofs.handles.setter.BoundSeat+StateCore+T+A+A+H.update_and_get.Given as goal
 
 abbrev pub invariant-loop : goal.invariant-loop

@@ -1,5 +1,5 @@
 use Rattle.std.proofs.Common.{Some, ◌∙◌, subst}
-use Rattle.flow_law.specs.StateFlow.{state_flow}
+use Rattle.flow_law.specs.flow.StateFlow.{state_flow}
 use Rattle.flow_shared.specs.Polling.{GivesChanged}
 use Rattle.flow_shared.proofs.PollRuns.{changed_first, changed_later}
 use Rattle.flow_shared.proofs.handles.values.StateChangedFutureFuture.poll.Goals as goal

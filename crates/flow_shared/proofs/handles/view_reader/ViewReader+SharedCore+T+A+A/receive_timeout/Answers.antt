@@ -1,7 +1,7 @@
 use Rattle.std.proofs.Common.{subst}
-use Rattle.flow_law.specs.HandleFaults.{answer_by, memory_fault}
-use Rattle.flow_law.specs.Handles.{next_in}
-use Rattle.flow_law.specs.SharedHistory.{shared_flow}
+use Rattle.flow_law.specs.history.HandleFaults.{answer_by, memory_fault}
+use Rattle.flow_law.specs.history.Handles.{next_in}
+use Rattle.flow_law.specs.flow.SharedHistory.{shared_flow}
 use Rattle.flow_shared.specs.Receiving.{NextsUntil}
 use Rattle.flow_shared.proofs.handles.view_reader.ViewReader+SharedCore+T+A+A.receive_timeout.Goals as goal
 

@@ -1,7 +1,7 @@
 use Rattle.std.proofs.Common.{subst}
 use Rattle.std.specs.Prelude.{true, false}
 use Rattle.std.specs.Fn.{FnReturnsAt}
-use Rattle.flow_law.specs.HandleFaults.{answer_by, memory_fault}
+use Rattle.flow_law.specs.history.HandleFaults.{answer_by, memory_fault}
 use Rattle.flow_shared.specs.WaitingFor.{ReceivesIf}
 use Rattle.flow_shared.proofs.handles.view_reader.ViewReader+StateCore+T+A+A.wait_for.Goals as goal
 

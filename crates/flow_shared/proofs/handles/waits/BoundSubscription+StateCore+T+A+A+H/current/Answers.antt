@@ -1,7 +1,7 @@
 use Rattle.std.proofs.Common.{Ok, Err, subst, sym}
 use Rattle.flow_law.specs.declared.fault.FlowFault.TheVariants.{OutOfMemory}
-use Rattle.flow_law.specs.Handles.{next_of}
-use Rattle.flow_law.specs.StateFlow.{state_flow}
+use Rattle.flow_law.specs.history.Handles.{next_of}
+use Rattle.flow_law.specs.flow.StateFlow.{state_flow}
 use Rattle.flow_shared.specs.Calls.{NextsOf}
 use Rattle.flow_shared.specs.WaitingFor.{Looks, got_now, got_before, not_shown, not_given}
 use Rattle.flow_shared.proofs.handles.waits.BoundSubscription+StateCore+T+A+A+H.current.Goals as goal

@@ -1,6 +1,6 @@
 use Rattle.std.proofs.Common.{refl, Ok, Err, ◌∙◌, subst}
-use Rattle.flow_law.specs.HandleFaults.{memory_fault}
-use Rattle.flow_law.specs.StateFlow.{state_flow}
+use Rattle.flow_law.specs.history.HandleFaults.{memory_fault}
+use Rattle.flow_law.specs.flow.StateFlow.{state_flow}
 use Rattle.flow_shared.specs.Receiving.{FlowReceives}
 use Rattle.flow_shared.specs.WaitingFor.{looked, passed_over, passed, look_refused, next_refused}
 use Rattle.flow_shared.proofs.handles.waits.BoundSubscription+StateCore+T+A+A+H.wait_for.Goals as goal

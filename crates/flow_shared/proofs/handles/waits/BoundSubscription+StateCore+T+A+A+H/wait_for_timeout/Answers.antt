@@ -1,7 +1,7 @@
 use Rattle.std.proofs.Common.{refl, Ok, Err, ◌∙◌, subst}
-use Rattle.flow_law.specs.HandleFaults.{memory_fault}
-use Rattle.flow_law.specs.Handles.{next_of}
-use Rattle.flow_law.specs.StateFlow.{state_flow}
+use Rattle.flow_law.specs.history.HandleFaults.{memory_fault}
+use Rattle.flow_law.specs.history.Handles.{next_of}
+use Rattle.flow_law.specs.flow.StateFlow.{state_flow}
 use Rattle.flow_shared.specs.Receiving.{NextsUntil}
 use Rattle.flow_shared.specs.WaitingFor.{looked, passed_over, passed, look_refused, next_refused, none_passed}
 use Rattle.flow_shared.proofs.handles.waits.BoundSubscription+StateCore+T+A+A+H.wait_for_timeout.Goals as goal

@@ -1,5 +1,5 @@
-use Rattle.flow_law.specs.History.{emission}
-use Rattle.flow_law.specs.SharedHistory.{shared_flow}
+use Rattle.flow_law.specs.history.History.{emission}
+use Rattle.flow_law.specs.flow.SharedHistory.{shared_flow}
 use Rattle.flow_law.proofs.SharedLawful.{shared_lawful}
 use Rattle.flow_law.proofs.TokenLemmas.{given_after}
 use Rattle.flow_shared.proofs.shared.emitting.Flow+SharedCore+T+A+A.poll_by.Goals as goal

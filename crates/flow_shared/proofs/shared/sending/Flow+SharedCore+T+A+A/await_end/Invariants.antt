@@ -1,7 +1,7 @@
 use Rattle.std.proofs.Common.{◌≡◌}
-use Rattle.flow_law.specs.History.{IsEmission}
-use Rattle.flow_law.specs.SharedHistory.{shared_flow}
-use Rattle.flow_law.specs.Tokens.{numbered_token}
+use Rattle.flow_law.specs.history.History.{IsEmission}
+use Rattle.flow_law.specs.flow.SharedHistory.{shared_flow}
+use Rattle.flow_law.specs.history.Tokens.{numbered_token}
 use Rattle.flow_sleepers.specs.Waiters.{IsReadyToWait}
 use Rattle.flow_shared.proofs.Waits.{EndsOn}
 use Rattle.flow_shared.proofs.shared.sending.Flow+SharedCore+T+A+A.await_end.Given as goal

@@ -1,6 +1,6 @@
 use Rattle.std.proofs.Common.{◌≡◌, sym, ap, ◌∙◌, subst}
 use Rattle.flow_law.specs.declared.call.SharedCall.TheVariants as call
-use Rattle.flow_law.specs.SharedHistory.{after}
+use Rattle.flow_law.specs.flow.SharedHistory.{after}
 use Rattle.flow_law.proofs.SharedSleeping.{shared_sleeping}
 use Rattle.flow_core.specs.SharedCore.{emit_reply}
 use Rattle.flow_shared.specs.CoreCalls.{MaySleep, after_emit}

@@ -1,8 +1,8 @@
 use Rattle.std.proofs.Common.{sym, subst}
 use Rattle.flow_law.specs.declared.call.SharedCall.TheVariants as call
-use Rattle.flow_law.specs.History.{fault_alone}
-use Rattle.flow_law.specs.SharedHistory.{shared_flow}
-use Rattle.flow_law.specs.Standing.{Documents, StandsFor}
+use Rattle.flow_law.specs.history.History.{fault_alone}
+use Rattle.flow_law.specs.flow.SharedHistory.{shared_flow}
+use Rattle.flow_law.specs.flow.Standing.{Documents, StandsFor}
 use Rattle.flow_core.specs.SharedCore.{subscribe_reply}
 use Rattle.flow_shared.proofs.shared.shared_calls.SubscribeWithCoreCallSharedCore.run.Goals as goal
 

@@ -1,5 +1,5 @@
 use Rattle.std.proofs.Common.{◌∙◌, ap}
-use Rattle.flow_law.specs.StateFlow.{state_flow}
+use Rattle.flow_law.specs.flow.StateFlow.{state_flow}
 use Rattle.flow_word.specs.Receiving.{not_asked}
 use Rattle.flow_word.proofs.Waits.{in_vain_all, in_vain_again, receives_then}
 use Rattle.flow_word.proofs.handles.reader.WordReader.changed.Goals as goal

@@ -1,5 +1,5 @@
 use Rattle.std.proofs.Common.{◌≡◌}
-use Rattle.flow_law.specs.StateFlow.{state_flow}
+use Rattle.flow_law.specs.flow.StateFlow.{state_flow}
 use Rattle.flow_word.specs.Receiving.{AsksInVain}
 use Rattle.flow_word.proofs.handles.reader.WordReader.changed_within.Given as goal
 

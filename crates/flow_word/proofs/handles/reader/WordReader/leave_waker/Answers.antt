@@ -1,6 +1,6 @@
 use Rattle.std.proofs.Common.{sym, ap, ◌∙◌, subst}
-use Rattle.flow_law.specs.Handles.{read_by}
-use Rattle.flow_law.specs.StateFlow.{state_flow}
+use Rattle.flow_law.specs.history.Handles.{read_by}
+use Rattle.flow_law.specs.flow.StateFlow.{state_flow}
 use Rattle.flow_word.specs.Handles.{ReaderOfWord}
 use Rattle.flow_word.specs.Receiving.{FindsNone}
 use Rattle.flow_word.proofs.handles.reader.WordReader.leave_waker.Goals as goal

@@ -1,4 +1,4 @@
-use Rattle.flow_law.specs.StateFlow.{state_flow}
+use Rattle.flow_law.specs.flow.StateFlow.{state_flow}
 use Rattle.flow_word.proofs.Waits.{found_now}
 use Rattle.flow_word.proofs.handles.reader.WordReader.look.Goals as goal
 

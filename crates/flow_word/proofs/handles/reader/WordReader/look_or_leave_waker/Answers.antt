@@ -1,5 +1,5 @@
 use Rattle.std.proofs.Common.{subst}
-use Rattle.flow_law.specs.StateFlow.{state_flow}
+use Rattle.flow_law.specs.flow.StateFlow.{state_flow}
 use Rattle.flow_word.specs.Handles.{ReaderOfWord}
 use Rattle.flow_word.specs.Receiving.{not_asked, ReceivesInTime}
 use Rattle.flow_word.proofs.Waits.{in_vain_all, found_far}

@@ -1,5 +1,5 @@
 use Rattle.std.proofs.Common.{sym, subst}
-use Rattle.flow_law.specs.StateFlow.{state_flow}
+use Rattle.flow_law.specs.flow.StateFlow.{state_flow}
 use Rattle.flow_word.specs.Handles.{ReaderOfWord}
 use Rattle.flow_word.specs.Receiving.{FindsNone}
 use Rattle.flow_word.proofs.handles.reader.WordReader.look_or_sleep.Goals as goal

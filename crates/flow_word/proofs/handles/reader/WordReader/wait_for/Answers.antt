@@ -1,5 +1,5 @@
 use Rattle.std.proofs.Common.{refl, ◌∙◌, subst}
-use Rattle.flow_law.specs.StateFlow.{state_flow}
+use Rattle.flow_law.specs.flow.StateFlow.{state_flow}
 use Rattle.flow_word.specs.Receiving.{WordReceives}
 use Rattle.flow_word.specs.WaitingFor.{looked, passed_over}
 use Rattle.flow_word.proofs.handles.reader.WordReader.wait_for.Goals as goal

@@ -1,6 +1,6 @@
 use Rattle.std.proofs.Common.{refl, sym, ◌∙◌, subst, Option, true, false}
 use Rattle.std.specs.Fn.{FnReturnsAt}
-use Rattle.flow_law.specs.StateFlow.{state_flow}
+use Rattle.flow_law.specs.flow.StateFlow.{state_flow}
 use Rattle.flow_word.specs.Receiving.{WordReceives, FindsNone}
 use Rattle.flow_word.specs.WaitingFor.{looked, passed_over, ReceivesIfInTime}
 use Rattle.flow_word.proofs.handles.reader.WordReader.wait_for_timeout.Goals as goal

@@ -1,9 +1,9 @@
 use Rattle.std.proofs.Common.{◌∙◌, get_or, subst}
 use Rattle.flow_law.specs.declared.call.StateCall.TheVariants as call
 use Rattle.flow_law.specs.declared.call.StateReply.TheVariants as reply
-use Rattle.flow_law.specs.Rounds.{MeetsInTurn}
-use Rattle.flow_law.specs.StateFlow.{state_flow}
-use Rattle.flow_law.specs.Promise.{CallsIn}
+use Rattle.flow_law.specs.history.Rounds.{MeetsInTurn}
+use Rattle.flow_law.specs.flow.StateFlow.{state_flow}
+use Rattle.flow_law.specs.history.Promise.{CallsIn}
 use Rattle.flow_law.proofs.RoundLemmas.{final_value}
 use Rattle.flow_word.proofs.handles.setter.WordSetter.final_value.Goals as goal
 

@@ -1,6 +1,6 @@
 use Rattle.std.proofs.Common.{arith, ◌∙◌, get_or, subst}
-use Rattle.flow_law.specs.StateFlow.{state_flow}
-use Rattle.flow_law.specs.Tokens.{MeetsIn}
+use Rattle.flow_law.specs.flow.StateFlow.{state_flow}
+use Rattle.flow_law.specs.history.Tokens.{MeetsIn}
 use Rattle.flow_law.proofs.RoundLemmas.{one_met, same_by_place}
 use Rattle.flow_word.proofs.handles.setter.WordSetter.meet_all.Goals as goal
 

@@ -1,6 +1,6 @@
 use Rattle.std.proofs.Common.{◌≡◌, ℕ, ◌<◌, ◌≤◌, get_or}
-use Rattle.flow_law.specs.StateFlow.{state_flow}
-use Rattle.flow_law.specs.Rounds.{OnlyMeets, MeetsInTurn}
+use Rattle.flow_law.specs.flow.StateFlow.{state_flow}
+use Rattle.flow_law.specs.history.Rounds.{OnlyMeets, MeetsInTurn}
 use Rattle.flow_word.proofs.handles.setter.WordSetter.meet_all.Given as goal
 
 abbrev pub invariant-loop-k : goal.invariant-loop-k

@@ -1,7 +1,7 @@
 use Rattle.std.proofs.Common.{◌≡◌, ℕ, ◌<◌, get_or, length}
-use Rattle.flow_law.specs.Closed.{makes_many, nth_child}
-use Rattle.flow_law.specs.Handles.{called_by}
-use Rattle.flow_law.specs.Tokens.{knowing}
+use Rattle.flow_law.specs.laws.Closed.{makes_many, nth_child}
+use Rattle.flow_law.specs.history.Handles.{called_by}
+use Rattle.flow_law.specs.history.Tokens.{knowing}
 use Rattle.flow_word.proofs.handles.setter.WordSetter.others.Given as goal
 
 abbrev pub invariant-loop-count : goal.invariant-loop-count

@@ -1,6 +1,6 @@
 use Rattle.std.proofs.Common.{subst, Err}
 use Rattle.flow_law.specs.declared.fault.FlowFault.{FlowFault}
-use Rattle.flow_law.specs.Draining.{DrainsBy}
+use Rattle.flow_law.specs.flow.Draining.{DrainsBy}
 use Rattle.flow_word_shared.specs.Answers.{WordFlowNexts}
 use Rattle.flow_word_shared.specs.Handles.{WordFlowReaderOf}
 use Rattle.flow_word_shared.proofs.handles.reader.WordFlowReader.drain.Goals as goal

@@ -1,6 +1,6 @@
 use Rattle.std.proofs.Common.{sym, ap, ◌∙◌, subst}
-use Rattle.flow_law.specs.Handles.{read_by}
-use Rattle.flow_law.specs.SharedHistory.{shared_flow}
+use Rattle.flow_law.specs.history.Handles.{read_by}
+use Rattle.flow_law.specs.flow.SharedHistory.{shared_flow}
 use Rattle.flow_word.specs.Receiving.{FindsNone}
 use Rattle.flow_word_shared.specs.Handles.{WordFlowReaderOf}
 use Rattle.flow_word_shared.proofs.handles.reader.WordFlowReader.leave_waker.Goals as goal

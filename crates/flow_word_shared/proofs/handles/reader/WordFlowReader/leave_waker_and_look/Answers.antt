@@ -1,6 +1,6 @@
 use Rattle.std.proofs.Common.{subst, Ok, Option}
 use Rattle.flow_law.specs.declared.fault.FlowFault.TheVariants.{Busy}
-use Rattle.flow_law.specs.Handles.{next_of}
+use Rattle.flow_law.specs.history.Handles.{next_of}
 use Rattle.flow_word_shared.specs.Answers.{WordNextsNow}
 use Rattle.flow_word_shared.specs.Handles.{WordFlowReaderOf}
 use Rattle.flow_word_shared.specs.Receiving.{WordFlowPolls, WordFlowPends}

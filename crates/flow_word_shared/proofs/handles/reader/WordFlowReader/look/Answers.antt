@@ -1,4 +1,4 @@
-use Rattle.flow_law.specs.SharedHistory.{shared_flow}
+use Rattle.flow_law.specs.flow.SharedHistory.{shared_flow}
 use Rattle.flow_word.proofs.Waits.{found_now}
 use Rattle.flow_word_shared.proofs.handles.reader.WordFlowReader.look.Goals as goal
 

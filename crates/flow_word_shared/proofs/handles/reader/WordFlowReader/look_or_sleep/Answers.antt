@@ -1,5 +1,5 @@
 use Rattle.std.proofs.Common.{sym, subst}
-use Rattle.flow_law.specs.SharedHistory.{shared_flow}
+use Rattle.flow_law.specs.flow.SharedHistory.{shared_flow}
 use Rattle.flow_word.specs.Receiving.{FindsNone}
 use Rattle.flow_word_shared.specs.Handles.{WordFlowReaderOf}
 use Rattle.flow_word_shared.proofs.handles.reader.WordFlowReader.look_or_sleep.Goals as goal

@@ -1,5 +1,5 @@
 use Rattle.std.proofs.Common.{◌∙◌, ap}
-use Rattle.flow_law.specs.SharedHistory.{shared_flow}
+use Rattle.flow_law.specs.flow.SharedHistory.{shared_flow}
 use Rattle.flow_word.specs.Receiving.{not_asked}
 use Rattle.flow_word.proofs.Waits.{in_vain_all, in_vain_again, receives_then}
 use Rattle.flow_word_shared.proofs.handles.reader.WordFlowReader.receive.Goals as goal

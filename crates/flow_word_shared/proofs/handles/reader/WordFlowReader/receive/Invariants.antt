@@ -1,5 +1,5 @@
 use Rattle.std.proofs.Common.{◌≡◌}
-use Rattle.flow_law.specs.SharedHistory.{shared_flow}
+use Rattle.flow_law.specs.flow.SharedHistory.{shared_flow}
 use Rattle.flow_word.specs.Receiving.{AsksInVain}
 use Rattle.flow_word_shared.proofs.handles.reader.WordFlowReader.receive.Given as goal
 
