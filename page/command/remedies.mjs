@@ -1,6 +1,6 @@
 // What to do about a record that is refused, or that was recorded wrongly. remedies.json has the sentences; tools/wumsnair_tools/judging/remedies.py
 // finds the same ones for ./judge.
-import { callsOf } from "../web/record_text.js";
+import { callsOf, recordOf } from "../web/record_text.js";
 
 /** The least number of calls of a caller of whose moments anything is said. */
 const FEW_CALLS = 2;
@@ -8,6 +8,9 @@ const FEW_CALLS = 2;
 /** The least number of open calls of which anything is said, and the number of them that are named. */
 const MANY_OPEN = 3;
 const NAMED = 8;
+
+/** The refusal of a call that begins before its caller's call before has ended. */
+const AFTER_ANOTHER = /^refused: .*call (\d+): .* is no value of "begin"\n {2}expected: a moment from the end of the caller's call before on/;
 
 const filled = (sentence, words) => sentence.replace(/\{(\w+)\}/g, (_, key) => words[key]);
 
@@ -45,10 +48,30 @@ function isCutOff(words, text) {
   return Number(refused?.[1]) === lines.length && hasLines(lines);
 }
 
+/** Returns the number of the pending call that a caller made before the call that is refused; nothing if there is none. */
+function pendingBefore(words, text) {
+  const refused = AFTER_ANOTHER.exec(words);
+  if (!refused) {
+    return undefined;
+  }
+  const calls = callsOf(text).slice(0, Number(refused[1]));
+  const { by } = calls.pop();
+  const number = calls.findLastIndex((call) => call.by === by) + 1;
+  return number > 0 && calls[number - 1].end === undefined ? { number, by } : undefined;
+}
+
 /** Returns what to do about a refused record, by the words of its refusal and its bytes. */
 export function remediesOfRefusal(table, words, bytes) {
-  if (isCutOff(words, bytes.toString("utf8"))) {
+  if (bytes.length === 0) {
+    return [table.of_texts.empty];
+  }
+  const text = bytes.toString("utf8");
+  if (isCutOff(words, text)) {
     return [table.of_texts.cut_off];
+  }
+  const pending = pendingBefore(words, text);
+  if (pending) {
+    return [filled(table.of_texts.after_pending, pending)];
   }
   const place = placeOfOtherByte(bytes);
   if (place) {
@@ -74,6 +97,44 @@ function subscriptionFaults(table, calls) {
     }
   });
   return [...faults.values()];
+}
+
+/** Returns the values that a call may give the flow or its own subscription. */
+const sentBy = ({ call, value, answer, first = [] }) => [...(value === undefined ? [] : [value]), ...(call === "update" ? [answer.value] : []), ...first];
+
+/** Returns the values that a call found in the flow. */
+function foundBy({ call, expect, answer }) {
+  if (Array.isArray(answer)) {
+    return answer;
+  }
+  if (answer?.value !== undefined) {
+    return [call === "update" ? answer.old : answer.value];
+  }
+  return expect !== undefined && answer === true ? [expect] : [];
+}
+
+/** Returns a warning if a call found a value that no call sends. */
+function unknownValues(table, flow, calls) {
+  const sent = new Set([flow.initial, ...calls.flatMap(sentBy)]);
+  const value = calls.flatMap(foundBy).find((found) => !sent.has(found));
+  return value === undefined ? [] : [filled(table.of_calls.unknown_value, { value })];
+}
+
+/** Returns a warning if a subscriber of a state flow received the same value twice in a row. */
+function repeatedValues(table, flow, calls) {
+  const last = new Map();
+  const isRepeated = ({ by, call, answer }) => {
+    const before = last.get(by);
+    if (call === "subscribe" || call === "unsubscribe") {
+      last.delete(by);
+    } else if (call === "next" && answer?.value !== undefined) {
+      last.set(by, answer.value);
+      return before === answer.value;
+    }
+    return false;
+  };
+  const number = flow.kind === "state" ? calls.findIndex(isRepeated) + 1 : 0;
+  return number > 0 ? [filled(table.of_calls.same_value, { number })] : [];
 }
 
 /** Returns for each caller its first and its last moment, and the number of its calls. A pending call has no last moment. */
@@ -130,9 +191,10 @@ function callsIfRead(bytes) {
   }
 }
 
-/** Returns what looks wrong in the calls of a record that was read. */
-export function warningsOf(table, calls) {
-  return [...subscriptionFaults(table, calls), ...clockWarnings(table, calls)];
+/** Returns what looks wrong in a record that was read. */
+export function warningsOf(table, { flow, calls }) {
+  const ofValues = [...unknownValues(table, flow, calls), ...repeatedValues(table, flow, calls)];
+  return [...subscriptionFaults(table, calls), ...ofValues, ...clockWarnings(table, calls)];
 }
 
 /** Returns the remedies for a record, and its calls if it was read. */
@@ -144,6 +206,6 @@ export function lookAt(table, bytes, verdict, words) {
     const calls = callsIfRead(bytes);
     return { calls, remedies: giveUpRemedies(table, calls ?? []) };
   }
-  const calls = callsOf(bytes.toString("utf8"));
-  return { calls, remedies: warningsOf(table, calls) };
+  const read = recordOf(bytes.toString("utf8"));
+  return { calls: read.calls, remedies: warningsOf(table, read) };
 }

@@ -9,11 +9,16 @@ export function parsed(json) {
   return JSON.parse(marked, (_, value) => (value?.digits === undefined ? value : BigInt(value.digits)));
 }
 
-/** Returns the calls of a record that was not refused. */
-export function callsOf(text) {
+/** Returns the flow and the calls of a record that was not refused. */
+export function recordOf(text) {
   try {
-    return parsed(text).calls ?? [];
+    const { flow, calls = [] } = parsed(text);
+    return { flow, calls };
   } catch {
-    return text.split("\n").filter((line) => line.trim()).slice(1).map(parsed);
+    const [{ flow }, ...calls] = text.split("\n").filter((line) => line.trim()).map(parsed);
+    return { flow, calls };
   }
 }
+
+/** Returns the calls of a record that was not refused. */
+export const callsOf = (text) => recordOf(text).calls;

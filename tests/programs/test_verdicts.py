@@ -181,7 +181,20 @@ WRONG = {
     "two clocks": (
         whole(SET, {**SET, "begin": 21, "end": 22}, {**VALUE, "begin": 900, "end": 901}, {**VALUE, "begin": 902, "end": 903, "answer": {"value": 0}}),
         1,
-        "all calls of t2 come after all calls of t1: if both ran at the same time, their moments are of different clocks",
+        "all calls of t2 come after all calls of t1: their moments are of different clocks",
+    ),
+    "no bytes": (b"", 2, "the record is empty: did the recorder fail?"),
+    "a channel": (whole(flow={**SHARED, "kind": "broadcast"}), 2, "a broadcast is recorded as a flow of the kind shared"),
+    "a call after a pending one": (
+        whole({"by": "t2", "call": "set", "value": 3, "begin": 1}, VALUE),
+        2,
+        'call 1, of t2, has no "end", and a pending call is the last one of its caller',
+    ),
+    "a value that no call sends": (whole(SET, {**VALUE, "answer": {"value": 2044}}), 1, "no call of the record sends 2044: is a call missing?"),
+    "the same value twice": (
+        whole(SUBSCRIBE, {**NEXT, "answer": {"value": 0}}, {**NEXT, "begin": 5, "end": 6, "answer": {"value": 0}}),
+        1,
+        "call 3: a state flow gives no subscriber the same value twice in a row",
     ),
 }
 

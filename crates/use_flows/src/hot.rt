@@ -22,12 +22,12 @@ pub struct Streamed {
     mapped: Vec<i64>,
     merged: Vec<i64>,
     combined: Vec<i64>,
-    latest: Option<i64>,
 }
 
 /// What the loops of threads gave.
 #[derive(Drop)]
 pub struct Looped {
+    latest: i64,
     first: i64,
     debounced: i64,
     sampled: [Option<i64>; 2],
@@ -39,12 +39,12 @@ pub fn stream<R: Wait + RandomSource + AllocGlobal>(rt: &R, alloc: Global) -> Re
         mapped: mapped::mapped(rt, alloc)?,
         merged: merged::merged(rt, alloc)?,
         combined: combined::combined(rt, alloc)?,
-        latest: latest::latest(rt, alloc)?,
     })
 }
 
 pub fn read<R: Wait + Clock + Threads + Sync>(rt: &R, alloc: Global) -> Result<Looped> {
     Ok(Looped {
+        latest: latest::latest(rt, alloc)?,
         first: first::first(rt, alloc)?,
         debounced: debounced::debounced(rt, alloc)?,
         sampled: sampled::sampled(rt, alloc)?,
@@ -55,11 +55,11 @@ pub fn read<R: Wait + Clock + Threads + Sync>(rt: &R, alloc: Global) -> Result<L
 pub fn print_streamed(rt: &HostRuntime, streamed: &Streamed) -> io::Result<()> {
     println!(rt; "mapped: {:?}", streamed.mapped.as_slice())?;
     println!(rt; "merged: {:?}", streamed.merged.as_slice())?;
-    println!(rt; "combined: {:?}", streamed.combined.as_slice())?;
-    println!(rt; "latest: {:?}", streamed.latest)
+    println!(rt; "combined: {:?}", streamed.combined.as_slice())
 }
 
 pub fn print_looped(rt: &HostRuntime, looped: &Looped) -> io::Result<()> {
+    println!(rt; "latest: {}", looped.latest)?;
     println!(rt; "first: {}", looped.first)?;
     println!(rt; "debounced: {}", looped.debounced)?;
     println!(rt; "sampled: {:?}", looped.sampled)?;

@@ -59,7 +59,7 @@ function work({ name, clock, word, ready, first, fault }) {
 }
 
 async function recordAtomics(fault) {
-  const recording = new Recording(FLOW);
+  const recording = new Recording();
   const [word, ready] = [0, 0].map(() => new Int32Array(new SharedArrayBuffer(4)));
   const roles = [{ name: "w1", first: 1000, fault }, { name: "w2", first: 2000 }, { name: "r1" }, { name: "r2" }];
   const workers = roles.map((role) => {
@@ -69,7 +69,7 @@ async function recordAtomics(fault) {
     return { worker, posted: posted.then((calls) => recording.add(role.name, calls)) };
   });
   await Promise.all(workers.map(({ posted }) => posted));
-  process.stdout.write(recording.text());
+  process.stdout.write(recording.text(FLOW));
   await Promise.all(workers.map(({ worker }) => worker.terminate()));
 }
 
@@ -135,7 +135,7 @@ async function followState(caller, flow) {
 }
 
 async function recordState(fault) {
-  const recording = new Recording(FLOW);
+  const recording = new Recording();
   const flow = new StateFlow();
   // They wait for ever in the end: their last calls are pending.
   ["r1", "r2"].forEach((name) => followState(recording.caller(name), flow));
@@ -143,7 +143,7 @@ async function recordState(fault) {
     changeState(recording.caller(name), flow, 1000 * (number + 1), fault && number === 0));
   await Promise.all(writers);
   await pause(0);
-  process.stdout.write(recording.text());
+  process.stdout.write(recording.text(FLOW));
 }
 
 if (isMainThread) {

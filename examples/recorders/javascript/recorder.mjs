@@ -3,12 +3,12 @@
  *
  * Each caller has a buffer of its own. All callers raise one counter before and after each call.
  *
- *     const recording = new Recording({ kind: "state", initial: 0 });
+ *     const recording = new Recording();
  *     const caller = recording.caller("t1");
  *     caller.begin("set", { value: 3 });
  *     flow.set(3);
  *     caller.end("done");
- *     process.stdout.write(recording.text());
+ *     process.stdout.write(recording.text({ kind: "state", initial: 0 }));
  *
  * A worker gets `recording.clock` and makes a `new Caller("t1", clock)`. In the end it posts `caller.calls` to the main thread,
  * which passes them to `recording.add("t1", calls)`. If its next call may never return, it posts them after `begin` as well.
@@ -63,12 +63,7 @@ export class Caller {
 export class Recording {
   /** The counter, which threads can share. */
   clock = new Int32Array(new SharedArrayBuffer(4));
-  #flow;
   #calls = new Map();
-
-  constructor(flow) {
-    this.#flow = flow;
-  }
 
   caller(name) {
     const caller = new Caller(name, this.clock);
@@ -82,9 +77,9 @@ export class Recording {
   }
 
   /** The flow and the calls up to now, as JSON lines. Those that have not ended are pending; their callers may still wait. */
-  text() {
+  text(flow) {
     const cut = tick(this.clock);
-    const lines = [JSON.stringify({ flow: this.#flow })];
+    const lines = [JSON.stringify({ flow })];
     for (const [by, calls] of this.#calls) {
       for (const { end, answer, ...call } of calls.filter(({ begin }) => begin < cut)) {
         lines.push(JSON.stringify({ by, ...call, ...(end < cut && { end, answer }) }));

@@ -152,7 +152,7 @@ def start(body, *arguments):
 
 
 def of_queue(fault):
-    recording = Recording({"kind": "shared", "replay": 0, "extra": ROOM, "overflow": "suspend"})
+    recording = Recording()
     flow = queue.Queue(ROOM)
     consumer = recording.caller("consumer")
     # A queue keeps values for its consumer from the beginning.
@@ -164,11 +164,11 @@ def of_queue(fault):
         start(put, recording.caller(f"producer{number}"), flow, values, random.Random(number))
     getter.join()
     time.sleep(0.05)
-    return recording
+    recording.write({"kind": "shared", "replay": 0, "extra": ROOM, "overflow": "suspend"}, sys.stdout)
 
 
 def of_state(fault):
-    recording = Recording({"kind": "state", "initial": 0})
+    recording = Recording()
     flow = StateFlow(0)
     is_over = threading.Event()
     readers = [start(follow, recording.caller(f"reader{number}"), flow, is_over) for number in range(2)]
@@ -181,7 +181,7 @@ def of_state(fault):
     is_over.set()
     for thread in readers:
         thread.join()
-    return recording
+    recording.write({"kind": "state", "initial": 0}, sys.stdout)
 
 
 def main():
@@ -190,7 +190,7 @@ def main():
         sys.exit(__doc__)
     # Threads change places often, so that their calls overlap.
     sys.setswitchinterval(1e-5)
-    kinds[sys.argv[1]]("--fault" in sys.argv).write(sys.stdout)
+    kinds[sys.argv[1]]("--fault" in sys.argv)
 
 
 main()

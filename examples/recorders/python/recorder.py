@@ -2,12 +2,12 @@
 
 Each caller has a buffer of its own. All callers raise one counter before and after each call.
 
-    recording = Recording({"kind": "state", "initial": 0})
+    recording = Recording()
     caller = recording.caller("t1")
     with caller.call("set", value=3) as call:
         flow.set(3)
         call.answer = "done"
-    recording.write(sys.stdout)
+    recording.write({"kind": "state", "initial": 0}, sys.stdout)
 """
 import contextlib
 import json
@@ -42,6 +42,11 @@ class Call:
         """Leaves out this call, since it changed nothing."""
         self.is_left_out = True
 
+    def end_as(self, name, answer):
+        """Ends this call as another one, which its answer showed it to be."""
+        self.name = name
+        self.answer = answer
+
     def line(self, by, cut):
         """The line of this call, as it was at the moment `cut`."""
         line = {"by": by, "call": self.name, **self.keys, "begin": self.begin}
@@ -53,7 +58,8 @@ class Call:
 class Caller:
     """A caller makes one call at a time, and has at most one subscription."""
 
-    def __init__(self, clock):
+    def __init__(self, name, clock):
+        self.name = name
         self.calls = []
         self._clock = clock
 
@@ -63,7 +69,7 @@ class Caller:
 
         If the block sets no answer and does not leave the call out, the call is pending, and its caller makes no other."""
         if self.calls and self.calls[-1].end is None and not self.calls[-1].is_left_out:
-            raise RuntimeError("the last call has not ended")
+            raise RuntimeError(f"{self.calls[-1].line(self.name, 0)} has not ended: its block set no call.answer, or still runs")
         call = Call(name, keys, self._clock.tick())
         self.calls.append(call)
         try:
@@ -77,21 +83,20 @@ class Caller:
 class Recording:
     """The calls of all callers of a flow."""
 
-    def __init__(self, flow):
-        self._flow = flow
+    def __init__(self):
         self._clock = Clock()
         self._callers = []
 
     def caller(self, name):
-        caller = Caller(self._clock)
-        self._callers.append((name, caller))
+        caller = Caller(name, self._clock)
+        self._callers.append(caller)
         return caller
 
-    def write(self, out):
+    def write(self, flow, out):
         """Writes the flow and the calls up to now. Those that have not ended are pending; their callers may still wait."""
         cut = self._clock.tick()
-        print(json.dumps({"flow": self._flow}), file=out)
-        for name, caller in list(self._callers):
+        print(json.dumps({"flow": flow}), file=out)
+        for caller in list(self._callers):
             for call in list(caller.calls):
                 if call.begin < cut and not call.is_left_out:
-                    print(call.line(name, cut), file=out)
+                    print(call.line(caller.name, cut), file=out)

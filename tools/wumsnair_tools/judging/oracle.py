@@ -54,8 +54,8 @@ def judged(words, record, text, seconds=None, reads_calls=False):
         verdict.calls = calls_if_read(text)
         verdict.hints += remedies.of_giving_up(verdict.calls or [])
     elif verdict.verdict == "illegal" or reads_calls and verdict.verdict == "legal":
-        verdict.calls = remedies.calls_of(text)
-        verdict.hints += remedies.of_calls(verdict.calls)
+        flow, verdict.calls = remedies.record_of(text)
+        verdict.hints += remedies.of_calls(flow, verdict.calls)
     return verdict
 
 

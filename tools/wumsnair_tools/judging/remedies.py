@@ -12,6 +12,8 @@ FEW_CALLS = 2
 # The least number of open calls of which anything is said, and the number of them that are named.
 MANY_OPEN, NAMED = 3, 8
 TEXT_ENDS = re.compile(r"refused: line (\d+), column \d+: the text ends here")
+# The refusal of a call that begins before its caller's call before has ended.
+AFTER_ANOTHER = re.compile(r'refused: .*call (\d+): .* is no value of "begin"\n  expected: a moment from the end of the caller\'s call before on')
 
 
 def place_of_other_byte(text):
@@ -39,22 +41,44 @@ def has_lines(lines):
         return False
 
 
+def pending_before(words, text):
+    """The pending call that a caller made before the call that is refused; None if there is none."""
+    refused = AFTER_ANOTHER.match(words)
+    if not refused:
+        return None
+    *before, last = calls_of(text)[: int(refused[1])]
+    own = [(number, call) for number, call in enumerate(before, 1) if call["by"] == last["by"]]
+    return {"number": own[-1][0], "by": last["by"]} if own and "end" not in own[-1][1] else None
+
+
 def of_refusal(words, text):
     """What to do about a refused record, by the words of its refusal and its bytes."""
+    if not text:
+        return [TABLE["of_texts"]["empty"]]
     if is_cut_off(words, text):
         return [TABLE["of_texts"]["cut_off"]]
+    pending = pending_before(words, text)
+    if pending:
+        return [TABLE["of_texts"]["after_pending"].format(**pending)]
     place = place_of_other_byte(text)
     if place:
         return [TABLE["of_texts"]["no_utf8"].format(**place)]
     return [row["remedy"] for row in TABLE["of_refusals"] if re.search(row["pattern"], words)][:1]
 
 
+def record_of(text):
+    """The flow and the calls of a record that was not refused."""
+    try:
+        record = json.loads(text)
+        return record.get("flow"), record.get("calls", [])
+    except json.JSONDecodeError:
+        head, *calls = [json.loads(line) for line in text.decode().split("\n") if line.strip()]
+        return head.get("flow"), calls
+
+
 def calls_of(text):
     """The calls of a record that was not refused."""
-    try:
-        return json.loads(text).get("calls", [])
-    except json.JSONDecodeError:
-        return [json.loads(line) for line in text.decode().split("\n") if line.strip()][1:]
+    return record_of(text)[1]
 
 
 def subscription_faults(calls):
@@ -70,6 +94,42 @@ def subscription_faults(calls):
         elif name == "unsubscribe":
             subscribed.discard(by)
     return list(faults.values())
+
+
+def sent_by(call):
+    """The values that a call may give the flow or its own subscription."""
+    return [*([call["value"]] if "value" in call else []), *([call["answer"]["value"]] if call["call"] == "update" else []), *call.get("first", [])]
+
+
+def found_by(call):
+    """The values that a call found in the flow."""
+    answer = call.get("answer")
+    if isinstance(answer, list):
+        return answer
+    if isinstance(answer, dict):
+        return [answer["old" if call["call"] == "update" else "value"]]
+    return [call["expect"]] if "expect" in call and answer is True else []
+
+
+def unknown_values(flow, calls):
+    """A warning if a call found a value that no call sends."""
+    sent = {flow.get("initial"), *(value for call in calls for value in sent_by(call))}
+    found = next((value for call in calls for value in found_by(call) if value not in sent), None)
+    return [] if found is None else [TABLE["of_calls"]["unknown_value"].format(value=found)]
+
+
+def repeated_values(flow, calls):
+    """A warning if a subscriber of a state flow received the same value twice in a row."""
+    last = {}
+    for number, call in enumerate(calls if flow["kind"] == "state" else [], 1):
+        by, answer = call["by"], call.get("answer")
+        if call["call"] in ("subscribe", "unsubscribe"):
+            last.pop(by, None)
+        elif call["call"] == "next" and isinstance(answer, dict):
+            if last.get(by) == answer:
+                return [TABLE["of_calls"]["same_value"].format(number=number)]
+            last[by] = answer
+    return []
 
 
 def spans_of(calls):
@@ -116,6 +176,6 @@ def of_giving_up(calls):
     return [TABLE["of_calls"]["many_open"].format(moment=moment, count=len(numbers), calls=named)]
 
 
-def of_calls(calls):
-    """What looks wrong in the calls of a record that was read."""
-    return [*subscription_faults(calls), *clock_warnings(calls)]
+def of_calls(flow, calls):
+    """What looks wrong in a record that was read."""
+    return [*subscription_faults(calls), *unknown_values(flow, calls), *repeated_values(flow, calls), *clock_warnings(calls)]

@@ -19,13 +19,6 @@ def text_of(flow, calls):
     return "".join(json.dumps(line, ensure_ascii=False) + "\n" for line in ({"flow": flow}, *calls)).encode()
 
 
-def flow_of(text):
-    try:
-        return json.loads(text)["flow"]
-    except json.JSONDecodeError:
-        return json.loads(next(line for line in text.decode().split("\n") if line.strip()))["flow"]
-
-
 class Search:
     """The search for a smaller record, which ends by a time."""
 
@@ -94,9 +87,9 @@ def shrink(judge, text, seconds=None):
     status, words = judge(text)
     if status != ILLEGAL:
         return status, words, None
-    calls = tuple(remedies.calls_of(text))
+    flow, calls = remedies.record_of(text)
     search = Search(judge, time.monotonic() + (seconds or SECONDS))
-    case = search.cut(Case(flow_of(text), calls), moment_in(words, r"^by moment (\d+) ") or 0)
+    case = search.cut(Case(flow, tuple(calls)), moment_in(words, r"^by moment (\d+) ") or 0)
     small = search.smallest(case)
     kept = next((each for each in (small, case) if judge(text_of(each.flow, each.calls))[0] == ILLEGAL), None)
     if kept is None:

@@ -1,18 +1,11 @@
 //! `mapLatest` of a hot flow: the work for a value is dropped when a newer value comes.
 use crate::threads::send;
-use anyhow::Result;
-use flow_core::SharedCore;
-use flow_law::Config;
-use flow_shared::{FlowValues, Reader, SharedFlow};
-use futures::TryStreamExt;
-use futures::executor::block_on;
-use futures::future::{Either, poll_fn, select};
-use futures::task::{Context, Poll};
-use std::alloc::{AllocGlobal, Global};
-use std::random::RandomSource;
+use flow_law::{Config, FlowFault};
+use flow_shared::{Reader, SharedFlow};
+use std::alloc::Global;
 use std::sync::Wait;
 
-/// Work that gives ten times a value, at its fourth poll.
+/// Work that gives ten times a value, at its fourth step.
 #[derive(Drop)]
 struct Work {
     value: i64,
@@ -28,53 +21,36 @@ impl Work {
     }
 
     /// Takes a step, and returns the result after the last one.
-    fn advance(&mut self, cx: &mut Context<'_>) -> Poll<i64> {
+    fn advance(&mut self) -> Option<i64> {
         match self.steps_left.checked_sub(1) {
             Some(left) => {
                 self.steps_left = left;
-                cx.yield_now()
+                None
             }
-            None => Poll::Ready(self.value.wrapping_mul(10)),
+            None => Some(self.value.wrapping_mul(10)),
         }
     }
 }
 
-/// Returns the result of the work for `value`, or the value that comes before it is done.
-fn result_or_newer<R: Wait + RandomSource + AllocGlobal>(
-    rt: &R,
-    value: i64,
-    values: &mut FlowValues<'_, SharedCore<i64>>,
-) -> Result<Either<i64, Option<i64>>> {
-    let mut work = Work::new(value);
-    let done = poll_fn(move |cx| work.advance(cx));
-    Ok(match block_on(rt, select(done, values.try_next()))? {
-        Either::Left((result, _values)) => Either::Left(result),
-        Either::Right((newer, _work)) => Either::Right(newer?),
-    })
-}
-
-/// Returns the result of the first work that no newer value interrupts.
-fn first_result<R: Wait + RandomSource + AllocGlobal>(
-    rt: &R,
-    reader: Reader<'_, i64>,
-) -> Result<Option<i64>> {
-    let mut values = reader.into_stream();
-    let mut next = block_on(rt, values.try_next())??;
+/// Returns the result of the first work that no newer value interrupts. After each step it looks for one.
+fn first_result<R: Wait>(rt: &R, reader: &mut Reader<'_, i64>) -> Result<i64, FlowFault> {
+    let mut work = Work::new(reader.receive(rt)?);
     for _ in rt.forever() {
-        let Some(value) = next else { break };
-        match result_or_newer(rt, value, &mut values)? {
-            Either::Left(result) => return Ok(Some(result)),
-            Either::Right(newer) => next = newer,
+        if let Some(result) = work.advance() {
+            return Ok(result);
+        }
+        if let Some(newer) = reader.next(rt)? {
+            work = Work::new(newer);
         }
     }
-    Ok(None)
+    unreachable!()
 }
 
 /// Returns the result of the work for the last number of 1 to 3: the work for the others is dropped.
-pub fn latest<R: Wait + RandomSource + AllocGlobal>(rt: &R, alloc: Global) -> Result<Option<i64>> {
+pub fn latest<R: Wait>(rt: &R, alloc: Global) -> Result<i64, FlowFault> {
     let (flow, seat) = SharedFlow::new(alloc, Config::new().extra(16))?;
     let mut emitter = flow.emitter(seat);
-    let reader = emitter.subscribe(rt)?;
+    let mut reader = emitter.subscribe(rt)?;
     send(rt, &mut emitter, 1..4)?;
-    first_result(rt, reader)
+    first_result(rt, &mut reader)
 }
