@@ -81,34 +81,42 @@ module _ {C H T R : Type 0} (reads : C → R → Type 0) (whole rest : C → R �
   pub read-passed : (m : R) → reads (sharing_chain old) m → TakesPassed (λ c. whole c m) (λ c. rest c m) does waits Came now old result new
   read-passed m is = (
     going,
-    (counted.hub, (told.0, came), λ started seen stands.
-        let held : HasSeen started counted.policy seen = subst (λ p. HasSeen started p seen) (sym kept) stands in
-        let after = follows started seen held in
-        let last : Turned T = record { answer = result; seen = after.0; state = sharing_state new } in
-        let end : ChainAndHub T H = read_parts reads whole rest does waits m (sharing_parts new) in
-        let P : SharingState T → Type 0 = λ s.
-        Takes (CallDoes (HubStep does waits)) (after_count started now seen s (Ok 1)) (read_parts reads whole rest does waits m (sharing_parts counted)) last end in
-        let Q : C → Type 0 = λ c.
-        Takes (CallDoes (HubStep does waits)) (after_count started now seen (sharing_state old) (Ok 1)) (record { whole = whole c m; rest = rest c m; hub = counted.hub }) last end in (
-          after.0,
-          after.1,
-          subst Q same_chain (subst P same
-              (read-takes reads whole rest does waits m _ (sharing_parts counted) (sharing_parts new) _ (subst (λ c. reads c m) (sym same_chain) is) after.2)),
-        )),
+    (
+      counted.hub,
+      (told.0, came),
+      λ started seen stands.
+          let held : HasSeen started counted.policy seen = subst (λ p. HasSeen started p seen) (sym kept) stands in
+          let after = follows started seen held in
+          let last : Turned T = record { answer = result; seen = after.0; state = sharing_state new } in
+          let end : ChainAndHub T H = read_parts reads whole rest does waits m (sharing_parts new) in
+          let P : SharingState T → Type 0 = λ s.
+          Takes (CallDoes (HubStep does waits)) (after_count started now seen s (Ok 1)) (read_parts reads whole rest does waits m (sharing_parts counted)) last end in
+          let Q : C → Type 0 = λ c.
+          Takes (CallDoes (HubStep does waits)) (after_count started now seen (sharing_state old) (Ok 1)) (record { whole = whole c m; rest = rest c m; hub = counted.hub }) last end in (
+            after.0,
+            after.1,
+            subst Q same_chain (subst P same
+                (read-takes reads whole rest does waits m _ (sharing_parts counted) (sharing_parts new) _ (subst (λ c. reads c m) (sym same_chain) is) after.2)),
+          ),
+    ),
   )
 
   -- the turn, whatever the chain answers
   pub unread-passed : TakesSomePassed does waits Came now old result new
   unread-passed = (
     going,
-    (counted.hub, (told.0, came), λ started seen stands.
-        let held : HasSeen started counted.policy seen = subst (λ p. HasSeen started p seen) (sym kept) stands in
-        let after = follows started seen held in
-        let last : Turned T = record { answer = result; seen = after.0; state = sharing_state new } in
-        let P : SharingState T → Type 0 = λ s. TakesOver does waits (after_count started now seen s (Ok 1)) counted.hub last new.hub in (
-          after.0,
-          after.1,
-          subst P same (fits-count does waits started now seen (sharing_state counted) (Ok 1) _ _ _
-              (hub-takes reads whole rest does waits _ (sharing_parts counted) (sharing_parts new) _ after.2)),
-        )),
+    (
+      counted.hub,
+      (told.0, came),
+      λ started seen stands.
+          let held : HasSeen started counted.policy seen = subst (λ p. HasSeen started p seen) (sym kept) stands in
+          let after = follows started seen held in
+          let last : Turned T = record { answer = result; seen = after.0; state = sharing_state new } in
+          let P : SharingState T → Type 0 = λ s. TakesOver does waits (after_count started now seen s (Ok 1)) counted.hub last new.hub in (
+            after.0,
+            after.1,
+            subst P same (fits-count does waits started now seen (sharing_state counted) (Ok 1) _ _ _
+                (hub-takes reads whole rest does waits _ (sharing_parts counted) (sharing_parts new) _ after.2)),
+          ),
+    ),
   )
