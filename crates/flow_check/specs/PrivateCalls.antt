@@ -1,6 +1,6 @@
 -- Calls that no other caller can see: a look, or a `next` of a state flow. Begin with `ArePrivate`. No public clause cites this module.
 --   caller 0    |----set 1----|    |---set 2---|
---   caller 1        |------next: 1------|             once the value is 1, the `next` may come at once: nobody else can tell
+--   caller 1        |------next: 1------|             once the value is 1, the `next` may come at once: no other caller can tell
 use Rattle.std.specs.Prelude.{◌≡◌, ℕ, Bool, true, Option, Some}
 use Rattle.flow_check.specs.Remaining.{IsStep}
 use Rattle.flow_check.specs.Looks.{IsKept}
@@ -15,7 +15,7 @@ module _ {S C : Type 0} (stepped : S → ℕ → C → Option S) (may_skip : C �
     -- meanwhile the calls of others have the same answers
     pub keeps : (s t after : S) (caller other : ℕ) (c d : C) → (caller ≡ other → ⊥) → IsSound s → is_private c ≡ true → Ahead caller c s t
         → IsStep stepped may_skip s other d after → (u : S) × IsStep stepped may_skip t other d u × Ahead caller c after u
-    -- once the call happens, nobody is ahead
+    -- once the call happens, both states are the same
     pub ends : (s t after : S) (caller : ℕ) (c : C) → IsSound s → is_private c ≡ true → Ahead caller c s t → IsStep stepped may_skip s caller c after → after ≡ t
 
   -- a search that begins in this state may make private calls first
