@@ -4,6 +4,7 @@ pub mod Turns
 pub mod Timing
 pub mod Privately
 pub mod Leaving
+pub mod Exchanging
 pub mod Closing
 pub mod Ordering
 pub mod Ends
@@ -17,6 +18,7 @@ pub mod StateSteps
 pub mod StateJudging
 pub mod StateLooking
 pub mod StatePrivately
+pub mod StateTwins
 pub mod LagLemmas
 pub mod QueueLemmas
 pub mod SharedSeats

@@ -1,14 +1,16 @@
 -- What loops over callers and over nodes keep.
-use Rattle.std.specs.Prelude.{◌≡◌, ℕ, ◌+◌, ◌<◌, ◌≤◌, Bool, true, false, not, is_some, IsSome, List, ◌∷◌, length, map, slice_get, Option, Some, None, IfSome, ⊤, Vec}
+use Rattle.std.specs.Prelude.{◌≡◌, ℕ, suc, ◌+◌, ◌<◌, ◌≤◌, Bool, true, false, not, is_some, IsSome, List, ◌∷◌, length, map, slice_get, Option, Some, None, IfSome, ⊤, Vec}
 use Rattle.std.specs.declared.alloc.Global.{Global}
 use Rattle.std.proofs.Common.{refl, sym, ap, ◌∙◌, subst, inl, inr, drop, get_or, drop-cons, add-one, below_more, arith}
 use Rattle.std.proofs.lemmas.Bool.{false≢true}
+use Rattle.std.proofs.lemmas.Bool.Decides.{leb_tells}
 use Rattle.std.proofs.lemmas.Option.{slice_get_within, same_Some, MatchOption-at_some}
 use Rattle.flow_check.specs.declared.timed.Timed.{Timed}
 use Rattle.flow_check.specs.declared.node.Move.{Move}
 use Rattle.flow_check.specs.Remaining.{next_at, next_call_of, MayComeNext, OwesNothing, placing, IsStep, GoesThrough}
 use Rattle.flow_check.specs.Records.{CallsByCaller, recorded, call_in, count_in, is_over_before}
-use Rattle.flow_check.specs.Tables.{Reached, IsInTable, IsFollowedAt, IsFollowed, IsClosedTable}
+use Rattle.flow_check.specs.Reached.{Reached}
+use Rattle.flow_check.specs.Tables.{SettlesInTable, IsFollowedAt, IsCovered, IsFollowed, IsClosedTable}
 
 called_in : {C : Type 0} (o : Option (Vec (Timed C) Global)) (k : ℕ) (d : Timed C) → call_in o k ≡ Some d → (calls : Vec (Timed C) Global) × (o ≡ Some calls) × (slice_get calls.items k ≡ Some d)
 called_in (Some calls) k d h = (calls, refl, h)
@@ -38,26 +40,33 @@ module _ {C : Type 0} (callers : CallsByCaller C) where
   OwesNothingBelow bound placed = (caller : ℕ) (d : Timed C) → caller < bound → next_call_of callers placed caller ≡ Some d → d.end ≡ None
 
 module _ {S C : Type 0} (stepped : S → ℕ → C → Option S) (may_skip is_private : C → Bool) (callers : CallsByCaller C) (nodes : List (Reached S)) where
-  abbrev pub IsFollowedBelow : ℕ → Reached S → Type 0
-  IsFollowedBelow bound n = (caller : ℕ) → caller < bound → IsFollowedAt stepped may_skip is_private callers nodes n caller
+  abbrev pub IsCoveredBelow : ℕ → Reached S → Type 0
+  IsCoveredBelow bound n = (caller : ℕ) → caller < bound → IsCovered stepped may_skip is_private callers nodes n caller
 
   abbrev pub IsClosedBelow : ℕ → Type 0
   IsClosedBelow bound = (k : ℕ) → k < bound → (n : Reached S) → slice_get nodes k ≡ Some n → IsFollowed stepped may_skip is_private callers nodes n × (OwesNothing callers n.placed → ⊥)
 
+  abbrev Settles_in : S → List ℕ → Type 0
+  Settles_in = SettlesInTable stepped may_skip is_private callers nodes
+
   -- the table has what follows if the caller's next call is made, and if it is skipped
   pub followed_at : (n : Reached S) (caller : ℕ) (c : Timed C) → next_call_of callers n.placed caller ≡ Some c
-      → ((after : S) → stepped n.state caller c.call ≡ Some after → IsInTable nodes after (placing caller n.placed))
-      → (may_skip c.call ≡ true → IsInTable nodes n.state (placing caller n.placed)) → IsFollowedAt stepped may_skip is_private callers nodes n caller
+      → ((after : S) → stepped n.state caller c.call ≡ Some after → Settles_in after (placing caller n.placed))
+      → (may_skip c.call ≡ true → Settles_in n.state (placing caller n.placed)) → IsFollowedAt stepped may_skip is_private callers nodes n caller
   followed_at n caller c e made skipped = λ d t e' m step.
       let is = same_Some c d (sym e ∙ e') in elim step [
         | inl f ↦ made t (ap (λ (x : Timed C). stepped n.state caller x.call) is ∙ f)
-        | inr f ↦ subst (λ (x : S). IsInTable nodes x (placing caller n.placed)) (sym f.1) (skipped (ap (λ (x : Timed C). may_skip x.call) is ∙ f.0))
+        | inr f ↦ subst (λ (x : S). Settles_in x (placing caller n.placed)) (sym f.1) (skipped (ap (λ (x : Timed C). may_skip x.call) is ∙ f.0))
       ]
 
-  pub all_followed : (n : Reached S) (bound : ℕ) → length callers ≤ bound → IsFollowedBelow bound n → (caller : ℕ) → IsFollowedAt stepped may_skip is_private callers nodes n caller
-  all_followed n bound upto below = λ caller c after e m f.
-      let near = next_within callers n.placed caller c e in
-      let low : caller < bound = omega arith in below caller low c after e m f
+  -- beyond the last caller there is no call
+  pub all_covered : (n : Reached S) (bound : ℕ) → length callers ≤ bound → IsCoveredBelow bound n → (caller : ℕ) → IsCovered stepped may_skip is_private callers nodes n caller
+  all_covered n bound upto below caller = elim (leb_tells (suc caller) bound) [
+    | inl e ↦ below caller e.1
+    | inr e ↦ inr (λ c after next m f.
+        let near = next_within callers n.placed caller c next in
+        let far = e.1 in absurd (omega arith))
+  ]
 
   pub all_closed : (bound : ℕ) → length nodes ≤ bound → IsClosedBelow bound → IsClosedTable stepped may_skip is_private callers nodes
   all_closed bound upto below = λ k n e.

@@ -3,6 +3,9 @@ pub mod Orders
 pub mod Remaining
 pub mod Looks
 pub mod PrivateCalls
+pub mod Reached
+pub mod Settling
+pub mod Twins
 pub mod Tables
 pub mod Words
 pub mod Verdicts
@@ -12,6 +15,7 @@ pub mod StateRecords
 pub mod StateMachine
 pub mod StateLooks
 pub mod StatePrivate
+pub mod StateTwins
 pub mod SharedRecords
 pub mod SharedMachine
 pub mod SharedLooks

@@ -2,18 +2,11 @@
 -- No public clause cites this module.
 use Rattle.std.specs.Prelude.{◌≡◌, ◌⊎◌, ℕ, Bool, true, List, take, drop, map, slice_get, Option, Some, IsSome}
 use Rattle.flow_check.specs.declared.timed.Timed.{Timed}
-use Rattle.flow_check.specs.declared.node.Node.{Node}
 use Rattle.flow_check.specs.Records.{CallsByCaller}
 use Rattle.flow_check.specs.Remaining.{placing, next_call_of, MayComeNext, OwesNothing, IsStep}
-
--- a state, and how many calls of each caller have happened in it
-pub record Reached (S : Type 0) : Type 0 where
-  pub state : S
-  pub placed : List ℕ
-
--- the state and the counts of a node
-abbrev pub reached : {S : Type 0} → Node S → Reached S
-reached n = record { state = n.state; placed = n.placed.items }
+use Rattle.flow_check.specs.Reached.{Reached}
+use Rattle.flow_check.specs.Settling.{Settles}
+use Rattle.flow_check.specs.Twins.{HasEarlierTwin}
 
 -- The nodes of a table as words, and a state of the flow with which others are read. The words of a node begin with the counts of
 -- calls; other words may follow those of the node.
@@ -37,19 +30,22 @@ abbrev pub IsInTable : {S : Type 0} → List (Reached S) → S → List ℕ → 
 IsInTable {S} nodes s placed = (k : ℕ) × ((n : Reached S) × (slice_get nodes k ≡ Some n) × (n.state ≡ s) × (n.placed ≡ placed))
 
 module _ {S C : Type 0} (stepped : S → ℕ → C → Option S) (may_skip is_private : C → Bool) (callers : CallsByCaller C) (nodes : List (Reached S)) where
-  -- if this caller's next call may happen, the table has the nodes that follow
+  -- after some private calls this state with these counts of calls is in the table
+  abbrev pub SettlesInTable : S → List ℕ → Type 0
+  SettlesInTable s placed = (m : Reached S) × Settles stepped is_private callers (record { state = s; placed = placed }) m × IsInTable nodes m.state m.placed
+
+  -- if this caller's next call may happen, the table has the nodes that follow, after private calls
   abbrev pub IsFollowedAt : Reached S → ℕ → Type 0
   IsFollowedAt n caller = (c : Timed C) (after : S) → next_call_of callers n.placed caller ≡ Some c → MayComeNext callers n.placed c
-      → IsStep stepped may_skip n.state caller c.call after → IsInTable nodes after (placing caller n.placed)
+      → IsStep stepped may_skip n.state caller c.call after → SettlesInTable after (placing caller n.placed)
 
-  -- this caller's next call is a private one that ended, and the table has the node that follows if it is made
-  abbrev pub IsPrivateFollowed : Reached S → ℕ → Type 0
-  IsPrivateFollowed n caller = (c : Timed C) × (next_call_of callers n.placed caller ≡ Some c) × IsSome c.end × (is_private c.call ≡ true)
-      × ((after : S) × (stepped n.state caller c.call ≡ Some after) × IsInTable nodes after (placing caller n.placed))
+  -- some caller's call comes before this caller's, or the table has what follows this one's
+  abbrev pub IsCovered : Reached S → ℕ → Type 0
+  IsCovered n caller = HasEarlierTwin stepped may_skip callers n.placed caller ⊎ IsFollowedAt n caller
 
-  -- some private call leads to a node of the table, or each step that may come next does
+  -- each step that may come next leads to nodes of the table
   abbrev pub IsFollowed : Reached S → Type 0
-  IsFollowed n = ((caller : ℕ) × IsPrivateFollowed n caller) ⊎ ((caller : ℕ) → IsFollowedAt n caller)
+  IsFollowed n = (caller : ℕ) → IsCovered n caller
 
   -- the table has the nodes that follow each of its nodes, and none of them is an end
   abbrev pub IsClosedTable : Type 0

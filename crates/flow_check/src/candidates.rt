@@ -108,15 +108,16 @@ fn private_of<C: Copy, M: Machine<C>>(
     node: &Node<M>,
     caller: usize,
     deadline: u64,
-) -> Option<Candidate> {
+) -> Option<Move> {
     let call = next_call(callers, &node.placed, caller)?;
-    let end = call.end?;
-    let may_come = call.begin <= deadline && node.state.is_private(&call.call);
+    let may_come = call.end.is_some()
+        && call.begin <= deadline
+        && node.state.is_private(&call.call);
     let turn = Move {
         caller,
         skips: false,
     };
-    (may_come && node.state.may_answer(caller, &call.call)).then_some(Candidate { turn, end })
+    (may_come && node.state.may_answer(caller, &call.call)).then_some(turn)
 }
 
 /// Returns the first private call at a node that may come next. If any order continues from the node, one that begins
@@ -124,7 +125,7 @@ fn private_of<C: Copy, M: Machine<C>>(
 pub fn first_private<C: Copy, M: Machine<C>>(
     callers: &[Vec<Timed<C>>],
     node: &Node<M>,
-) -> Option<Candidate> {
+) -> Option<Move> {
     let deadline = deadline_of(callers, &node.placed);
     for caller in 0..callers.len() {
         let private = private_of(callers, node, caller, deadline);

@@ -1,5 +1,6 @@
 //! A flow as the checker sees it.
 ghost use Rattle.std.specs.Prelude.{◌≡◌, ℕ, Bool, List, Option, IfOk, IsTrue};
+ghost use Rattle.flow_check.specs.Twins.{AreTwins};
 
 use crate::timed::Timed;
 use std::alloc::{AllocError, Global};
@@ -35,6 +36,10 @@ pub trait Machine<C>: Drop {
     /// Returns whether no other caller can see when a call happens, if it is answered as recorded.
     fn is_private(&self, call: &C) -> bool
         ensures { result ≡ is_private call.now };
+
+    /// Returns true only if both calls do the same in each state, whoever makes them.
+    fn are_twins(&self, one: &C, other: &C) -> bool
+        ensures { IsTrue result → AreTwins stepped may_skip one.now other.now };
 
     /// Returns whether the flow may give the recorded answer. This is not proved.
     fn may_answer(&self, caller: usize, call: &C) -> bool;

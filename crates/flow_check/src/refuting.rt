@@ -3,14 +3,17 @@ ghost use Rattle.std.specs.Prelude.{◌≡◌, ℕ, List, true, Some, IsTrue, If
 ghost use Rattle.flow_check.specs.Records.{IsWellTimed};
 ghost use Rattle.flow_check.specs.PrivateCalls.{MayMakePrivate};
 ghost use Rattle.flow_check.specs.Remaining.{GoesThroughAll, none_placed, placing, OwesNothing};
-ghost use Rattle.flow_check.specs.Tables.{nodes_of, reached, IsInTable};
-ghost use Rattle.flow_check.specs.Tables.{IsFollowedAt, IsPrivateFollowed, IsFollowed, IsClosedTable};
+ghost use Rattle.flow_check.specs.Reached.{reached};
+ghost use Rattle.flow_check.specs.Tables.{nodes_of, IsInTable, SettlesInTable};
+ghost use Rattle.flow_check.specs.Tables.{IsFollowedAt, IsCovered, IsFollowed, IsClosedTable};
 
 use crate::machine::Machine;
 use crate::node::Node;
 use crate::remaining::{may_come_next, next_call, none_placed, owes_nothing, place};
+use crate::settling::settled;
 use crate::table::Table;
 use crate::timed::Timed;
+use crate::twins::has_earlier_twin;
 use std::alloc::{AllocError, Global};
 
 /// A record's calls, and a table that may show that no order goes through them. The table is not trusted.
@@ -38,20 +41,32 @@ impl<'a, C: Copy, M: Machine<C>> Claim<'a, C, M> {
         Ok(yes)
     }
 
-    /// Returns whether the table has this state after one more call of the caller.
-    fn is_placed(&self, node: &Node<M>, caller: usize, after: &M) -> Result<bool, AllocError>
+    /// Returns whether the table has this state with these counts of calls, after private calls.
+    fn is_settled(&self, state: M, placed: Vec<u32>) -> Result<bool, AllocError>
         ensures { IfOk result (λ yes. IsTrue yes →
-            IsInTable (nodes_of M.read self.now.table.now) after.now
+            SettlesInTable M.stepped M.may_skip M.is_private self.now.callers.now
+            (nodes_of M.read self.now.table.now) state placed.items) }
+    {
+        let node = settled(self.alloc, self.callers, Node { state, placed })?;
+        let Some(at) = self.table.find(&node.state, &node.placed) else {
+            return Ok(false);
+        };
+        let yes = self.is_node(at, &node.state, &node.placed)?;
+        Ok(yes)
+    }
+
+    /// Returns whether the table has this state after one more call of the caller, and after private calls.
+    fn is_placed(&self, node: &Node<M>, caller: usize, after: M) -> Result<bool, AllocError>
+        ensures { IfOk result (λ yes. IsTrue yes →
+            SettlesInTable M.stepped M.may_skip M.is_private self.now.callers.now
+            (nodes_of M.read self.now.table.now) after
             (placing caller node.now.placed.items)) }
     {
         let mut placed = Vec::from_slice(self.alloc, node.placed.as_slice())?;
         if !place(&mut placed, caller) {
             return Ok(false);
         }
-        let Some(at) = self.table.find(after, &placed) else {
-            return Ok(false);
-        };
-        let yes = self.is_node(at, after, &placed)?;
+        let yes = self.is_settled(after, placed)?;
         Ok(yes)
     }
 
@@ -59,27 +74,30 @@ impl<'a, C: Copy, M: Machine<C>> Claim<'a, C, M> {
     fn is_made_followed(&self, node: &Node<M>, caller: usize, call: &C) -> Result<bool, AllocError>
         ensures { IfOk result (λ yes. IsTrue yes →
             (after : M) → M.stepped node.now.state caller call.now ≡ Some after →
-            IsInTable (nodes_of M.read self.now.table.now) after
+            SettlesInTable M.stepped M.may_skip M.is_private self.now.callers.now
+            (nodes_of M.read self.now.table.now) after
             (placing caller node.now.placed.items)) }
     {
         let stepped = node.state.step(self.alloc, caller, call)?;
         let Some(after) = stepped else {
             return Ok(true);
         };
-        let yes = self.is_placed(node, caller, &after)?;
+        let yes = self.is_placed(node, caller, after)?;
         Ok(yes)
     }
 
     /// Returns whether the table has the node that follows if this call is skipped, or the call may not be skipped.
     fn is_skip_followed(&self, node: &Node<M>, caller: usize, call: &C) -> Result<bool, AllocError>
         ensures { IfOk result (λ yes. IsTrue yes → M.may_skip call.now ≡ true →
-            IsInTable (nodes_of M.read self.now.table.now) node.now.state
+            SettlesInTable M.stepped M.may_skip M.is_private self.now.callers.now
+            (nodes_of M.read self.now.table.now) node.now.state
             (placing caller node.now.placed.items)) }
     {
         if !node.state.may_skip(call) {
             return Ok(true);
         }
-        let yes = self.is_placed(node, caller, &node.state)?;
+        let copy = node.state.try_copy(self.alloc)?;
+        let yes = self.is_placed(node, caller, copy)?;
         Ok(yes)
     }
 
@@ -103,14 +121,27 @@ impl<'a, C: Copy, M: Machine<C>> Claim<'a, C, M> {
         Ok(skipped)
     }
 
-    /// Returns whether the table has the nodes that follow if any caller's next call happens.
-    fn is_each_followed(&self, node: &Node<M>) -> Result<bool, AllocError>
+    /// Returns whether a call comes before this caller's next one, or the table has what follows that.
+    fn is_covered(&self, node: &Node<M>, caller: usize) -> Result<bool, AllocError>
+        ensures { IfOk result (λ yes. IsTrue yes →
+            IsCovered M.stepped M.may_skip M.is_private self.now.callers.now
+            (nodes_of M.read self.now.table.now) (reached node.now) caller) }
+    {
+        if has_earlier_twin(self.callers, node, caller) {
+            return Ok(true);
+        }
+        let yes = self.is_followed_at(node, caller)?;
+        Ok(yes)
+    }
+
+    /// Returns whether the table has what is needed of the nodes that follow, whichever caller's next call happens.
+    fn is_each_covered(&self, node: &Node<M>) -> Result<bool, AllocError>
         ensures { IfOk result (λ yes. IsTrue yes → (caller : ℕ) →
-            IsFollowedAt M.stepped M.may_skip M.is_private self.now.callers.now
+            IsCovered M.stepped M.may_skip M.is_private self.now.callers.now
             (nodes_of M.read self.now.table.now) (reached node.now) caller) }
     {
         for caller in 0..self.callers.len() {
-            let yes = self.is_followed_at(node, caller)?;
+            let yes = self.is_covered(node, caller)?;
             if !yes {
                 return Ok(false);
             }
@@ -118,57 +149,7 @@ impl<'a, C: Copy, M: Machine<C>> Claim<'a, C, M> {
         Ok(true)
     }
 
-    /// Returns whether this call may be made, and the table has the node that follows.
-    fn is_step_in_table(&self, node: &Node<M>, caller: usize, call: &C) -> Result<bool, AllocError>
-        ensures { IfOk result (λ yes. IsTrue yes →
-            (after : M) × (M.stepped node.now.state caller call.now ≡ Some after)
-            × IsInTable (nodes_of M.read self.now.table.now) after
-            (placing caller node.now.placed.items)) }
-    {
-        let stepped = node.state.step(self.alloc, caller, call)?;
-        let Some(after) = stepped else {
-            return Ok(false);
-        };
-        let yes = self.is_placed(node, caller, &after)?;
-        Ok(yes)
-    }
-
-    /// Returns whether this caller's next call is a private one that ended, and the table has the node that follows.
-    fn is_private_followed(&self, node: &Node<M>, caller: usize) -> Result<bool, AllocError>
-        ensures { IfOk result (λ yes. IsTrue yes →
-            IsPrivateFollowed M.stepped M.may_skip M.is_private self.now.callers.now
-            (nodes_of M.read self.now.table.now) (reached node.now) caller) }
-    {
-        let Some(call) = next_call(self.callers, &node.placed, caller) else {
-            return Ok(false);
-        };
-        if call.end.is_none() {
-            return Ok(false);
-        }
-        if !node.state.is_private(&call.call) {
-            return Ok(false);
-        }
-        let yes = self.is_step_in_table(node, caller, &call.call)?;
-        Ok(yes)
-    }
-
-    /// Returns whether the table has the node that follows some private call that ended.
-    fn is_some_private_followed(&self, node: &Node<M>) -> Result<bool, AllocError>
-        ensures { IfOk result (λ yes. IsTrue yes → (caller : ℕ) ×
-            IsPrivateFollowed M.stepped M.may_skip M.is_private self.now.callers.now
-            (nodes_of M.read self.now.table.now) (reached node.now) caller) }
-    {
-        for caller in 0..self.callers.len() {
-            let yes = self.is_private_followed(node, caller)?;
-            if yes {
-                return Ok(true);
-            }
-        }
-        Ok(false)
-    }
-
-    /// Returns whether the table has the nodes that follow this one, and this one is not an end. The node after a private
-    /// call is enough: if an order goes through the rest, one that begins with the private call does.
+    /// Returns whether the table has the nodes that follow this one, and this one is not an end.
     fn is_followed(&self, node: &Node<M>) -> Result<bool, AllocError>
         ensures { IfOk result (λ yes. IsTrue yes →
             IsFollowed M.stepped M.may_skip M.is_private self.now.callers.now
@@ -178,11 +159,7 @@ impl<'a, C: Copy, M: Machine<C>> Claim<'a, C, M> {
         if owes_nothing(self.callers, &node.placed) {
             return Ok(false);
         }
-        let early = self.is_some_private_followed(node)?;
-        if early {
-            return Ok(true);
-        }
-        let each = self.is_each_followed(node)?;
+        let each = self.is_each_covered(node)?;
         Ok(each)
     }
 
@@ -205,14 +182,16 @@ impl<'a, C: Copy, M: Machine<C>> Claim<'a, C, M> {
         Ok(true)
     }
 
-    /// Returns whether the table begins with the state before any call.
+    /// Returns whether the table has the state before any call, after private calls.
     fn begins(&self, first: &M) -> Result<bool, AllocError>
         ensures { IfOk result (λ yes. IsTrue yes →
-            IsInTable (nodes_of M.read self.now.table.now) first.now
+            SettlesInTable M.stepped M.may_skip M.is_private self.now.callers.now
+            (nodes_of M.read self.now.table.now) first.now
             (none_placed self.now.callers.now)) }
     {
         let placed = none_placed(self.alloc, self.callers)?;
-        let yes = self.is_node(0, first, &placed)?;
+        let copy = first.try_copy(self.alloc)?;
+        let yes = self.is_settled(copy, placed)?;
         Ok(yes)
     }
 }

@@ -5,8 +5,10 @@ use crate::candidates::{Candidate, first_private, turn_after};
 use crate::machine::Machine;
 use crate::node::{Move, Node};
 use crate::remaining::{next_call, none_placed, owes_nothing, place};
+use crate::settling::{MOST_CALLS, settled};
 use crate::table::Table;
 use crate::timed::Timed;
+use crate::twins::has_earlier_twin;
 use std::alloc::{AllocError, Global};
 
 /// What the search found.
@@ -33,30 +35,24 @@ enum Pace {
 struct Frame {
     node: usize,
     tried: Option<Candidate>,
-    /// The turn is a private call, so no other one is tried.
-    is_private: bool,
 }
 
-/// Takes the next turn at a node, which is the last one of the path.
+/// Takes the next turn at a node, which is the last one of the path. A turn is left out if the call of another caller does
+/// the same and comes first.
 fn take_turn<C: Copy, M: Machine<C>>(
     callers: &[Vec<Timed<C>>],
     node: &Node<M>,
     path: &mut Vec<Frame>,
 ) -> Option<Move> {
     let frame = path.last_mut()?;
-    if frame.is_private {
-        return None;
-    }
-    if frame.tried.is_none() {
-        if let Some(private) = first_private(callers, node) {
-            frame.tried = Some(private);
-            frame.is_private = true;
-            return Some(private.turn);
+    for _ in 0..callers.len().saturating_mul(2) {
+        let candidate = turn_after(callers, node, frame.tried)?;
+        frame.tried = Some(candidate);
+        if !has_earlier_twin(callers, node, candidate.turn.caller) {
+            return Some(candidate.turn);
         }
     }
-    let candidate = turn_after(callers, node, frame.tried)?;
-    frame.tried = Some(candidate);
-    Some(candidate.turn)
+    None
 }
 
 /// Returns the node that follows this turn, if the call is skipped or the flow may give the recorded answer.
@@ -84,15 +80,48 @@ fn advance<C: Copy, M: Machine<C>>(
     Ok(Some(Node { state, placed }))
 }
 
-/// Returns the turn that was tried last at each node of the path.
-fn turns_of(alloc: Global, path: &[Frame]) -> Result<Vec<Move>, AllocError> {
-    let mut turns = Vec::new(alloc);
+/// Makes the private calls that may come next at this node, and adds their turns to an order.
+fn settle_into<C: Copy, M: Machine<C>>(
+    alloc: Global,
+    callers: &[Vec<Timed<C>>],
+    first: Node<M>,
+    order: &mut Vec<Move>,
+) -> Result<Node<M>, AllocError> {
+    let mut node = first;
+    for _ in 0..MOST_CALLS {
+        let Some(turn) = first_private(callers, &node) else {
+            return Ok(node);
+        };
+        let Some(next) = advance(alloc, callers, &node, turn)? else {
+            return Ok(node);
+        };
+        order.push(turn)?;
+        node = next;
+    }
+    Ok(node)
+}
+
+/// Returns the order of the turns that were tried last at each node of the path, and of the private calls between them.
+fn order_of<C: Copy, M: Machine<C>>(
+    alloc: Global,
+    callers: &[Vec<Timed<C>>],
+    first: &M,
+    path: &[Frame],
+) -> Result<Vec<Move>, AllocError> {
+    let mut order = Vec::new(alloc);
+    let state = first.try_copy(alloc)?;
+    let placed = none_placed(alloc, callers)?;
+    let mut node = settle_into(alloc, callers, Node { state, placed }, &mut order)?;
     for frame in path {
         if let Some(candidate) = frame.tried {
-            turns.push(candidate.turn)?;
+            let Some(next) = advance(alloc, callers, &node, candidate.turn)? else {
+                return Ok(order);
+            };
+            order.push(candidate.turn)?;
+            node = settle_into(alloc, callers, next, &mut order)?;
         }
     }
-    Ok(turns)
+    Ok(order)
 }
 
 /// What follows a turn of the search.
@@ -118,16 +147,23 @@ struct Walk<M> {
 
 impl<M> Walk<M> {
     /// Begins in this state, before any call.
-    fn new<C>(alloc: Global, first: &M, placed: Vec<u32>, pace: Pace) -> Result<Walk<M>, AllocError>
+    fn new<C: Copy>(
+        alloc: Global,
+        first: &M,
+        callers: &[Vec<Timed<C>>],
+        pace: Pace,
+    ) -> Result<Walk<M>, AllocError>
     where
         M: Machine<C>,
     {
-        let table = Table::new(alloc, first.try_copy(alloc)?, placed.len());
+        let table = Table::new(alloc, first.try_copy(alloc)?, callers.len());
         let state = first.try_copy(alloc)?;
+        let placed = none_placed(alloc, callers)?;
+        let node = settled(alloc, callers, Node { state, placed })?;
         let mut walk = Walk {
             table,
             path: Vec::new(alloc),
-            node: Node { state, placed },
+            node,
             pace,
             has_left_out: false,
         };
@@ -144,7 +180,6 @@ impl<M> Walk<M> {
         self.path.push(Frame {
             node: place,
             tried: None,
-            is_private: false,
         })?;
         Ok(())
     }
@@ -213,7 +248,10 @@ impl<M> Walk<M> {
         };
         match advance(alloc, callers, &self.node, turn)? {
             None => Ok(Turned::GoesOn),
-            Some(next) => self.go_to(callers, next),
+            Some(next) => {
+                let next = settled(alloc, callers, next)?;
+                self.go_to(callers, next)
+            }
         }
     }
 
@@ -227,6 +265,9 @@ impl<M> Walk<M> {
     where
         M: Machine<C>,
     {
+        if owes_nothing(callers, &self.node.placed) {
+            return Ok(Turned::Ordered);
+        }
         for _ in 0..budget {
             let turned = self.turn(alloc, callers)?;
             if !matches!(turned, Turned::GoesOn) {
@@ -245,17 +286,25 @@ fn walk_of<C: Copy, M: Machine<C>>(
     budget: u64,
     pace: Pace,
 ) -> Result<(Walk<M>, Turned), AllocError> {
-    let placed = none_placed(alloc, callers)?;
-    let mut walk = Walk::new(alloc, first, placed, pace)?;
+    let mut walk = Walk::new(alloc, first, callers, pace)?;
     let turned = walk.turns(alloc, callers, budget)?;
     Ok((walk, turned))
 }
 
 /// Returns what a walk found.
-fn found_by<M: Drop>(alloc: Global, walk: Walk<M>, turned: Turned) -> Result<Found<M>, AllocError> {
+fn found_by<C: Copy, M: Machine<C>>(
+    alloc: Global,
+    first: &M,
+    callers: &[Vec<Timed<C>>],
+    walk: Walk<M>,
+    turned: Turned,
+) -> Result<Found<M>, AllocError> {
     match turned {
         Turned::GoesOn => Ok(Found::GaveUp),
-        Turned::Ordered => Ok(Found::Order(turns_of(alloc, walk.path.as_slice())?)),
+        Turned::Ordered => {
+            let order = order_of(alloc, callers, first, walk.path.as_slice())?;
+            Ok(Found::Order(order))
+        }
         Turned::Exhausted => Ok(Found::Table(walk.table)),
     }
 }
@@ -268,16 +317,12 @@ pub fn search<C: Copy, M: Machine<C>>(
     callers: &[Vec<Timed<C>>],
     budget: u64,
 ) -> Result<Found<M>, AllocError> {
-    let placed = none_placed(alloc, callers)?;
-    if owes_nothing(callers, &placed) {
-        return Ok(Found::Order(Vec::new(alloc)));
-    }
     let (walk, turned) = walk_of(alloc, first, callers, budget, Pace::Hasty)?;
     if walk.has_left_out && !matches!(turned, Turned::Ordered) {
         let (walk, turned) = walk_of(alloc, first, callers, budget, Pace::Whole)?;
-        return found_by(alloc, walk, turned);
+        return found_by(alloc, first, callers, walk, turned);
     }
-    found_by(alloc, walk, turned)
+    found_by(alloc, first, callers, walk, turned)
 }
 
 /// Returns whether a search finds no order. It is not proved that there is none.
@@ -287,10 +332,6 @@ pub fn finds_none<C: Copy, M: Machine<C>>(
     callers: &[Vec<Timed<C>>],
     budget: u64,
 ) -> Result<bool, AllocError> {
-    let placed = none_placed(alloc, callers)?;
-    if owes_nothing(callers, &placed) {
-        return Ok(false);
-    }
     let (_walk, turned) = walk_of(alloc, first, callers, budget, Pace::Hasty)?;
     Ok(matches!(turned, Turned::Exhausted))
 }

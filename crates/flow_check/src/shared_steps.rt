@@ -83,6 +83,10 @@ impl<'a> Machine<SharedEntry<'a>> for SharedMachine {
         }
     }
 
+    fn are_twins(&self, _one: &SharedEntry<'a>, _other: &SharedEntry<'a>) -> bool {
+        false
+    }
+
     fn may_answer(&self, caller: usize, call: &SharedEntry<'a>) -> bool {
         self.is_answer(caller, call.operation, call.answer)
     }

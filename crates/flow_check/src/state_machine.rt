@@ -1,6 +1,7 @@
 //! A state flow as the checker keeps it.
 ghost use Rattle.std.specs.Prelude.{◌≡◌, IsTrue, IfOk};
 ghost use Rattle.flow_check.specs.Subscribed.{none_subscribed};
+ghost use Rattle.flow_check.specs.StateTwins.{is_same_write};
 ghost use Rattle.flow_check.specs.StateMachine.{reader_of, with_reader};
 ghost use Rattle.flow_check.specs.StateMachine.{state_own_answer, state_moved, state_agrees, reader_in, read_state_kept};
 
@@ -131,6 +132,21 @@ impl Same for Option<Option<u64>> {
     }
 }
 
+/// Returns whether both calls change the value in the same way.
+fn is_same_write(one: StateEntry, other: StateEntry) -> bool
+    ensures { result ≡ is_same_write one other }
+{
+    match (one.operation, one.answer, other.operation, other.answer) {
+        (
+            StateOperation::Set(v),
+            Some(StateAnswer::Done),
+            StateOperation::Set(w),
+            Some(StateAnswer::Done),
+        ) => v == w,
+        _ => false,
+    }
+}
+
 /// Returns what a caller has received, as words encode it.
 fn reader_in(words: &[u32]) -> Option<Option<u64>>
     ensures { result ≡ reader_in words.now }
@@ -212,6 +228,11 @@ impl Machine<StateEntry> for StateMachine {
             (StateOperation::Next, Some(StateAnswer::Empty | StateAnswer::Value(_))) => true,
             _ => false,
         }
+    }
+
+    #[tactic(auto, using(crate::proofs::StateTwins::twins))]
+    fn are_twins(&self, one: &StateEntry, other: &StateEntry) -> bool {
+        is_same_write(*one, *other)
     }
 
     fn may_answer(&self, caller: usize, call: &StateEntry) -> bool {

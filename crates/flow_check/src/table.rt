@@ -1,6 +1,7 @@
 //! The nodes of a search, packed into words.
 ghost use Rattle.std.specs.Prelude.{◌≡◌, Some, IfOk, IfSome, length, slice_get};
-ghost use Rattle.flow_check.specs.Tables.{nodes_of, reached};
+ghost use Rattle.flow_check.specs.Reached.{reached};
+ghost use Rattle.flow_check.specs.Tables.{nodes_of};
 
 use crate::machine::Machine;
 use crate::node::{Node, Places};

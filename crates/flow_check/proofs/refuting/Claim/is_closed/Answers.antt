@@ -2,7 +2,8 @@ use Rattle.std.proofs.Common.{◌≡◌, ◌≤◌, length, Some, arith}
 use Rattle.std.specs.Prelude.{slice_get, ⊤}
 use Rattle.std.proofs.lemmas.Option.{MatchOption-at_some}
 use Rattle.flow_check.specs.declared.node.Node.{Node}
-use Rattle.flow_check.specs.Tables.{nodes_of, reached}
+use Rattle.flow_check.specs.Reached.{reached}
+use Rattle.flow_check.specs.Tables.{nodes_of}
 use Rattle.flow_check.proofs.Packing.{nodes_within}
 use Rattle.flow_check.proofs.Parts.{all_closed, closed_more}
 use Rattle.flow_check.proofs.refuting.Claim.is_closed.Goals as goal

@@ -1,6 +1,7 @@
 use Rattle.std.proofs.Common.{below_more}
 use Rattle.flow_check.proofs.Parts.{all_followed}
-use Rattle.flow_check.specs.Tables.{nodes_of, reached}
+use Rattle.flow_check.specs.Reached.{reached}
+use Rattle.flow_check.specs.Tables.{nodes_of}
 use Rattle.flow_check.proofs.refuting.Claim.is_each_followed.Goals as goal
 
 pub loop-caller-preserved : goal.loop-caller-preserved

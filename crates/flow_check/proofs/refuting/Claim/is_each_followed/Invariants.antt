@@ -1,4 +1,5 @@
-use Rattle.flow_check.specs.Tables.{nodes_of, reached}
+use Rattle.flow_check.specs.Reached.{reached}
+use Rattle.flow_check.specs.Tables.{nodes_of}
 use Rattle.flow_check.proofs.Parts.{IsFollowedBelow}
 use Rattle.flow_check.proofs.refuting.Claim.is_each_followed.Given as goal
 

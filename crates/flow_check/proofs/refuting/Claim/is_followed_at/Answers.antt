@@ -1,6 +1,7 @@
 use Rattle.std.proofs.Common.{sym}
 use Rattle.flow_check.proofs.Parts.{followed_at}
-use Rattle.flow_check.specs.Tables.{nodes_of, reached}
+use Rattle.flow_check.specs.Reached.{reached}
+use Rattle.flow_check.specs.Tables.{nodes_of}
 use Rattle.flow_check.proofs.refuting.Claim.is_followed_at.Goals as goal
 
 pub returns : goal.returns

@@ -4,7 +4,8 @@ use Rattle.std.proofs.lemmas.Bool.Decides.{Decides-eqb}
 use Rattle.std.proofs.lemmas.Option.{MatchOption-at_some}
 use Rattle.std.proofs.lemmas.Slice.Eq.{slice_eq-Decides}
 use Rattle.flow_check.specs.declared.node.Node.{Node}
-use Rattle.flow_check.specs.Tables.{nodes_of, reached}
+use Rattle.flow_check.specs.Reached.{reached}
+use Rattle.flow_check.specs.Tables.{nodes_of}
 use Rattle.flow_check.proofs.refuting.Claim.is_node.Goals as goal
 
 pub returns : goal.returns
