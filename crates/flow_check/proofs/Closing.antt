@@ -32,11 +32,11 @@ module _ {S C : Type 0} (stepped : S → ℕ → C → Option S) (may_skip is_pr
       let i = is.2.0 in
       let made = is.2.1 in
       let c = made.0 in
-      let ahead = private_calls.begins is.0.state m.state i c.call before.0 made.3 made.4.0 in
+      let ahead = private_calls.begins is.0.state m.state i c.call before.0 made.3 made.4 in
       let less = make_first stepped may_skip is_private IsSound kept Ahead private_calls callers well i c before.1.0 is.0.placed is.0.state m.state made.3 made.2 before.0 ahead made.1 before.1.2 in
       let some = before.1.1 in
       let one = less.1 in
-      (kept is.0.state m.state i c.call before.0 made.4.0, (less.0, omega arith, subst (λ (p : List ℕ). Goes m.state p less.0) (sym made.4.1) less.2))
+      (kept is.0.state m.state i c.call before.0 made.4, (less.0, omega arith, subst (λ (p : List ℕ). Goes m.state p less.0) (sym made.5) less.2))
 
   -- no order of at most `most` turns goes through the rest
   none_within : (most : ℕ) (order : List ℕ) (s : S) (placed : List ℕ) → length order ≤ most → IsSound s → IsInTable nodes s placed → Goes s placed order → ⊥

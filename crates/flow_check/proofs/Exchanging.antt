@@ -144,12 +144,13 @@ module _ {S C : Type 0} (stepped : S → ℕ → C → Option S) (may_skip : C �
 
     -- ---- the first of several twins
 
-    latest : Option ℕ → ℕ
+    abbrev latest : Option ℕ → ℕ
     latest None = 0
     latest (Some end) = end
 
     latest_is : (o : Option ℕ) (end : ℕ) → o ≡ Some end → end ≤ latest o
-    latest_is o end e = subst (λ (p : Option ℕ). end ≤ latest p) (sym e) (omega arith)
+    latest_is None end e = absurd (cc)
+    latest_is (Some last) end e = let same = same_Some last end e in omega arith
 
     over_within : (o : Option ℕ) (moment end most : ℕ) → is_over_before o moment ≡ true → o ≡ Some end → moment ≤ suc most → end ≤ most
     over_within o moment end most over e low =
@@ -166,28 +167,27 @@ module _ {S C : Type 0} (stepped : S → ℕ → C → Option S) (may_skip : C �
 
       begins_within : (most caller : ℕ) (order : List ℕ) → ((c : Timed C) (end : ℕ) → next_call_of callers placed caller ≡ Some c → c.end ≡ Some end → end ≤ most)
           → Goes s placed (caller ∷ order) → BeginsFree order
-      begins_by : (most caller : ℕ) (order : List ℕ) → ((c : Timed C) (end : ℕ) → next_call_of callers placed caller ≡ Some c → c.end ≡ Some end → end ≤ most)
-          → Goes s placed (caller ∷ order) → HasEarlierTwin stepped may_skip callers placed caller → BeginsFree order
-      begins_within most caller order low h = elim (each caller) [
-        | inl twin ↦ begins_by most caller order low h twin
+      begins_within zero caller order low h = elim (each caller) [
+        | inl twin ↦
+            let found = twin.1 in
+            let ends = found.2.2.0 in
+            absurd (none_before_zero found.2.0.end ends.0 ends.2 (low found.0 ends.0 found.1 ends.1))
         | inr free ↦ (caller, free, (order, refl, h))
       ]
-      begins_by zero caller order low h twin =
-          let found = twin.1 in
-          let ends = found.2.2.0 in
-          absurd (none_before_zero found.2.0.end ends.0 ends.2 (low found.0 ends.0 found.1 ends.1))
-      begins_by (suc most) caller order low h twin =
-          let a = twin.0 in
-          let found = twin.1 in
-          let d = found.2.0 in
-          let ends = found.2.2.0 in
-          let less = exchange a caller order placed s found h in
-          let count = less.1 in
-          let more = begins_within most a less.0 (λ e end next is.
-            let same : e ≡ d = same_Some e d (sym next ∙ found.2.1) in
-            over_within d.end ends.0 end most ends.2 (subst (λ (x : Timed C). x.end ≡ Some end) same is) (low found.0 ends.0 found.1 ends.1)) less.2 in
-          let counted = more.2.1 in
-          (more.0, more.1, (more.2.0, omega arith, more.2.2))
+      begins_within (suc most) caller order low h = elim (each caller) [
+        | inl twin ↦
+            let found = twin.1 in
+            let d = found.2.0 in
+            let ends = found.2.2.0 in
+            let less = exchange twin.0 caller order placed s found h in
+            let count = less.1 in
+            let more = begins_within most twin.0 less.0 (λ e end next is.
+              let same : e ≡ d = same_Some e d (sym next ∙ found.2.1) in
+              over_within d.end ends.0 end most ends.2 (subst (λ (x : Timed C). x.end ≡ Some end) same is) (low found.0 ends.0 found.1 ends.1)) less.2 in
+            let counted = more.2.1 in
+            (more.0, more.1, (more.2.0, omega arith, more.2.2))
+        | inr free ↦ (caller, free, (order, refl, h))
+      ]
 
       pub begins_free : (caller : ℕ) (order : List ℕ) → Goes s placed (caller ∷ order) → BeginsFree order
       begins_free caller order h = begins_within (latest h.0.end) caller order

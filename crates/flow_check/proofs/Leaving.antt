@@ -25,18 +25,18 @@ get-set_else (y ∷ xs) (suc i) zero x apart = refl
 get-set_else (y ∷ xs) (suc i) (suc j) x apart = get-set_else xs i j x (λ e. apart (ap suc e))
 
 -- it does not matter which of two callers is counted first
-placing_comm : (i j : ℕ) (placed : List ℕ) → i ≢ j → placing i (placing j placed) ≡ placing j (placing i placed)
+pub placing_comm : (i j : ℕ) (placed : List ℕ) → i ≢ j → placing i (placing j placed) ≡ placing j (placing i placed)
 placing_comm i j placed apart =
     ap (λ (n : ℕ). set (set placed j (get_or placed j 0 + 1)) i (n + 1)) (get_or-set_other placed j i (get_or placed j 0 + 1) 0 apart)
     ∙ set_comm placed j i (get_or placed j 0 + 1) (get_or placed i 0 + 1) (λ e. apart (sym e))
     ∙ ap (λ (n : ℕ). set (set placed i (get_or placed i 0 + 1)) j (n + 1)) (sym (get_or-set_other placed i j (get_or placed i 0 + 1) 0 (λ e. apart (sym e))))
 
 module _ {C : Type 0} (callers : CallsByCaller C) where
-  next_else : (placed : List ℕ) (i j : ℕ) → i ≢ j → next_call_of callers (placing i placed) j ≡ next_call_of callers placed j
+  pub next_else : (placed : List ℕ) (i j : ℕ) → i ≢ j → next_call_of callers (placing i placed) j ≡ next_call_of callers placed j
   next_else placed i j apart = ap (next_at callers j) (get-set_else placed i j (get_or placed i 0 + 1) apart)
 
   -- the next call of a caller is over no later than the one after it
-  not_over_later : IsWellTimed callers → (placed : List ℕ) (i moment : ℕ) (c d : Timed C) → next_call_of callers placed i ≡ Some c → next_call_of callers (placing i placed) i ≡ Some d
+  pub not_over_later : IsWellTimed callers → (placed : List ℕ) (i moment : ℕ) (c d : Timed C) → next_call_of callers placed i ≡ Some c → next_call_of callers (placing i placed) i ≡ Some d
       → is_over_before c.end moment ≡ false → is_over_before d.end moment ≡ false
   not_over_later well placed i moment c d now then free =
       let at = placed_at callers i (slice_get placed i) c now in
@@ -49,7 +49,7 @@ module _ {C : Type 0} (callers : CallsByCaller C) where
       (λ _ over. absurd (false≢true (sym free ∙ subst (λ (x : Timed C). is_over_before x.end moment ≡ true) is (before.2.0 moment over)))) (λ _ _. refl) refl
 
   -- a call that may come next may still come next after some caller's next call has happened
-  may_still : IsWellTimed callers → (placed : List ℕ) (i : ℕ) (c d : Timed C) → next_call_of callers placed i ≡ Some c → MayComeNext callers placed d → MayComeNext callers (placing i placed) d
+  pub may_still : IsWellTimed callers → (placed : List ℕ) (i : ℕ) (c d : Timed C) → next_call_of callers placed i ≡ Some c → MayComeNext callers placed d → MayComeNext callers (placing i placed) d
   may_still well placed i c d now may = λ other e there. elim (eqb_tells i other) [
     | inl same ↦ not_over_later well placed i d.begin c e now (subst (λ (j : ℕ). next_call_of callers (placing i placed) j ≡ Some e) (sym same.1) there) (may i c now)
     | inr z ↦ may other e (sym (next_else placed i other z.1) ∙ there)

@@ -309,8 +309,19 @@ fn found_by<C: Copy, M: Machine<C>>(
     }
 }
 
-/// Goes through nodes, each once, until it finds an order, no node is left, or `budget` turns are taken. It first leaves
-/// out the nodes that the calls to come contradict, and then goes through those, too, unless it has found an order.
+/// Goes through nodes, each once, until it finds an order, no node is left, or `budget` turns are taken.
+pub fn search_whole<C: Copy, M: Machine<C>>(
+    alloc: Global,
+    first: &M,
+    callers: &[Vec<Timed<C>>],
+    budget: u64,
+) -> Result<Found<M>, AllocError> {
+    let (walk, turned) = walk_of(alloc, first, callers, budget, Pace::Whole)?;
+    found_by(alloc, first, callers, walk, turned)
+}
+
+/// Searches as `search_whole` does, but first leaves out the nodes that the calls to come contradict. An order is found
+/// sooner so; if there is none, the search goes through those nodes, too.
 pub fn search<C: Copy, M: Machine<C>>(
     alloc: Global,
     first: &M,
@@ -319,8 +330,7 @@ pub fn search<C: Copy, M: Machine<C>>(
 ) -> Result<Found<M>, AllocError> {
     let (walk, turned) = walk_of(alloc, first, callers, budget, Pace::Hasty)?;
     if walk.has_left_out && !matches!(turned, Turned::Ordered) {
-        let (walk, turned) = walk_of(alloc, first, callers, budget, Pace::Whole)?;
-        return found_by(alloc, first, callers, walk, turned);
+        return search_whole(alloc, first, callers, budget);
     }
     found_by(alloc, first, callers, walk, turned)
 }

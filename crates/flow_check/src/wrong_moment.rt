@@ -8,7 +8,7 @@ use crate::candidates::deadline_of;
 use crate::machine::Machine;
 use crate::moments::{Cut, known_record};
 use crate::record::Record;
-use crate::search::{Found, search};
+use crate::search::{Found, search_whole};
 use crate::table::Table;
 use crate::timed::Timed;
 use crate::verdict::Verdict;
@@ -58,7 +58,7 @@ pub fn guess_moment<C: Copy, M: Machine<C>>(
     callers: &[Vec<Timed<C>>],
     budget: u64,
 ) -> Result<Option<u64>, AllocError> {
-    match search(alloc, first, callers, budget)? {
+    match search_whole(alloc, first, callers, budget)? {
         Found::Table(table) => Ok(Some(latest_deadline(alloc, callers, &table)?)),
         Found::Order(_) | Found::GaveUp => Ok(None),
     }

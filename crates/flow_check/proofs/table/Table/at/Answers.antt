@@ -1,6 +1,7 @@
 use Rattle.std.proofs.Common.{◌≡◌, ℕ, List, take, drop, Some, sym, ap, ◌∙◌, subst}
 use Rattle.std.specs.Prelude.{slice_get}
-use Rattle.flow_check.specs.Tables.{Packed, nodes_of, reached}
+use Rattle.flow_check.specs.Reached.{reached}
+use Rattle.flow_check.specs.Tables.{Packed, nodes_of}
 use Rattle.flow_check.proofs.Packing.{node_there, same_node}
 use Rattle.flow_check.proofs.table.Table.at.Goals as goal
 
