@@ -103,8 +103,8 @@ module _ {S C : Type 0} (stepped : S → ℕ → C → Option S) (may_skip : C �
               let from_b : x ≢ b = λ e. z.1 (sym e) in
               let next = sym (next_else callers placed b x z.1) ∙ h.1 in
               let more = swap_in order (placing x placed) h.3.0 (get-set_else placed x b (get_or placed x 0 + 1) from_b ∙ at) (next_else callers placed x b from_b ∙ later)
-                (next_else callers placed x a from_a ∙ first) (may_still callers well placed x h.0 c next may)
-                (subst (λ (p : List ℕ). Goes h.3.0 p order) (placing_comm x b placed from_b) h.3.2) in
+              (next_else callers placed x a from_a ∙ first) (may_still callers well placed x h.0 c next may)
+              (subst (λ (p : List ℕ). Goes h.3.0 p order) (placing_comm x b placed from_b) h.3.2) in
               let count = more.1 in (
                 x ∷ more.0,
                 omega arith,
@@ -182,8 +182,8 @@ module _ {S C : Type 0} (stepped : S → ℕ → C → Option S) (may_skip : C �
             let less = exchange twin.0 caller order placed s found h in
             let count = less.1 in
             let more = begins_within most twin.0 less.0 (λ e end next is.
-              let same : e ≡ d = same_Some e d (sym next ∙ found.2.1) in
-              over_within d.end ends.0 end most ends.2 (subst (λ (x : Timed C). x.end ≡ Some end) same is) (low found.0 ends.0 found.1 ends.1)) less.2 in
+            let same : e ≡ d = same_Some e d (sym next ∙ found.2.1) in
+            over_within d.end ends.0 end most ends.2 (subst (λ (x : Timed C). x.end ≡ Some end) same is) (low found.0 ends.0 found.1 ends.1)) less.2 in
             let counted = more.2.1 in
             (more.0, more.1, (more.2.0, omega arith, more.2.2))
         | inr free ↦ (caller, free, (order, refl, h))
@@ -192,5 +192,5 @@ module _ {S C : Type 0} (stepped : S → ℕ → C → Option S) (may_skip : C �
       pub begins_free : (caller : ℕ) (order : List ℕ) → Goes s placed (caller ∷ order) → BeginsFree order
       begins_free caller order h = begins_within (latest h.0.end) caller order
           (λ c end next is.
-            let same : c ≡ h.0 = same_Some c h.0 (sym next ∙ h.1) in
-            latest_is h.0.end end (subst (λ (x : Timed C). x.end ≡ Some end) same is)) h
+          let same : c ≡ h.0 = same_Some c h.0 (sym next ∙ h.1) in
+          latest_is h.0.end end (subst (λ (x : Timed C). x.end ≡ Some end) same is)) h
