@@ -31,6 +31,47 @@ fn judges_reads(rt: HostRuntime) {
     }
 }
 
+/// Two callers set 1, and one of them may do so again after another caller has set 2. The moment at which that `set` ended,
+/// and the verdict.
+const EQUAL_SETS: &[(u64, Outcome)] = &[
+    // It happened before 2 was read.
+    (5, Illegal),
+    // It may have happened after 2 was read.
+    (9, Legal),
+];
+
+/// Of two calls that set the same value, the one that ends first comes first.
+#[test]
+fn judges_equal_sets(rt: HostRuntime) {
+    let first = call(Set(1), Done, 0, 3);
+    let others = [
+        call(Read, Value(1), 1, 3),
+        call(Set(2), Done, 4, 5),
+        call(Read, Value(2), 6, 6),
+        call(Read, Value(1), 7, 8),
+    ];
+    for row in EQUAL_SETS {
+        let (end, wanted) = row;
+        let later = call(Set(1), Done, 0, *end);
+        let found = judge(rt.alloc(), TURNS, &[&[later], &[first], &others]);
+        expect(&rt, row, found, *wanted);
+    }
+}
+
+/// A caller may make a call of the same moments before another caller sets the same value: 1 is set, then 2, then 1 again.
+#[test]
+fn judges_equal_sets_among_calls_of_one_moment(rt: HostRuntime) {
+    let both = [call(Set(1), Done, 0, 9), call(Set(2), Done, 0, 9)];
+    let again = call(Set(1), Done, 0, 5);
+    let reads = [
+        call(Read, Value(1), 1, 2),
+        call(Read, Value(2), 3, 4),
+        call(Read, Value(1), 6, 7),
+    ];
+    let found = judge(rt.alloc(), TURNS, &[&both, &[again], &reads]);
+    expect(&rt, &"calls of one moment", found, Legal);
+}
+
 /// A `set` that had not ended may or may not have happened yet.
 #[test]
 fn judges_pending_calls(rt: HostRuntime) {
