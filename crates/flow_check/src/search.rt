@@ -37,18 +37,28 @@ struct Frame {
     tried: Option<Candidate>,
 }
 
-/// Takes the next turn at a node, which is the last one of the path. A turn is left out if the call of another caller does
-/// the same and comes first.
+/// Returns whether a turn has to be tried: the call is skipped, or the flow may give its answer. If the call of another
+/// caller does the same and comes first, only that is tried.
+fn is_tried<C: Copy, M: Machine<C>>(callers: &[Vec<Timed<C>>], node: &Node<M>, turn: Move) -> bool {
+    let Some(call) = next_call(callers, &node.placed, turn.caller) else {
+        return false;
+    };
+    (turn.skips || node.state.may_answer(turn.caller, &call.call))
+        && !has_earlier_twin(callers, node, turn.caller)
+}
+
+/// Takes the next turn at a node, which is the last one of the path.
 fn take_turn<C: Copy, M: Machine<C>>(
     callers: &[Vec<Timed<C>>],
     node: &Node<M>,
     path: &mut Vec<Frame>,
 ) -> Option<Move> {
     let frame = path.last_mut()?;
+    // Each caller has at most two turns: its call is made, or is skipped.
     for _ in 0..callers.len().saturating_mul(2) {
         let candidate = turn_after(callers, node, frame.tried)?;
         frame.tried = Some(candidate);
-        if !has_earlier_twin(callers, node, candidate.turn.caller) {
+        if is_tried(callers, node, candidate.turn) {
             return Some(candidate.turn);
         }
     }

@@ -66,6 +66,13 @@ pub fn has_earlier_twin<C: Copy, M: Machine<C>>(
     ensures { IsTrue result →
         HasEarlierTwin M.stepped M.may_skip callers.now node.now.placed.items caller }
 {
+    let Some(call) = next_call(callers, &node.placed, caller) else {
+        return false;
+    };
+    // A call that has a twin is one of itself.
+    if !node.state.are_twins(&call.call, &call.call) {
+        return false;
+    }
     for other in 0..callers.len() {
         if is_earlier_twin(callers, node, caller, other) {
             return true;
