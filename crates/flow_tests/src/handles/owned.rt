@@ -1,5 +1,6 @@
 //! Handles that own their flow: a thread and a reader outlive the function that made the flow.
-use flow_fixtures::{compare, new_flow, new_state_flow};
+use crate::compare::compare;
+use crate::flows::{new_flow, new_state_flow};
 use flow_law::{Config, OutOfMemory};
 use flow_refusals::Refusing;
 use flow_shared::{
