@@ -27,6 +27,8 @@ mod handle_calls;
 #[cfg(test)]
 mod handles;
 #[cfg(test)]
+mod host;
+#[cfg(test)]
 mod lent;
 #[cfg(test)]
 mod one_thread;
