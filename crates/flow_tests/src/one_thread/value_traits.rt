@@ -1,6 +1,7 @@
 //! The traits of values that own memory: what they print, when they are equal, and that equal values have equal hashes.
 use crate::compare::compare;
-use crate::one_thread::values::{boxed, items};
+use crate::one_thread::values::items;
+use crate::values::boxed;
 use flow_law::{OutOfMemory, Text};
 use flow_refusals::Refusing;
 use std::alloc::Global;

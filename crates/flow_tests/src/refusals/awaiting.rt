@@ -4,7 +4,7 @@ ghost use Rattle.std.specs.Prelude.{◌≡◌};
 
 use crate::compare::compare;
 use crate::refusals::flows::SMALL;
-use crate::values::Numbered;
+use crate::values::boxed;
 use flow_law::{Boxed, FlowFault};
 use flow_refusals::Refusing;
 use flow_shared::{EmitFuture, Emitted, NextFuture, Seat, Sent, SharedFlow, Subscription};
@@ -15,13 +15,13 @@ use std::process::Abort;
 use std::sync::Wait;
 
 /// Emits 3, which is refused. Returns the seat and the value, which are handed back.
-fn emit_now<R: Abort, T: Numbered<Memory = A>, A: Allocator + Copy>(
+fn emit_now<R: Abort, A: Allocator + Copy>(
     rt: &R,
-    flow: &SharedFlow<T, A>,
-    seat: Seat<T, A>,
-    value: T,
+    flow: &SharedFlow<Boxed<i64, A>, A>,
+    seat: Seat<Boxed<i64, A>, A>,
+    value: Boxed<i64, A>,
     refusing: &Refusing<Global>,
-) -> (Seat<T, A>, T)
+) -> (Seat<Boxed<i64, A>, A>, Boxed<i64, A>)
     requires { seat.table_id ≡ flow.now.table_id }
     ensures { result.0.table_id ≡ flow.entry.now.table_id }
 {
@@ -36,14 +36,14 @@ fn emit_now<R: Abort, T: Numbered<Memory = A>, A: Allocator + Copy>(
 }
 
 /// Emits 3 by a future, which is refused. Returns the seat and the value, which are handed back.
-fn emit_later<R: Abort, T: Numbered<Memory = A>, A: Allocator + Copy>(
+fn emit_later<R: Abort, A: Allocator + Copy>(
     rt: &R,
     task: &MockTask,
-    flow: &SharedFlow<T, A>,
-    seat: Seat<T, A>,
-    value: T,
+    flow: &SharedFlow<Boxed<i64, A>, A>,
+    seat: Seat<Boxed<i64, A>, A>,
+    value: Boxed<i64, A>,
     refusing: &Refusing<Global>,
-) -> (Seat<T, A>, T)
+) -> (Seat<Boxed<i64, A>, A>, Boxed<i64, A>)
     requires { seat.table_id ≡ flow.now.table_id }
     ensures { result.0.table_id ≡ flow.entry.now.table_id }
 {
@@ -51,7 +51,7 @@ fn emit_later<R: Abort, T: Numbered<Memory = A>, A: Allocator + Copy>(
     match task.poll(&mut EmitFuture::new(flow, seat, value)) {
         Poll::Ready(Sent::Refused(seat, value, fault)) => {
             compare(rt, "a refused EmitFuture", fault, FlowFault::OutOfMemory);
-            compare(rt, "the value that it hands back", value.number(), 3);
+            compare(rt, "the value that it hands back", *value.value(), 3);
             (seat, value)
         }
         _ => panic!(rt; "it is refused"),
@@ -59,12 +59,12 @@ fn emit_later<R: Abort, T: Numbered<Memory = A>, A: Allocator + Copy>(
 }
 
 /// Emits a value that has to wait. Checks that its future asks for memory once.
-fn emits<R: Abort, T: Numbered<Memory = A>, A: Allocator + Copy>(
+fn emits<R: Abort, A: Allocator + Copy>(
     rt: &R,
     task: &MockTask,
-    flow: &SharedFlow<T, A>,
-    seat: Seat<T, A>,
-    value: T,
+    flow: &SharedFlow<Boxed<i64, A>, A>,
+    seat: Seat<Boxed<i64, A>, A>,
+    value: Boxed<i64, A>,
     refusing: &Refusing<Global>,
 )
     requires { seat.table_id ≡ flow.now.table_id }
@@ -76,12 +76,12 @@ fn emits<R: Abort, T: Numbered<Memory = A>, A: Allocator + Copy>(
 }
 
 /// Polls a future that receives, which is ready. Returns its subscription, and what it received.
-fn poll_next<R: Abort, T: Numbered<Memory = A>, A: Allocator + Copy>(
+fn poll_next<R: Abort, A: Allocator + Copy>(
     rt: &R,
     task: &MockTask,
-    flow: &SharedFlow<T, A>,
-    subscription: Subscription<T, A>,
-) -> (Subscription<T, A>, Result<T, FlowFault>)
+    flow: &SharedFlow<Boxed<i64, A>, A>,
+    subscription: Subscription<Boxed<i64, A>, A>,
+) -> (Subscription<Boxed<i64, A>, A>, Result<Boxed<i64, A>, FlowFault>)
     requires { subscription.token.table_id ≡ flow.now.table_id }
     ensures { result.0.token.table_id ≡ flow.entry.now.table_id }
 {
@@ -92,13 +92,13 @@ fn poll_next<R: Abort, T: Numbered<Memory = A>, A: Allocator + Copy>(
 }
 
 /// Receives by a future, which is refused. Returns the subscription, which is handed back.
-fn receive_later<R: Abort, T: Numbered<Memory = A>, A: Allocator + Copy>(
+fn receive_later<R: Abort, A: Allocator + Copy>(
     rt: &R,
     task: &MockTask,
-    flow: &SharedFlow<T, A>,
-    subscription: Subscription<T, A>,
+    flow: &SharedFlow<Boxed<i64, A>, A>,
+    subscription: Subscription<Boxed<i64, A>, A>,
     refusing: &Refusing<Global>,
-) -> Subscription<T, A>
+) -> Subscription<Boxed<i64, A>, A>
     requires { subscription.token.table_id ≡ flow.now.table_id }
     ensures { result.token.table_id ≡ flow.entry.now.table_id }
 {
@@ -109,11 +109,11 @@ fn receive_later<R: Abort, T: Numbered<Memory = A>, A: Allocator + Copy>(
 }
 
 /// Receives the first value. Checks that its future asks for memory once.
-fn receives<R: Abort, T: Numbered<Memory = A>, A: Allocator + Copy>(
+fn receives<R: Abort, A: Allocator + Copy>(
     rt: &R,
     task: &MockTask,
-    flow: &SharedFlow<T, A>,
-    subscription: Subscription<T, A>,
+    flow: &SharedFlow<Boxed<i64, A>, A>,
+    subscription: Subscription<Boxed<i64, A>, A>,
     refusing: &Refusing<Global>,
 )
     requires { subscription.token.table_id ≡ flow.now.table_id }
@@ -121,36 +121,36 @@ fn receives<R: Abort, T: Numbered<Memory = A>, A: Allocator + Copy>(
     refusing.refuse(2);
     let (_subscription, received) = poll_next(rt, task, flow, subscription);
     match received {
-        Ok(value) => compare(rt, "the first value", value.number(), 1),
+        Ok(value) => compare(rt, "the first value", *value.value(), 1),
         Err(_fault) => panic!(rt; "it is received"),
     }
     compare(rt, "one request alone", refusing.is_waiting(), true);
 }
 
 /// Emits the value with this number. Ends the test unless the flow takes it.
-fn fill<R: Wait + Abort, T: Numbered<Memory = A>, A: Allocator + Copy>(
+fn fill<R: Wait + Abort, A: Allocator + Copy>(
     rt: &R,
     memory: A,
-    flow: &SharedFlow<T, A>,
-    seat: &mut Seat<T, A>,
+    flow: &SharedFlow<Boxed<i64, A>, A>,
+    seat: &mut Seat<Boxed<i64, A>, A>,
     number: i64,
 )
     requires { seat.old.table_id ≡ flow.now.table_id }
     ensures { seat.new.table_id ≡ flow.entry.now.table_id }
 {
-    let taken = flow.try_emit(rt, seat, T::of(rt, memory, number));
+    let taken = flow.try_emit(rt, seat, boxed(rt, memory, number));
     compare(rt, "try_emit", taken.ok(), Some(true));
 }
 
 /// Returns a flow into which 1 and 2 were emitted, a seat of it, and a subscriber that has received neither.
-fn full_flow<R: Wait + Abort, T: Numbered<Memory = A>, A: Allocator + Copy>(
+fn full_flow<R: Wait + Abort, A: Allocator + Copy>(
     rt: &R,
     memory: A,
-) -> (SharedFlow<T, A>, Seat<T, A>, Subscription<T, A>)
+) -> (SharedFlow<Boxed<i64, A>, A>, Seat<Boxed<i64, A>, A>, Subscription<Boxed<i64, A>, A>)
     ensures { (result.1.table_id ≡ result.0.table_id) ×
         (result.2.token.table_id ≡ result.0.table_id) }
 {
-    let Ok((flow, mut seat)) = SharedFlow::<T, A>::new(memory, SMALL) else {
+    let Ok((flow, mut seat)) = SharedFlow::<Boxed<i64, A>, A>::new(memory, SMALL) else {
         panic!(rt; "a flow")
     };
     let Ok(subscription) = flow.subscribe(rt, &mut seat) else {
@@ -162,14 +162,14 @@ fn full_flow<R: Wait + Abort, T: Numbered<Memory = A>, A: Allocator + Copy>(
 }
 
 /// Emits a third value, which waits, and receives the first one. Both are first refused, as calls and as futures.
-fn play<R: Wait + Abort, T: Numbered<Memory = A>, A: Allocator + Copy>(
+fn play<R: Wait + Abort, A: Allocator + Copy>(
     rt: &R,
     task: &MockTask,
     memory: A,
     refusing: &Refusing<Global>,
 ) {
-    let (flow, seat, mut subscription) = full_flow::<R, T, A>(rt, memory);
-    let (seat, value) = emit_now(rt, &flow, seat, T::of(rt, memory, 3), refusing);
+    let (flow, seat, mut subscription) = full_flow(rt, memory);
+    let (seat, value) = emit_now(rt, &flow, seat, boxed(rt, memory, 3), refusing);
     let (seat, value) = emit_later(rt, task, &flow, seat, value, refusing);
     emits(rt, task, &flow, seat, value, refusing);
     refusing.refuse(1);
@@ -183,5 +183,5 @@ fn play<R: Wait + Abort, T: Numbered<Memory = A>, A: Allocator + Copy>(
 fn calls_at_once_and_futures_are_refused(rt: HostRuntime) {
     let memory = Refusing::new(rt.alloc());
     let task = MockTask::new(&rt).expect(&rt, "a task");
-    play::<_, Boxed<i64, _>, _>(&rt, &task, &memory, &memory);
+    play(&rt, &task, &memory, &memory);
 }
