@@ -1,11 +1,9 @@
 //! Calls on handles of shared flows without contracts, for tests that only compare what is returned.
+use crate::host::Host;
 use flow_law::{Exhausted, NumberError, OutOfMemory, Rejected};
 use flow_shared::{Emitter, Reader};
 use futures::executor::block_on;
 use futures::{Stream, StreamExt};
-use std::alloc::AllocGlobal;
-use std::process::Abort;
-use std::random::RandomSource;
 use std::sync::Wait;
 use std::thread::sleep;
 use std::time::{Clock, Duration};
@@ -44,11 +42,7 @@ pub fn pause<R: Clock>(rt: &R) {
 }
 
 /// Returns the next `count` values of a stream. Its task sleeps in an executor until the flow wakes it.
-pub fn next_of<R: Wait + Abort + RandomSource + AllocGlobal, S: Stream<Item: Drop>>(
-    rt: &R,
-    stream: S,
-    count: usize,
-) -> Vec<S::Item>
+pub fn next_of<R: Host, S: Stream<Item: Drop>>(rt: &R, stream: S, count: usize) -> Vec<S::Item>
     requires { S.can_poll stream }
 {
     match block_on(rt, stream.take(count).collect(rt.alloc())) {

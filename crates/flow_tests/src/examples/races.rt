@@ -3,12 +3,12 @@ use crate::compare::compare;
 use crate::flows::{new_flow, new_reader};
 use crate::handle_calls::{next, try_emit};
 use crate::handles::emissions::{cancel, emission_of};
+use crate::host::Host;
 use flow_law::Config;
 use flow_shared::{BoundEmission, Emitter, Reader};
 use std::alloc::Global;
-use std::process::Abort;
 use std::sync::{Barrier, Wait};
-use std::thread::{Threads, join, yield_now};
+use std::thread::{join, yield_now};
 
 /// The least number of races.
 const LEAST_RACES: u32 = 100;
@@ -40,7 +40,7 @@ fn waited<R: Wait>(rt: &R, start: &Barrier, run: u32, emission: BoundEmission<'_
 }
 
 /// Reads on one thread, and cancels the emission of this value on another one.
-fn read_beside_cancel<R: Threads + Wait + Abort + Sync>(
+fn read_beside_cancel<R: Host>(
     rt: &R,
     run: u32,
     reader: &mut Reader<'_, i64>,
@@ -58,11 +58,7 @@ fn read_beside_cancel<R: Threads + Wait + Abort + Sync>(
 
 /// Emits 2 into a full buffer of one value, and cancels the emission while the subscriber makes room. The subscriber
 /// receives 2 only if its read is first. Returns whether the cancel was first.
-fn waits_for_room<R: Threads + Wait + Abort + Sync>(
-    rt: &R,
-    run: u32,
-    emitter: &mut Emitter<'_, i64>,
-) -> bool {
+fn waits_for_room<R: Host>(rt: &R, run: u32, emitter: &mut Emitter<'_, i64>) -> bool {
     let mut reader = new_reader(rt, emitter);
     compare(rt, "try_emit", try_emit(rt, emitter, 1), Ok(true));
     let (first, was_waiting) = read_beside_cancel(rt, run, &mut reader, emitter, 2);
@@ -74,11 +70,7 @@ fn waits_for_room<R: Threads + Wait + Abort + Sync>(
 
 /// Offers 7 to two subscribers without a buffer, and cancels the emission while one of them reads. That one receives 7
 /// or nothing, and the other one nothing. Returns whether the cancel was first.
-fn is_offered<R: Threads + Wait + Abort + Sync>(
-    rt: &R,
-    run: u32,
-    emitter: &mut Emitter<'_, i64>,
-) -> bool {
+fn is_offered<R: Host>(rt: &R, run: u32, emitter: &mut Emitter<'_, i64>) -> bool {
     let mut other = new_reader(rt, emitter);
     let mut reader = new_reader(rt, emitter);
     let (taken, was_waiting) = read_beside_cancel(rt, run, &mut reader, emitter, 7);
@@ -90,7 +82,7 @@ fn is_offered<R: Threads + Wait + Abort + Sync>(
 }
 
 /// Races the two calls at a new flow with room for this number of values. Returns whether the cancel was first.
-fn race<R: Threads + Wait + Abort + Sync>(rt: &R, alloc: Global, run: u32, room: u32) -> bool {
+fn race<R: Host>(rt: &R, alloc: Global, run: u32, room: u32) -> bool {
     let (flow, seat) = new_flow(rt, alloc, Config::new().extra(room));
     let mut emitter = flow.emitter(seat);
     match room {
@@ -101,7 +93,7 @@ fn race<R: Threads + Wait + Abort + Sync>(rt: &R, alloc: Global, run: u32, room:
 
 /// Races the two calls more than `LEAST_RACES` times, and until each of them has been first. Ends the test if one was
 /// first in all `MOST_RACES` races.
-fn race_often<R: Threads + Wait + Abort + Sync>(rt: &R, alloc: Global, room: u32) {
+fn race_often<R: Host>(rt: &R, alloc: Global, room: u32) {
     let mut cancelled_first = 0u32;
     for run in 0..MOST_RACES {
         if race(rt, alloc, run, room) {

@@ -1,9 +1,9 @@
 //! Emissions that wait, by handles.
 use crate::handle_calls::pause;
+use crate::host::Host;
 use flow_shared::{BoundEmission, EmitAnswer, Emitter, PollAnswer};
 use std::process::Abort;
 use std::sync::Wait;
-use std::time::Clock;
 
 /// Returns the emission. Ends the test unless it has to wait.
 pub fn queued<'a, R: Abort, E: Drop>(
@@ -61,11 +61,7 @@ pub fn try_cancel(emission: BoundEmission<'_, i64>) -> bool {
 }
 
 /// Emits a value, and cancels its emission once another one waits behind it. Returns whether it waited.
-pub fn cancel_late<R: Wait + Clock + Abort>(
-    rt: &R,
-    emitter: &mut Emitter<'_, i64>,
-    value: i64,
-) -> bool {
+pub fn cancel_late<R: Host>(rt: &R, emitter: &mut Emitter<'_, i64>, value: i64) -> bool {
     let emission = emission_of(rt, emitter, value);
     pause(rt);
     pause(rt);

@@ -5,13 +5,12 @@ use crate::flows::{new_flow, new_reader};
 use crate::handle_calls::{next_of, pause, receive, send};
 use crate::handles::emissions::{cancel_late, emission_of};
 use crate::handles::shared::meet;
+use crate::host::Host;
 use flow_law::{Config, OutOfMemory};
 use flow_shared::{Emitter, Reader, SendEnd};
-use std::alloc::AllocGlobal;
 use std::process::Abort;
-use std::random::RandomSource;
 use std::sync::Wait;
-use std::thread::{Threads, join};
+use std::thread::join;
 use std::time::{Clock, Duration};
 
 fn an_hour() -> Duration {
@@ -84,10 +83,7 @@ fn a_value_that_comes_in_time_is_received(rt: HostRuntime) {
 }
 
 /// Cancels an emission of 1, behind which another one waits. Returns whether it waited, and the next value.
-fn cancel_and_receive<R: Wait + Clock + Abort>(
-    rt: &R,
-    reader: &mut Reader<'_, i64>,
-) -> (bool, Option<i64>) {
+fn cancel_and_receive<R: Host>(rt: &R, reader: &mut Reader<'_, i64>) -> (bool, Option<i64>) {
     let was_waiting = cancel_late(rt, &mut reader.another(), 1);
     (was_waiting, receive_in_time(rt, reader))
 }
@@ -108,7 +104,7 @@ fn a_value_behind_a_cancelled_one_is_received(rt: HostRuntime) {
 }
 
 /// Meets another reader, drops it and an emission of 6, and sends 7.
-fn drop_and_send<R: Wait + Clock + Abort>(rt: &R, emitter: &mut Emitter<'_, i64>) -> bool {
+fn drop_and_send<R: Host>(rt: &R, emitter: &mut Emitter<'_, i64>) -> bool {
     pause(rt);
     meet(rt, emitter);
     drop(emission_of(rt, emitter, 6));
@@ -179,10 +175,7 @@ fn send_slowly<R: Wait + Clock>(rt: &R, emitter: &mut Emitter<'_, i64>) -> bool 
 }
 
 /// Returns the first two items of the reader's stream.
-fn stream_two<R: Wait + Abort + RandomSource + AllocGlobal>(
-    rt: &R,
-    reader: Reader<'_, i64>,
-) -> Vec<Result<i64, OutOfMemory>> {
+fn stream_two<R: Host>(rt: &R, reader: Reader<'_, i64>) -> Vec<Result<i64, OutOfMemory>> {
     next_of(rt, reader.into_stream(), 2)
 }
 

@@ -2,22 +2,18 @@
 use crate::compare::compare;
 use crate::flows::{new_flow, new_reader};
 use crate::handle_calls::next;
+use crate::host::Host;
 use flow_law::Config;
 use flow_shared::{Emitter, ReceiveFuture, Received};
 use futures::Future;
 use futures::future::{ready, select};
 use futures::task::Poll;
 use futures::test::MockTask;
-use std::alloc::AllocGlobal;
 use std::process::Abort;
-use std::random::RandomSource;
 use std::sync::Wait;
 
 /// Polls a future once, and drops it. Returns whether it waited.
-fn poll_and_drop<R: Wait + Abort + RandomSource + AllocGlobal, F: Future<Output: Drop> + Drop>(
-    rt: &R,
-    mut future: F,
-) -> bool
+fn poll_and_drop<R: Host, F: Future<Output: Drop> + Drop>(rt: &R, mut future: F) -> bool
     requires { F.can_poll future }
 {
     let task = MockTask::new(rt).expect(rt, "a task");
@@ -25,11 +21,7 @@ fn poll_and_drop<R: Wait + Abort + RandomSource + AllocGlobal, F: Future<Output:
 }
 
 /// Polls a future that sends this value, and drops it. Returns whether it waited.
-fn poll_send<R: Wait + Abort + RandomSource + AllocGlobal>(
-    rt: &R,
-    emitter: &mut Emitter<'_, i64>,
-    value: i64,
-) -> bool {
+fn poll_send<R: Host>(rt: &R, emitter: &mut Emitter<'_, i64>, value: i64) -> bool {
     poll_and_drop(rt, emitter.another().into_send(value))
 }
 
@@ -50,20 +42,14 @@ fn received(poll: Poll<Received<i64>>) -> Option<i64> {
 }
 
 /// Polls a future of a new reader, and drops it. Returns what it received.
-fn poll_receive<R: Wait + Abort + RandomSource + AllocGlobal>(
-    rt: &R,
-    emitter: &mut Emitter<'_, i64>,
-) -> Option<i64> {
+fn poll_receive<R: Host>(rt: &R, emitter: &mut Emitter<'_, i64>) -> Option<i64> {
     let task = MockTask::new(rt).expect(rt, "a task");
     received(task.poll(&mut new_future(rt, emitter)))
 }
 
 /// Drops a future of a new reader before it is polled, since another future wins a `select`. Returns whether that one
 /// won at once.
-fn lose_select<R: Wait + Abort + RandomSource + AllocGlobal>(
-    rt: &R,
-    emitter: &mut Emitter<'_, i64>,
-) -> bool {
+fn lose_select<R: Host>(rt: &R, emitter: &mut Emitter<'_, i64>) -> bool {
     !poll_and_drop(rt, select(ready(7), new_future(rt, emitter)))
 }
 

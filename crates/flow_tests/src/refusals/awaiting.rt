@@ -81,7 +81,10 @@ fn poll_next<R: Abort, A: Allocator + Copy>(
     task: &MockTask,
     flow: &SharedFlow<Boxed<i64, A>, A>,
     subscription: Subscription<Boxed<i64, A>, A>,
-) -> (Subscription<Boxed<i64, A>, A>, Result<Boxed<i64, A>, FlowFault>)
+) -> (
+    Subscription<Boxed<i64, A>, A>,
+    Result<Boxed<i64, A>, FlowFault>,
+)
     requires { subscription.token.table_id ≡ flow.now.table_id }
     ensures { result.0.token.table_id ≡ flow.entry.now.table_id }
 {
@@ -146,7 +149,11 @@ fn fill<R: Wait + Abort, A: Allocator + Copy>(
 fn full_flow<R: Wait + Abort, A: Allocator + Copy>(
     rt: &R,
     memory: A,
-) -> (SharedFlow<Boxed<i64, A>, A>, Seat<Boxed<i64, A>, A>, Subscription<Boxed<i64, A>, A>)
+) -> (
+    SharedFlow<Boxed<i64, A>, A>,
+    Seat<Boxed<i64, A>, A>,
+    Subscription<Boxed<i64, A>, A>,
+)
     ensures { (result.1.table_id ≡ result.0.table_id) ×
         (result.2.token.table_id ≡ result.0.table_id) }
 {

@@ -1,15 +1,14 @@
 //! Two threads set the value of a word state while threads and tasks sleep until it changes.
 use crate::compare::compare;
 use crate::flows::{new_word_reader, new_word_state};
+use crate::host::Host;
 use flow_word::{ChangedFuture, WordReader, WordSetter};
 use futures::task::Poll;
 use futures::test::MockTask;
-use std::alloc::AllocGlobal;
 use std::process::Abort;
-use std::random::RandomSource;
 use std::sync::atomic::{AtomicU64, Ordering};
 use std::sync::{Barrier, Wait};
-use std::thread::{Threads, for_each_mut, yield_now};
+use std::thread::{for_each_mut, yield_now};
 use std::time::{Clock, Duration, Instant};
 
 /// The number of values that each setter sets.
@@ -169,10 +168,7 @@ fn new_sleeper<'a, R: Wait + Abort>(rt: &R, setter: &mut WordSetter<'a, i64>) ->
     }
 }
 
-fn new_poller<'a, R: Wait + Abort + RandomSource + AllocGlobal>(
-    rt: &R,
-    setter: &mut WordSetter<'a, i64>,
-) -> Caller<'a> {
+fn new_poller<'a, R: Host>(rt: &R, setter: &mut WordSetter<'a, i64>) -> Caller<'a> {
     let task = MockTask::new(rt).expect(rt, "a task");
     Caller {
         part: Part::Polls(Polling {
@@ -184,10 +180,7 @@ fn new_poller<'a, R: Wait + Abort + RandomSource + AllocGlobal>(
 }
 
 /// Lets all callers begin at the same time. Returns how many of them were not in time.
-fn run<R: Wait + Abort + Threads + Clock + RandomSource + AllocGlobal + Sync>(
-    rt: &R,
-    setter: &mut WordSetter<'_, i64>,
-) -> u32 {
+fn run<R: Host>(rt: &R, setter: &mut WordSetter<'_, i64>) -> u32 {
     let mut callers = [
         new_setter(setter, 1),
         new_setter(setter, 1_000_000),

@@ -1,12 +1,13 @@
 //! Calls that race on two threads at a word flow. Each race goes on until each of its outcomes was seen.
 use crate::compare::compare;
+use crate::host::Host;
 use crate::word_flows::{dropping, new_word_flow, new_word_flow_reader};
 use flow_law::{Busy, FlowFault, Refused};
 use flow_word_shared::{WordEmitter, WordFlowReader};
 use std::alloc::Global;
 use std::process::Abort;
 use std::sync::{Barrier, Wait};
-use std::thread::{Threads, join, yield_now};
+use std::thread::{join, yield_now};
 
 /// The greatest number of races. They end earlier once each outcome was seen.
 const MOST_RACES: u32 = 10_000;
@@ -44,7 +45,7 @@ fn overruns<R: Wait>(rt: &R, start: &Barrier, reader: &mut WordFlowReader<'_, i6
 
 /// Emits into a buffer of one value beside a reader. After the race the reader gets the last value, unless it has it.
 /// Returns how many of its attempts were overrun.
-fn race_reader<R: Threads + Wait + Abort + Sync>(rt: &R, alloc: Global) -> u32 {
+fn race_reader<R: Host>(rt: &R, alloc: Global) -> u32 {
     let (flow, seat) = new_word_flow(rt, alloc, dropping(0, 1, u64::MAX));
     let mut emitter = flow.emitter(seat);
     let mut reader = new_word_flow_reader(rt, &mut emitter);
@@ -102,7 +103,7 @@ fn attempts<R: Wait>(
 }
 
 /// Emits on two threads by attempts. Returns how many of these failed.
-fn race_emitters<R: Threads + Wait + Abort + Sync>(rt: &R, alloc: Global) -> u64 {
+fn race_emitters<R: Host>(rt: &R, alloc: Global) -> u64 {
     let (flow, seat) = new_word_flow(rt, alloc, dropping(0, 1, u64::MAX));
     let mut one = flow.emitter(seat);
     let mut other = one.another();
@@ -168,7 +169,7 @@ fn reset<R: Wait>(rt: &R, start: &Barrier, run: u32, emitter: &mut WordEmitter<'
 
 /// Empties the replay cache beside a subscription. The new reader gets 7 if it subscribed first, and an old reader gets it
 /// in any case. Returns whether the new reader got it.
-fn race_reset<R: Threads + Wait + Abort + Sync>(rt: &R, alloc: Global, run: u32) -> bool {
+fn race_reset<R: Host>(rt: &R, alloc: Global, run: u32) -> bool {
     let (flow, seat) = new_word_flow(rt, alloc, dropping(1, 0, u64::MAX));
     let mut emitter = flow.emitter(seat);
     let mut old = new_word_flow_reader(rt, &mut emitter);
