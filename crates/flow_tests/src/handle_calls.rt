@@ -4,8 +4,8 @@ use flow_law::{Exhausted, NumberError, OutOfMemory, Rejected};
 use flow_shared::{Emitter, Reader};
 use futures::executor::block_on;
 use futures::{Stream, StreamExt};
-use std::sync::Wait;
-use std::thread::sleep;
+use std::sync::{Barrier, Wait};
+use std::thread::{sleep, yield_now};
 use std::time::{Clock, Duration};
 
 /// Takes the next value, if there is one.
@@ -48,5 +48,15 @@ pub fn next_of<R: Host, S: Stream<Item: Drop>>(rt: &R, stream: S, count: usize) 
     match block_on(rt, stream.take(count).collect(rt.alloc())) {
         Ok(Ok(values)) => values,
         _ => panic!(rt; "values"),
+    }
+}
+
+/// Waits until the other thread has begun. In every fourth run it then yields, so that the other thread can be first.
+pub fn begin<R: Wait>(rt: &R, start: &Barrier, run: u32) {
+    let _order = start.wait(rt);
+    if run % 4 == 0 {
+        for _ in 0..20 {
+            yield_now();
+        }
     }
 }

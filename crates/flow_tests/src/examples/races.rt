@@ -1,14 +1,14 @@
 //! A `cancel` and a `next` that race on two threads. Whichever is first, the subscribers receive what is documented.
 use crate::compare::compare;
 use crate::flows::{new_flow, new_reader};
-use crate::handle_calls::{next, try_emit};
+use crate::handle_calls::{begin, next, try_emit};
 use crate::handles::emissions::{cancel, emission_of};
 use crate::host::Host;
 use flow_law::Config;
 use flow_shared::{BoundEmission, Emitter, Reader};
 use std::alloc::Global;
 use std::sync::{Barrier, Wait};
-use std::thread::{join, yield_now};
+use std::thread::join;
 
 /// The least number of races.
 const LEAST_RACES: u32 = 100;
@@ -16,16 +16,6 @@ const LEAST_RACES: u32 = 100;
 /// The greatest number of races. They end earlier if each of the two calls has been first, but not before the least
 /// number.
 const MOST_RACES: u32 = 10_000;
-
-/// Waits until the other thread has begun. In every fourth run it then yields, so that the other thread can be first.
-fn begin<R: Wait>(rt: &R, start: &Barrier, run: u32) {
-    let _order = start.wait(rt);
-    if run % 4 == 0 {
-        for _ in 0..20 {
-            yield_now();
-        }
-    }
-}
 
 /// Reads once. Returns the value that the reader receives, if any.
 fn read<R: Wait>(rt: &R, start: &Barrier, run: u32, reader: &mut Reader<'_, i64>) -> Option<i64> {

@@ -26,17 +26,6 @@ pub fn emission_of<'a, R: Wait + Abort>(
     queued(rt, emitter.another().emit(rt, value))
 }
 
-/// Polls an emission, and returns it if it still waits.
-pub fn poll<'a, R: Wait>(
-    rt: &R,
-    emission: BoundEmission<'a, i64>,
-) -> Option<BoundEmission<'a, i64>> {
-    match emission.poll(rt) {
-        PollAnswer::Waiting(emission) => Some(emission),
-        PollAnswer::Done(_emitter) => None,
-    }
-}
-
 /// Polls an emission without waiting for other callers, and returns it if it still waits.
 pub fn try_poll<'a>(emission: BoundEmission<'a, i64>) -> Option<BoundEmission<'a, i64>> {
     match emission.try_poll() {

@@ -28,39 +28,35 @@ fn sends_late<R: Wait + Clock>(rt: &R, emitter: &mut Emitter<'_, i64>, value: i6
     sends(rt, emitter, value)
 }
 
-fn unsubscribe<R: Wait + Clock>(rt: &R, reader: Reader<'_, i64>) {
+/// Unsubscribes, or drops the reader.
+fn leave<R: Wait + Clock>(rt: &R, reader: Reader<'_, i64>, is_dropped: bool) {
     pause(rt);
-    drop(reader.unsubscribe(rt));
+    if is_dropped {
+        drop(reader);
+    } else {
+        drop(reader.unsubscribe(rt));
+    }
 }
 
-/// Without a buffer `emit` suspends until each subscriber has received the value, or has unsubscribed.
+/// Sends a value to a reader that leaves without it.
+fn send_to_one_that_leaves<R: Host>(rt: &R, emitter: &mut Emitter<'_, i64>, is_dropped: bool) {
+    let reader = new_reader(rt, emitter);
+    let (is_sent, ()) = join(
+        rt,
+        || sends(rt, emitter, 7),
+        || leave(rt, reader, is_dropped),
+    );
+    compare(rt, "the value was sent", is_sent, true);
+    compare(rt, "subscribers", emitter.subscription_count(rt), 0);
+}
+
+/// Without a buffer `emit` suspends until each subscriber has received the value, or has left.
 #[test]
 fn a_wait_ends_when_the_subscriber_leaves(rt: HostRuntime) {
     let (flow, seat) = new_flow(&rt, rt.alloc(), Config::new());
     let mut emitter = flow.emitter(seat);
-    let reader = new_reader(&rt, &mut emitter);
-    let (is_sent, ()) = join(
-        &rt,
-        || sends(&rt, &mut emitter, 7),
-        || unsubscribe(&rt, reader),
-    );
-    compare(&rt, "the value was sent", is_sent, true);
-    compare(&rt, "subscribers", emitter.subscription_count(&rt), 0);
-}
-
-fn let_go<R: Clock>(rt: &R, reader: Reader<'_, i64>) {
-    pause(rt);
-    drop(reader);
-}
-
-#[test]
-fn a_wait_ends_when_the_reader_is_dropped(rt: HostRuntime) {
-    let (flow, seat) = new_flow(&rt, rt.alloc(), Config::new());
-    let mut emitter = flow.emitter(seat);
-    let reader = new_reader(&rt, &mut emitter);
-    let (is_sent, ()) = join(&rt, || sends(&rt, &mut emitter, 7), || let_go(&rt, reader));
-    compare(&rt, "the value was sent", is_sent, true);
-    compare(&rt, "subscribers", emitter.subscription_count(&rt), 0);
+    send_to_one_that_leaves(&rt, &mut emitter, false);
+    send_to_one_that_leaves(&rt, &mut emitter, true);
 }
 
 /// Returns the next value that comes in time, if any.

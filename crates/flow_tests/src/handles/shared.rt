@@ -4,7 +4,7 @@ ghost use Rattle.std.specs.Prelude.{◌≡◌};
 use crate::compare::compare;
 use crate::flows::{new_flow, new_reader};
 use crate::handle_calls::{next, receive, send, try_emit};
-use crate::handles::emissions::{cancel, emission_of, poll, queued, try_cancel, try_poll};
+use crate::handles::emissions::{cancel, emission_of, queued, try_cancel, try_poll};
 use flow_law::{Config, Exhausted, NumberError, Rejected};
 use flow_shared::{DrainEnd, Emitter, Reader, SharedFlow};
 use std::alloc::AllocGlobal;
@@ -120,18 +120,6 @@ fn a_dropped_reader_ends_its_subscription(rt: HostRuntime) {
     drop(other);
     compare(&rt, "subscribers", emitter.subscription_count(&rt), 1);
     compare(&rt, "try_emit 2", try_emit(&rt, &mut emitter, 2), Ok(true));
-}
-
-/// Without a buffer an emission waits until the subscriber has received its value.
-#[test]
-fn an_emission_waits_until_it_is_received(rt: HostRuntime) {
-    let (flow, seat) = new_flow(&rt, rt.alloc(), Config::new());
-    let mut emitter = flow.emitter(seat);
-    let mut reader = new_reader(&rt, &mut emitter);
-    let emission = poll(&rt, emission_of(&rt, &mut emitter, 1)).expect(&rt, "it waits");
-    let emission = try_poll(emission).expect(&rt, "it waits");
-    compare(&rt, "next", next(&rt, &mut reader), Ok(Some(1)));
-    compare(&rt, "done", poll(&rt, emission).is_none(), true);
 }
 
 /// No reader receives the value of an emission that was dropped, or cancelled.

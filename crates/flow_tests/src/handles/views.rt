@@ -54,12 +54,8 @@ fn read_shared<R: Host>(rt: &R, view: &mut SharedView<'_, i64>) {
     compare(rt, "next", reader.next(rt), Ok(Some(2)));
     compare(rt, "value", reader.values(rt).next(), Some(Ok(3)));
     let millis = Duration::from_millis(1);
-    compare(
-        rt,
-        "in time",
-        reader.values_until(rt, millis).next(),
-        Some(Ok(4)),
-    );
+    let value = reader.values_until(rt, millis).next();
+    compare(rt, "in time", value, Some(Ok(4)));
     compare(rt, "no more", reader.receive_timeout(rt, millis), Ok(None));
     let mut back = reader.unsubscribe(rt);
     let cache = back.replay_cache(rt).expect(rt, "a list");
@@ -89,18 +85,10 @@ fn read_state<R: Host>(rt: &R, view: &mut StateView<'_, i64>) {
     let mut reader = view.subscribe(rt).expect(rt, "a reader");
     compare(rt, "changed", reader.changed(rt), Ok(7));
     let millis = Duration::from_millis(1);
-    compare(
-        rt,
-        "not changed",
-        reader.changed_timeout(rt, millis),
-        Ok(None),
-    );
-    compare(
-        rt,
-        "wait_for",
-        reader.wait_for(rt, |value| *value == 7),
-        Ok(7),
-    );
+    let late = reader.changed_timeout(rt, millis);
+    compare(rt, "not changed", late, Ok(None));
+    let found = reader.wait_for(rt, |value| *value == 7);
+    compare(rt, "wait_for", found, Ok(7));
 }
 
 /// A view of a state flow reads the state and subscribes.

@@ -89,39 +89,19 @@ fn a_text_is_refused_without_memory(rt: HostRuntime) {
 #[test]
 fn a_list_is_compared_and_printed_by_its_values(rt: HostRuntime) {
     let list = items(&rt, rt.alloc(), 0, &[1, 2]);
-    are_equal(
-        &rt,
-        "a list of the same values",
-        &list,
-        &items(&rt, rt.alloc(), 0, &[1, 2]),
-        true,
-    );
-    are_equal(
-        &rt,
-        "a shorter list",
-        &list,
-        &items(&rt, rt.alloc(), 0, &[1]),
-        false,
-    );
+    let same = items(&rt, rt.alloc(), 0, &[1, 2]);
+    are_equal(&rt, "the same values", &list, &same, true);
+    let shorter = items(&rt, rt.alloc(), 0, &[1]);
+    are_equal(&rt, "a shorter list", &list, &shorter, false);
     is_printed(&rt, rt.alloc(), &list, "[1, 2]");
 }
 
 #[test]
 fn a_box_is_compared_and_printed_by_its_value(rt: HostRuntime) {
     let seven = boxed(&rt, rt.alloc(), 7);
-    are_equal(
-        &rt,
-        "a box of the same value",
-        &seven,
-        &boxed(&rt, rt.alloc(), 7),
-        true,
-    );
-    are_equal(
-        &rt,
-        "a box of another value",
-        &seven,
-        &boxed(&rt, rt.alloc(), 8),
-        false,
-    );
+    let same = boxed(&rt, rt.alloc(), 7);
+    are_equal(&rt, "the same value", &seven, &same, true);
+    let other = boxed(&rt, rt.alloc(), 8);
+    are_equal(&rt, "another value", &seven, &other, false);
     is_printed(&rt, rt.alloc(), &seven, "7");
 }

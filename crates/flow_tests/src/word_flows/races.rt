@@ -1,5 +1,6 @@
 //! Calls that race on two threads at a word flow. Each race goes on until each of its outcomes was seen.
 use crate::compare::compare;
+use crate::handle_calls::begin;
 use crate::host::Host;
 use crate::word_flows::{dropping, new_word_flow, new_word_flow_reader};
 use flow_law::{Busy, FlowFault, Refused};
@@ -7,7 +8,7 @@ use flow_word_shared::{WordEmitter, WordFlowReader};
 use std::alloc::Global;
 use std::process::Abort;
 use std::sync::{Barrier, Wait};
-use std::thread::{join, yield_now};
+use std::thread::join;
 
 /// The greatest number of races. They end earlier once each outcome was seen.
 const MOST_RACES: u32 = 10_000;
@@ -57,12 +58,8 @@ fn race_reader<R: Host>(rt: &R, alloc: Global) -> u32 {
     );
     compare(rt, "emitted", emitted, true);
     let rest = reader.next(rt);
-    compare(
-        rt,
-        "nothing or the last value is left",
-        rest == None || rest == Some(CALLS),
-        true,
-    );
+    let is_last = rest == None || rest == Some(CALLS);
+    compare(rt, "nothing or the last value is left", is_last, true);
     compare(rt, "next", reader.next(rt), None);
     overrun.expect(rt, "rising values")
 }
@@ -120,12 +117,8 @@ fn race_emitters<R: Host>(rt: &R, alloc: Global) -> u64 {
     drop(other);
     let seat = last.into_seat();
     let closed = flow.close(seat);
-    compare(
-        rt,
-        "emitted",
-        closed.emitted(),
-        first.0.wrapping_add(second.0),
-    );
+    let emitted = first.0.wrapping_add(second.0);
+    compare(rt, "emitted", closed.emitted(), emitted);
     first.1.wrapping_add(second.1)
 }
 
@@ -137,16 +130,6 @@ fn an_emission_beside_another_one_is_busy(rt: HostRuntime) {
         }
     }
     panic!(rt; "no emission was busy");
-}
-
-/// Waits until the other thread has begun. In every fourth run it then yields, so that the other thread can be first.
-fn begin<R: Wait>(rt: &R, start: &Barrier, run: u32) {
-    let _order = start.wait(rt);
-    if run % 4 == 0 {
-        for _ in 0..20 {
-            yield_now();
-        }
-    }
 }
 
 /// Subscribes, and reads twice.
@@ -182,12 +165,8 @@ fn race_reset<R: Host>(rt: &R, alloc: Global, run: u32) -> bool {
         || reset(rt, &start, run.wrapping_add(2), &mut other),
     );
     compare(rt, "next of the old reader", old.next(rt), Some(7));
-    compare(
-        rt,
-        "nothing or 7 first",
-        received.0 == None || received.0 == Some(7),
-        true,
-    );
+    let is_seven = received.0 == None || received.0 == Some(7);
+    compare(rt, "nothing or 7 first", is_seven, true);
     compare(rt, "nothing next", received.1, None);
     received.0 == Some(7)
 }
