@@ -36,6 +36,11 @@ pub fn send<R: Wait>(
     emitter.send(rt, value)
 }
 
+/// A limit that no test reaches.
+pub fn an_hour() -> Duration {
+    Duration::from_secs(3_600)
+}
+
 /// Pauses until another thread has probably fallen asleep.
 pub fn pause<R: Clock>(rt: &R) {
     sleep(rt, Duration::from_millis(5));

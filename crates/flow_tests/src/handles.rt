@@ -10,6 +10,5 @@ mod shared;
 mod state;
 mod states;
 mod tasks;
-mod tokens;
 mod views;
 mod word;

@@ -3,7 +3,6 @@
 //! `BufferOverflow` and `MutableStateFlow`.
 mod caller;
 mod drains;
-mod hints;
 mod lags;
 mod limited;
 mod many;

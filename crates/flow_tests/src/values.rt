@@ -1,7 +1,7 @@
-//! Boxed numbers, whose copies take memory.
+//! Texts and boxed numbers, whose copies take memory.
 use crate::compare::{compare, compare_step};
-use flow_law::{Boxed, Next};
-use std::alloc::Allocator;
+use flow_law::{Boxed, Next, Text};
+use std::alloc::{Allocator, Global};
 use std::fmt::Debug;
 use std::process::Abort;
 
@@ -52,4 +52,8 @@ pub fn are<S: Debug, A: Allocator + Copy>(
     for (boxed, number) in values.iter().zip(numbers) {
         compare_step(rt, row, step, *boxed.value(), *number);
     }
+}
+
+pub fn text(rt: &impl Abort, alloc: Global, text: &str) -> Text {
+    Text::from_str(alloc, text).expect(rt, "memory")
 }

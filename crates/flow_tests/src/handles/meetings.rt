@@ -2,7 +2,7 @@
 //! takes: a sleeper that is not woken fails.
 use crate::compare::compare;
 use crate::flows::{new_flow, new_reader};
-use crate::handle_calls::{next_of, pause, receive, send};
+use crate::handle_calls::{an_hour, next_of, pause, receive, send};
 use crate::handles::emissions::{cancel_late, emission_of};
 use crate::handles::shared::meet;
 use crate::host::Host;
@@ -11,11 +11,7 @@ use flow_shared::{Emitter, Reader, SendEnd};
 use std::process::Abort;
 use std::sync::Wait;
 use std::thread::join;
-use std::time::{Clock, Duration};
-
-fn an_hour() -> Duration {
-    Duration::from_secs(3_600)
-}
+use std::time::Clock;
 
 /// Sends a value. Returns whether the flow took it.
 fn sends<R: Wait + Clock>(rt: &R, emitter: &mut Emitter<'_, i64>, value: i64) -> bool {

@@ -6,7 +6,7 @@ use crate::flows::{new_flow, new_reader};
 use crate::handle_calls::{next, receive, send, try_emit};
 use crate::handles::emissions::{cancel, emission_of, queued, try_cancel, try_poll};
 use flow_law::{Config, Exhausted, NumberError, Rejected};
-use flow_shared::{DrainEnd, Emitter, Reader, SharedFlow};
+use flow_shared::{DrainEnd, EmitAnswer, Emitter, Reader, Seat, SharedFlow};
 use std::alloc::AllocGlobal;
 use std::process::Abort;
 use std::sync::Wait;
@@ -151,4 +151,22 @@ fn a_reader_drains(rt: HostRuntime) {
     let end = reader.drain(&rt, 9, &mut values);
     compare(&rt, "drain of 9", end, Ok(DrainEnd::Empty));
     compare(&rt, "the values", values.as_slice(), [1, 2].as_slice());
+}
+
+/// Emits 4, takes the emission out of its handle, binds it again and cancels it. Returns whether it waited.
+fn is_bound_again<R: Wait>(rt: &R, flow: &SharedFlow<i64>, seat: Seat<i64>) -> bool
+    requires { seat.table_id ≡ flow.now.table_id }
+{
+    match flow.emitter(seat).emit(rt, 4) {
+        EmitAnswer::Queued(emission) => flow.emission(emission.into_emission()).cancel(rt).1,
+        EmitAnswer::Done(_emitter) => false,
+        EmitAnswer::Refused(_emitter, _rejected) => false,
+    }
+}
+
+#[test]
+fn an_emission_gives_its_token_back(rt: HostRuntime) {
+    let (flow, mut seat) = new_flow(&rt, rt.alloc(), Config::new());
+    compare(&rt, "made", flow.subscribe(&rt, &mut seat).is_ok(), true);
+    compare(&rt, "it waited", is_bound_again(&rt, &flow, seat), true);
 }

@@ -1,7 +1,7 @@
 //! What holds of the handles of state flows and of word states alike. Each state begins with the value 7.
 use crate::compare::compare;
 use crate::flows::{new_state_flow, new_word_state};
-use crate::handle_calls::pause;
+use crate::handle_calls::{an_hour, pause};
 use crate::host::Host;
 use std::process::Abort;
 use std::sync::Wait;
@@ -37,11 +37,6 @@ pub trait Reads: Send + Drop {
 
     /// Returns the first item of the reader's stream.
     fn stream_one<R: Host>(self, rt: &R) -> Option<i64>;
-}
-
-/// A limit that no test reaches.
-fn an_hour() -> Duration {
-    Duration::from_secs(3_600)
 }
 
 /// `StateFlow.first { }` tests the current value first, whether or not the reader has received it.

@@ -130,21 +130,6 @@ fn receives<R: Abort, A: Allocator + Copy>(
     compare(rt, "one request alone", refusing.is_waiting(), true);
 }
 
-/// Emits the value with this number. Ends the test unless the flow takes it.
-fn fill<R: Wait + Abort, A: Allocator + Copy>(
-    rt: &R,
-    memory: A,
-    flow: &SharedFlow<Boxed<i64, A>, A>,
-    seat: &mut Seat<Boxed<i64, A>, A>,
-    number: i64,
-)
-    requires { seat.old.table_id ≡ flow.now.table_id }
-    ensures { seat.new.table_id ≡ flow.entry.now.table_id }
-{
-    let taken = flow.try_emit(rt, seat, boxed(rt, memory, number));
-    compare(rt, "try_emit", taken.ok(), Some(true));
-}
-
 /// Returns a flow into which 1 and 2 were emitted, a seat of it, and a subscriber that has received neither.
 fn full_flow<R: Wait + Abort, A: Allocator + Copy>(
     rt: &R,
@@ -157,14 +142,14 @@ fn full_flow<R: Wait + Abort, A: Allocator + Copy>(
     ensures { (result.1.table_id ≡ result.0.table_id) ×
         (result.2.token.table_id ≡ result.0.table_id) }
 {
-    let Ok((flow, mut seat)) = SharedFlow::<Boxed<i64, A>, A>::new(memory, SMALL) else {
-        panic!(rt; "a flow")
-    };
-    let Ok(subscription) = flow.subscribe(rt, &mut seat) else {
-        panic!(rt; "a subscription")
-    };
-    fill(rt, memory, &flow, &mut seat, 1);
-    fill(rt, memory, &flow, &mut seat, 2);
+    let made = SharedFlow::<Boxed<i64, A>, A>::new(memory, SMALL);
+    let (flow, mut seat) = made.expect(rt, "a flow");
+    let subscribed = flow.subscribe(rt, &mut seat);
+    let subscription = subscribed.expect(rt, "a subscription");
+    let taken = flow.try_emit(rt, &mut seat, boxed(rt, memory, 1));
+    compare(rt, "try_emit 1", taken.ok(), Some(true));
+    let taken = flow.try_emit(rt, &mut seat, boxed(rt, memory, 2));
+    compare(rt, "try_emit 2", taken.ok(), Some(true));
     (flow, seat, subscription)
 }
 

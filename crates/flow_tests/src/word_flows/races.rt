@@ -3,7 +3,7 @@ use crate::compare::compare;
 use crate::handle_calls::begin;
 use crate::host::Host;
 use crate::word_flows::{dropping, new_word_flow, new_word_flow_reader};
-use flow_law::{Busy, FlowFault, Refused};
+use flow_law::{Busy, FlowFault};
 use flow_word_shared::{WordEmitter, WordFlowReader};
 use std::alloc::Global;
 use std::process::Abort;
@@ -87,13 +87,12 @@ fn attempts<R: Wait>(
     for value in 1..=CALLS {
         match emitter.emit_now(value) {
             Ok(()) => emitted = emitted.wrapping_add(1),
-            Err(
-                Refused {
-                    value: back,
-                    fault: FlowFault::Busy,
-                },
-            ) if back == value => busy = busy.wrapping_add(1),
-            Err(_) => return None,
+            Err(refused) => {
+                if refused.value != value || refused.fault != FlowFault::Busy {
+                    return None;
+                }
+                busy = busy.wrapping_add(1);
+            }
         }
     }
     Some((emitted, busy))
