@@ -1,7 +1,5 @@
 //! Tests of handles: calls that no script makes, dropped handles, waits of threads and futures. The values are from
 //! kotlinx.coroutines' documentation.
-mod dropping;
-pub mod emissions;
 mod errors;
 mod meetings;
 mod owned;

@@ -4,7 +4,6 @@
 mod caller;
 mod drains;
 mod lags;
-mod limited;
 mod many;
 mod signs;
 mod state;

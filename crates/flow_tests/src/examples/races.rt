@@ -1,8 +1,7 @@
 //! A `cancel` and a `next` that race on two threads. Whichever is first, the subscribers receive what is documented.
 use crate::compare::compare;
 use crate::flows::{new_flow, new_reader};
-use crate::handle_calls::{begin, next, try_emit};
-use crate::handles::emissions::{cancel, emission_of};
+use crate::handle_calls::{begin, cancel, emission_of, next, try_emit};
 use crate::host::Host;
 use flow_law::Config;
 use flow_shared::{BoundEmission, Emitter, Reader};

@@ -2,8 +2,7 @@
 //! takes: a sleeper that is not woken fails.
 use crate::compare::compare;
 use crate::flows::{new_flow, new_reader};
-use crate::handle_calls::{an_hour, next_of, pause, receive, send};
-use crate::handles::emissions::{cancel_late, emission_of};
+use crate::handle_calls::{an_hour, cancel_late, emission_of, next_of, pause, receive, send};
 use crate::handles::shared::meet;
 use crate::host::Host;
 use flow_law::{Config, OutOfMemory};

@@ -3,8 +3,9 @@ ghost use Rattle.std.specs.Prelude.{◌≡◌};
 
 use crate::compare::compare;
 use crate::flows::{new_flow, new_reader};
-use crate::handle_calls::{next, receive, send, try_emit};
-use crate::handles::emissions::{cancel, emission_of, queued, try_cancel, try_poll};
+use crate::handle_calls::{
+    cancel, emission_of, next, queued, receive, send, try_cancel, try_emit, try_poll,
+};
 use flow_law::{Config, Exhausted, NumberError, Rejected};
 use flow_shared::{DrainEnd, EmitAnswer, Emitter, Reader, Seat, SharedFlow};
 use std::alloc::AllocGlobal;

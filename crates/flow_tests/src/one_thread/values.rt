@@ -1,6 +1,6 @@
 //! Lists and boxed values in flows. Two are the same if their contents are, as `StateFlow` compares by `equals`.
 use crate::compare::{compare, compare_step};
-use crate::one_thread::limited::list_of;
+use crate::one_thread::caller::list_of;
 use crate::values::boxed;
 use flow_core::{StateCore, SubId};
 use flow_law::{Boxed, FlowFault, FlowValue, Items, Next};

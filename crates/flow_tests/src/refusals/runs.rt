@@ -120,12 +120,7 @@ pub fn refuse_each<R: Wait + Abort>(rt: &R, alloc: Global, example: &Example) {
 /// Checks that the steps at these places, and no others, are those that take memory.
 fn are_refused(rt: &impl Abort, example: &Example, refused: &[usize]) {
     for (place, (step, takes_memory)) in example.steps.iter().enumerate() {
-        compare_step(
-            rt,
-            example.name,
-            step,
-            refused.contains(&place),
-            *takes_memory,
-        );
+        let is_refused = refused.contains(&place);
+        compare_step(rt, example.name, step, is_refused, *takes_memory);
     }
 }
