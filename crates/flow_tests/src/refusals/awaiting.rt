@@ -14,14 +14,20 @@ use std::alloc::{Allocator, Global};
 use std::process::Abort;
 use std::sync::Wait;
 
+type BoxFlow<A> = SharedFlow<Boxed<i64, A>, A>;
+
+type BoxSeat<A> = Seat<Boxed<i64, A>, A>;
+
+type BoxSubscription<A> = Subscription<Boxed<i64, A>, A>;
+
 /// Emits 3, which is refused. Returns the seat and the value, which are handed back.
 fn emit_now<R: Abort, A: Allocator + Copy>(
     rt: &R,
-    flow: &SharedFlow<Boxed<i64, A>, A>,
-    seat: Seat<Boxed<i64, A>, A>,
+    flow: &BoxFlow<A>,
+    seat: BoxSeat<A>,
     value: Boxed<i64, A>,
     refusing: &Refusing<Global>,
-) -> (Seat<Boxed<i64, A>, A>, Boxed<i64, A>)
+) -> (BoxSeat<A>, Boxed<i64, A>)
     requires { seat.table_id ≡ flow.now.table_id }
     ensures { result.0.table_id ≡ flow.entry.now.table_id }
 {
@@ -39,11 +45,11 @@ fn emit_now<R: Abort, A: Allocator + Copy>(
 fn emit_later<R: Abort, A: Allocator + Copy>(
     rt: &R,
     task: &MockTask,
-    flow: &SharedFlow<Boxed<i64, A>, A>,
-    seat: Seat<Boxed<i64, A>, A>,
+    flow: &BoxFlow<A>,
+    seat: BoxSeat<A>,
     value: Boxed<i64, A>,
     refusing: &Refusing<Global>,
-) -> (Seat<Boxed<i64, A>, A>, Boxed<i64, A>)
+) -> (BoxSeat<A>, Boxed<i64, A>)
     requires { seat.table_id ≡ flow.now.table_id }
     ensures { result.0.table_id ≡ flow.entry.now.table_id }
 {
@@ -62,8 +68,8 @@ fn emit_later<R: Abort, A: Allocator + Copy>(
 fn emits<R: Abort, A: Allocator + Copy>(
     rt: &R,
     task: &MockTask,
-    flow: &SharedFlow<Boxed<i64, A>, A>,
-    seat: Seat<Boxed<i64, A>, A>,
+    flow: &BoxFlow<A>,
+    seat: BoxSeat<A>,
     value: Boxed<i64, A>,
     refusing: &Refusing<Global>,
 )
@@ -79,12 +85,9 @@ fn emits<R: Abort, A: Allocator + Copy>(
 fn poll_next<R: Abort, A: Allocator + Copy>(
     rt: &R,
     task: &MockTask,
-    flow: &SharedFlow<Boxed<i64, A>, A>,
-    subscription: Subscription<Boxed<i64, A>, A>,
-) -> (
-    Subscription<Boxed<i64, A>, A>,
-    Result<Boxed<i64, A>, FlowFault>,
-)
+    flow: &BoxFlow<A>,
+    subscription: BoxSubscription<A>,
+) -> (BoxSubscription<A>, Result<Boxed<i64, A>, FlowFault>)
     requires { subscription.token.table_id ≡ flow.now.table_id }
     ensures { result.0.token.table_id ≡ flow.entry.now.table_id }
 {
@@ -98,10 +101,10 @@ fn poll_next<R: Abort, A: Allocator + Copy>(
 fn receive_later<R: Abort, A: Allocator + Copy>(
     rt: &R,
     task: &MockTask,
-    flow: &SharedFlow<Boxed<i64, A>, A>,
-    subscription: Subscription<Boxed<i64, A>, A>,
+    flow: &BoxFlow<A>,
+    subscription: BoxSubscription<A>,
     refusing: &Refusing<Global>,
-) -> Subscription<Boxed<i64, A>, A>
+) -> BoxSubscription<A>
     requires { subscription.token.table_id ≡ flow.now.table_id }
     ensures { result.token.table_id ≡ flow.entry.now.table_id }
 {
@@ -115,8 +118,8 @@ fn receive_later<R: Abort, A: Allocator + Copy>(
 fn receives<R: Abort, A: Allocator + Copy>(
     rt: &R,
     task: &MockTask,
-    flow: &SharedFlow<Boxed<i64, A>, A>,
-    subscription: Subscription<Boxed<i64, A>, A>,
+    flow: &BoxFlow<A>,
+    subscription: BoxSubscription<A>,
     refusing: &Refusing<Global>,
 )
     requires { subscription.token.table_id ≡ flow.now.table_id }
@@ -134,11 +137,7 @@ fn receives<R: Abort, A: Allocator + Copy>(
 fn full_flow<R: Wait + Abort, A: Allocator + Copy>(
     rt: &R,
     memory: A,
-) -> (
-    SharedFlow<Boxed<i64, A>, A>,
-    Seat<Boxed<i64, A>, A>,
-    Subscription<Boxed<i64, A>, A>,
-)
+) -> (BoxFlow<A>, BoxSeat<A>, BoxSubscription<A>)
     ensures { (result.1.table_id ≡ result.0.table_id) ×
         (result.2.token.table_id ≡ result.0.table_id) }
 {
