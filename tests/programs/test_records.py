@@ -9,8 +9,9 @@ import pytest
 
 from wumsnair_tools.built import top
 from record_pictures import bars_of, marked_in_text, words_of
+from hostile_records import whole
 from running import Outcome, case_id, expect, program, records, run
-from worked_records import worked_records
+from worked_records import made, worked_records
 
 RECORDS, WORKED = records(), worked_records()
 # The picture of docs/RECORDS.md.
@@ -62,6 +63,22 @@ def test_worked_record(flow_judge, what):
     told = came.printed.decode().splitlines()[:2]
     wanted = [verdict] if moment is None else [verdict, f"by moment {moment} no order explains the calls"]
     assert (came.status, [line.partition(";")[0] for line in told]) == (STATUS[verdict], wanted)
+
+
+# When a caller's first call ended, when its second one began and ended, and the key of the second call that is refused.
+OF_ONE_CALLER = [(2, 1, 3, "begin"), (2, 5, 4, "end"), (2, 2, 3, None)]
+
+
+@pytest.mark.parametrize("first_end, begin, end, key", OF_ONE_CALLER)
+def test_calls_of_one_caller(flow_judge, first_end, begin, end, key):
+    """A record is refused if the calls of one caller overlap, or if a call ends before it begins."""
+    second = made("t1", "set", begin, end, value=2)
+    came = run(flow_judge, text=whole(made("t1", "set", 0, first_end, value=1), second))
+    told = came.printed.decode()
+    if key is None:
+        assert (came.status, told) == (STATUS["legal"], "legal\n")
+    else:
+        assert came.status == STATUS["refused"] and f'call 2: {second[key]} is no value of "{key}"' in told
 
 
 def refused_ones(are_refused):
