@@ -8,8 +8,8 @@ their order."""
 import pytest
 
 from wumsnair_tools.built import top
-from record_pictures import bars_of, marked_in_text, words_of
 from hostile_records import whole
+from record_pictures import bars_of, marked_in_text, words_of
 from running import Outcome, case_id, expect, program, records, run
 from worked_records import made, worked_records
 

@@ -5,7 +5,6 @@ use crate::host::Host;
 use flow_word::{ChangedFuture, WordReader, WordSetter};
 use futures::task::Poll;
 use futures::test::MockTask;
-use std::process::Abort;
 use std::sync::atomic::{AtomicU64, Ordering};
 use std::sync::{Barrier, Wait};
 use std::thread::{for_each_mut, yield_now};
