@@ -1,4 +1,5 @@
-"""The verdicts and pictures of the records of examples/records, and the verdicts on calls of threads to this library's flows.
+"""The verdicts and pictures of the records of examples/records, the verdicts on the records of worked_records.py, and those on calls of
+threads to this library's flows.
 
 The verdict is the first word of the record's name. For an illegal or refused record the file .told beside it has what must be printed,
 typed by hand. A picture must mark the calls that the verdict lists. docs/pictures has one picture, which `tools/programs --write -k
@@ -7,10 +8,12 @@ their order."""
 import pytest
 
 from wumsnair_tools.built import top
+from hostile_records import whole
 from record_pictures import bars_of, marked_in_text, words_of
-from running import Outcome, expect, program, records, run
+from running import Outcome, case_id, expect, program, records, run
+from worked_records import made, worked_records
 
-RECORDS = records()
+RECORDS, WORKED = records(), worked_records()
 # The picture of docs/RECORDS.md.
 TORN = RECORDS["illegal_state_torn_exchange"]
 PICTURE = top / "docs" / "pictures" / "torn_exchange.svg"
@@ -49,6 +52,33 @@ def wanted_of(name):
     verdict = verdict_of(name)
     told = b"legal\n" if verdict == "legal" else RECORDS[name].with_suffix(".told").read_bytes()
     return Outcome(STATUS[verdict], told)
+
+
+@pytest.mark.parametrize("what", WORKED, ids=case_id)
+def test_worked_record(flow_judge, what):
+    """An illegal record also has the first moment at which no order explains its calls."""
+    record, moment = WORKED[what]
+    came = run(flow_judge, text=record)
+    verdict = "legal" if moment is None else "illegal"
+    told = came.printed.decode().splitlines()[:2]
+    wanted = [verdict] if moment is None else [verdict, f"by moment {moment} no order explains the calls"]
+    assert (came.status, [line.partition(";")[0] for line in told]) == (STATUS[verdict], wanted)
+
+
+# When a caller's first call ended, when its second one began and ended, and the key of the second call that is refused.
+OF_ONE_CALLER = [(2, 1, 3, "begin"), (2, 5, 4, "end"), (2, 2, 3, None)]
+
+
+@pytest.mark.parametrize("first_end, begin, end, key", OF_ONE_CALLER)
+def test_calls_of_one_caller(flow_judge, first_end, begin, end, key):
+    """A record is refused if the calls of one caller overlap, or if a call ends before it begins."""
+    second = made("t1", "set", begin, end, value=2)
+    came = run(flow_judge, text=whole(made("t1", "set", 0, first_end, value=1), second))
+    told = came.printed.decode()
+    if key is None:
+        assert (came.status, told) == (STATUS["legal"], "legal\n")
+    else:
+        assert came.status == STATUS["refused"] and f'call 2: {second[key]} is no value of "{key}"' in told
 
 
 def refused_ones(are_refused):

@@ -1,5 +1,5 @@
 //! A state flow for several threads as the hub of a sharing.
-ghost use Rattle.std.specs.Prelude.{◌≡◌, false};
+ghost use Rattle.std.specs.Prelude.{◌≡◌, ⊤, false};
 ghost use Rattle.flow_sharing.specs.SeatedHub.{seated, made_two};
 
 use flow_law::{FlowFault, FlowValue, Refused};

@@ -1,7 +1,90 @@
-//! Tests of the checker of recorded histories: records with verdicts that are worked out by hand from
-//! kotlinx.coroutines' documentation. `tests/programs/test_random_records.py` compares the checker with a plain search.
-mod records;
-mod shared;
-mod shared_records;
-mod state;
-mod wrong;
+//! The checker of recorded histories: a search that gives up, and the part of a record that was known before a moment.
+//! `tests/programs/worked_records.py` has records with verdicts that are worked out by hand from kotlinx.coroutines'
+//! documentation. `tests/programs/test_random_records.py` compares the checker with a plain search.
+use crate::compare::compare;
+use flow_check::{
+    Cut, Record, StateAnswer, StateEntry, StateOperation, Timed, Verdict, check_state, known_record,
+};
+use std::alloc::Global;
+use std::process::Abort;
+
+/// Returns a `set` that began and ended at these moments.
+fn set(value: u64, begin: u64, end: u64) -> Timed<StateEntry> {
+    let call = StateEntry {
+        operation: StateOperation::Set(value),
+        answer: Some(StateAnswer::Done),
+    };
+    let end = Some(end);
+    Timed { call, begin, end }
+}
+
+/// Returns a `value` that returned this value, and began and ended at these moments.
+fn read(value: u64, begin: u64, end: u64) -> Timed<StateEntry> {
+    let call = StateEntry {
+        operation: StateOperation::Value,
+        answer: Some(StateAnswer::Value(value)),
+    };
+    let end = Some(end);
+    Timed { call, begin, end }
+}
+
+/// Returns the record of the calls of these callers.
+fn record_of(
+    rt: &impl Abort,
+    alloc: Global,
+    callers: &[&[Timed<StateEntry>]],
+) -> Record<StateEntry> {
+    let mut all = Vec::new(alloc);
+    for calls in callers {
+        let calls = Vec::from_slice(alloc, calls).expect(rt, "memory");
+        compare(rt, "grown", all.push(calls).is_ok(), true);
+    }
+    Record::new(all).ok().expect(rt, "a record")
+}
+
+/// A search that may take no turn gives up.
+#[test]
+fn gives_up(rt: HostRuntime) {
+    let record = record_of(&rt, rt.alloc(), &[&[set(1, 0, 1)]]);
+    let verdict = check_state(rt.alloc(), 0, &record, 0).expect(&rt, "memory");
+    let gave_up = matches!(verdict, Verdict::GaveUp);
+    compare(&rt, "it gave up", gave_up, true);
+}
+
+/// A caller may make a call of the same moments before another caller sets the same value: 1 is set, then 2, then 1 again.
+#[test]
+fn judges_equal_sets_among_calls_of_one_moment(rt: HostRuntime) {
+    let both = [set(1, 0, 9), set(2, 0, 9)];
+    let reads = [read(1, 1, 2), read(2, 3, 4), read(1, 6, 7)];
+    let record = record_of(&rt, rt.alloc(), &[&both, &[set(1, 0, 5)], &reads]);
+    let verdict = check_state(rt.alloc(), 0, &record, 1000).expect(&rt, "memory");
+    let is_legal = matches!(verdict, Verdict::Legal(_));
+    compare(&rt, "it is legal", is_legal, true);
+}
+
+/// The moments at which two calls ended: None if the call had not begun, Some(None) if it had not ended.
+type Ends = (Option<Option<u64>>, Option<Option<u64>>);
+
+/// Returns the moment at which the call at this place ended.
+fn end_of(known: &Record<StateEntry>, place: usize) -> Option<Option<u64>> {
+    Some(known.callers().first()?.get(place)?.end)
+}
+
+/// Cuts the record, and compares the moments at which its calls ended.
+fn is_cut(rt: &impl Abort, alloc: Global, record: &Record<StateEntry>, cut: Cut, ends: Ends) {
+    let known = known_record(alloc, record, cut).expect(rt, "memory");
+    let known = known.expect(rt, "a record");
+    let found = (end_of(&known, 0), end_of(&known, 1));
+    compare(rt, "the ends of known calls", found, ends);
+}
+
+/// Before a moment, a call that ends at it is pending, and a call that begins at it has not begun.
+#[test]
+fn cuts_records(rt: HostRuntime) {
+    let alloc = rt.alloc();
+    let record = record_of(&rt, alloc, &[&[set(1, 0, 3), set(2, 3, 4)]]);
+    let by_three = (Some(Some(3)), Some(None));
+    is_cut(&rt, alloc, &record, Cut::Before(3), (Some(None), None));
+    is_cut(&rt, alloc, &record, Cut::By(3), by_three);
+    is_cut(&rt, alloc, &record, Cut::Before(0), (None, None));
+}

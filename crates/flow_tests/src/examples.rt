@@ -6,7 +6,6 @@ mod asleep;
 mod dropped;
 mod gate;
 mod leaving;
-mod lent;
 mod polled;
 mod races;
 mod threads;

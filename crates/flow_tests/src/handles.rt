@@ -1,7 +1,5 @@
 //! Tests of handles: calls that no script makes, dropped handles, waits of threads and futures. The values are from
 //! kotlinx.coroutines' documentation.
-mod dropping;
-pub mod emissions;
 mod errors;
 mod meetings;
 mod owned;
@@ -10,6 +8,5 @@ mod shared;
 mod state;
 mod states;
 mod tasks;
-mod tokens;
 mod views;
 mod word;

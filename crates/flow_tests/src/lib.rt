@@ -7,9 +7,9 @@
 //! and the results of threads that do more than `run_count`, `run_crowd` and `run_pair`, whose results are proved.
 //!
 //! Rows that a script can say are in `examples/` and `tests/cases/`: `tests/programs/test_every_flow.py` plays them over every
-//! kind of flow. Here is what no script says: threads that race, futures, refused copies and refused memory, drops,
-//! drains, readings, and laws in use. `word` is not under `cfg(test)`, since `tools/refused` tries an edit of it, and
-//! proves only what is in the library.
+//! kind of flow. Records with their verdicts are in `examples/records/` and `tests/programs/worked_records.py`. Here is what
+//! neither says: threads that race, futures, refused copies and refused memory, drops, drains, readings, and laws in use.
+//! `word` is not under `cfg(test)`, since `tools/refused` tries an edit of it, and proves only what is in the library.
 #![tactic(auto)]
 
 #[cfg(test)]
@@ -26,6 +26,8 @@ mod flows;
 mod handle_calls;
 #[cfg(test)]
 mod handles;
+#[cfg(test)]
+mod host;
 #[cfg(test)]
 mod lent;
 #[cfg(test)]

@@ -3,12 +3,8 @@
 //! `BufferOverflow` and `MutableStateFlow`.
 mod caller;
 mod drains;
-mod held;
-mod hints;
 mod lags;
-mod limited;
 mod many;
-mod refused_copies;
 mod signs;
 mod state;
 mod value_traits;

@@ -1,48 +1,30 @@
-//! Values that stand for numbers: boxed numbers, whose copies take memory.
+//! Texts and boxed numbers, whose copies take memory.
 use crate::compare::{compare, compare_step};
-use flow_law::{Boxed, FlowValue, Next};
-use std::alloc::Allocator;
+use flow_law::{Boxed, Next, Text};
+use std::alloc::{Allocator, Global};
 use std::fmt::Debug;
 use std::process::Abort;
 
-/// A value that stands for a number.
-pub trait Numbered: FlowValue {
-    /// The allocator of the value.
-    type Memory: Allocator + Copy;
-
-    /// Returns the value of this number. Asks for memory once more if it is refused.
-    fn of(rt: &impl Abort, memory: Self::Memory, number: i64) -> Self;
-
-    fn number(&self) -> i64;
-}
-
-impl<A: Allocator + Copy> Numbered for Boxed<i64, A> {
-    type Memory = A;
-
-    fn of(rt: &impl Abort, memory: A, number: i64) -> Boxed<i64, A> {
-        if let Ok(boxed) = Box::new(memory, number) {
-            return Boxed::new(boxed);
-        }
-        match Box::new(memory, number) {
-            Ok(boxed) => Boxed::new(boxed),
-            Err(_) => panic!(rt; "refused again"),
-        }
+/// Returns a box of this number. Asks for memory once more if it is refused.
+pub fn boxed<A: Allocator + Copy>(rt: &impl Abort, memory: A, number: i64) -> Boxed<i64, A> {
+    if let Ok(boxed) = Box::new(memory, number) {
+        return Boxed::new(boxed);
     }
-
-    fn number(&self) -> i64 {
-        *self.value()
+    match Box::new(memory, number) {
+        Ok(boxed) => Boxed::new(boxed),
+        Err(_) => panic!(rt; "refused again"),
     }
 }
 
-/// Returns a list of the values of these numbers. Asks for memory once more if its growth is refused.
-pub fn list_of<T: Numbered>(
+/// Returns a list of boxes of these numbers. Asks for memory once more if its growth is refused.
+pub fn boxes<A: Allocator + Copy>(
     rt: &impl Abort,
-    memory: T::Memory,
+    memory: A,
     numbers: &[i64],
-) -> Vec<T, T::Memory> {
+) -> Vec<Boxed<i64, A>, A> {
     let mut values = Vec::new(memory);
     for number in numbers {
-        if let Err(refused) = values.push(T::of(rt, memory, *number)) {
+        if let Err(refused) = values.push(boxed(rt, memory, *number)) {
             compare(rt, "grown", values.push(refused.value).is_ok(), true);
         }
     }
@@ -50,24 +32,28 @@ pub fn list_of<T: Numbered>(
 }
 
 /// Returns the number of the value that was received.
-pub fn by_number<T: Numbered>(next: Next<T>) -> Next<i64> {
+pub fn by_number<A: Allocator + Copy>(next: Next<Boxed<i64, A>>) -> Next<i64> {
     match next {
-        Next::Value(value) => Next::Value(value.number()),
+        Next::Value(boxed) => Next::Value(*boxed.value()),
         Next::Empty => Next::Empty,
         Next::Gone => Next::Gone,
     }
 }
 
 /// Compares the numbers of the values of a step.
-pub fn are<T: Numbered, S: Debug>(
+pub fn are<S: Debug, A: Allocator + Copy>(
     rt: &impl Abort,
     row: &str,
     step: &S,
-    values: &[T],
+    values: &[Boxed<i64, A>],
     numbers: &[i64],
 ) {
     compare_step(rt, row, step, values.len(), numbers.len());
-    for (value, number) in values.iter().zip(numbers) {
-        compare_step(rt, row, step, value.number(), *number);
+    for (boxed, number) in values.iter().zip(numbers) {
+        compare_step(rt, row, step, *boxed.value(), *number);
     }
+}
+
+pub fn text(rt: &impl Abort, alloc: Global, text: &str) -> Text {
+    Text::from_str(alloc, text).expect(rt, "memory")
 }

@@ -5,8 +5,6 @@ pub mod celsius;
 #[cfg(test)]
 mod lost;
 #[cfg(test)]
-mod messages;
-#[cfg(test)]
 mod one_caller;
 #[cfg(test)]
 mod packs;

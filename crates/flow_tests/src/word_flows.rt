@@ -1,10 +1,9 @@
-//! Word flows: worked examples of shared flows that drop the oldest values, races, and readers that sleep.
+//! Word flows: calls that no script makes, races, and readers that sleep.
 ghost use Rattle.std.specs.Prelude.{◌≡◌};
 
 mod asleep;
 mod calls;
 mod races;
-mod rows;
 
 use flow_law::{Config, Overflow};
 use flow_word_shared::{WordEmitter, WordFlow, WordFlowReader, WordFlowSeat};
@@ -12,21 +11,13 @@ use std::alloc::Global;
 use std::process::Abort;
 use std::sync::Wait;
 
-/// The configuration of a flow without a buffer that drops the oldest values. No flow can be made of it.
-pub const DROPPING: Config = Config {
-    replay: 0,
-    extra: 0,
-    overflow: Overflow::DropOldest,
-    limit: u64::MAX,
-};
-
 /// Returns the configuration of a flow that drops the oldest values.
 pub fn dropping(replay: u32, extra: u32, limit: u64) -> Config {
     Config {
         replay,
         extra,
+        overflow: Overflow::DropOldest,
         limit,
-        ..DROPPING
     }
 }
 

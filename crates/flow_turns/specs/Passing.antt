@@ -16,9 +16,9 @@ use Rattle.flow_turns.specs.SharingViews.{sharing_state, chain_and_hub, hub_of, 
 use Rattle.flow_turns.specs.TurnClauses.{TakesOver}
 
 -- the number that was counted
-abbrev pub count_of : Result CountSince FlowFault → Result ℕ FlowFault
-count_of (Ok since) = Ok since.count
-count_of (Err fault) = Err fault
+abbrev pub count_alone : Result CountSince FlowFault → Result ℕ FlowFault
+count_alone (Ok since) = Ok since.count
+count_alone (Err fault) = Err fault
 
 -- `does` and `waits` are those of the hub; `Came` says of two hubs that a subscriber has come between their last counts
 module _ {H T : Type 0} (does : (c : HubCall T) → H → HubAnswer c → H → Type 0) (waits : H → Bool) (Came : H → H → Type 0) where

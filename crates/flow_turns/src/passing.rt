@@ -1,7 +1,7 @@
 //! The turns of a run, which also observe a subscriber that came and left since the last count.
 ghost use Rattle.std.specs.Prelude.{◌≡◌, true, IfOk};
 ghost use Rattle.flow_law.specs.sharing.SharingCalls.{counts};
-ghost use Rattle.flow_turns.specs.Passing.{count_of, report_alone};
+ghost use Rattle.flow_turns.specs.Passing.{count_alone, report_alone};
 ghost use Rattle.flow_turns.specs.Runs.{RunTurn, SomeRunTurn};
 ghost use Rattle.flow_turns.specs.SharingViews.{sharing_state, sharing_chain, hub_of, CanRun, KeepsReadings};
 ghost use Rattle.flow_turns.specs.TurnParts.{ActsBy, CallsHub, FollowsCount};
@@ -29,7 +29,7 @@ impl<C: Cold, H: WatchedHub<Item = C::Item>> Sharing<C, H> {
         ensures policy { self.new.policy ≡ self.old.policy }
         ensures state { sharing_state self.new ≡ sharing_state self.old }
         ensures counts { CallsHub (ActsBy C.Reads C.whole C.rest H.does H.waits)
-            counts self.old (count_of result) self.new }
+            counts self.old (count_alone result) self.new }
         ensures came { IfOk result (λ since. since.has_come ≡ true
             → H.Came (hub_of self.old) (hub_of self.new)) }
     {

@@ -93,8 +93,9 @@ impl<C: Cold, H: WatchedHub<Item = C::Item>> Sharing<C, H> {
         self.hub.sleep(rt, most);
     }
 
-    /// Rests after a turn, unless it observed a subscriber that had left. If there is nothing to do, begins a watch for the next turn, or, after a
-    /// watched turn that did not come to `Queued`, sleeps. Returns whether the hub watches the next turn.
+    /// Rests after a turn, unless it observed a subscriber that had left. If there is nothing to do, begins a watch for
+    /// the next turn, or, after a watched turn that did not come to `Queued`, sleeps. Returns whether the hub watches the
+    /// next turn.
     fn rest<R: Wait + Clock, S: StopSignal>(
         &mut self,
         rt: &R,
@@ -145,9 +146,9 @@ impl<C: Cold, H: WatchedHub<Item = C::Item>> Sharing<C, H> {
     ///
     /// The moments are those of the monotonic clock, in milliseconds, and none is before the last moment of an earlier
     /// turn. If no subscriber is counted, but one has come since the last turn, a turn observes one, and the next turn
-    /// follows at once. The driver sleeps while the sharing does not run, while its emission waits, and when the chain has
-    /// ended. It is woken when a subscriber subscribes or unsubscribes, when its emission ends, and at the moment of the stop
-    /// or of the expiry.
+    /// follows at once. The driver sleeps while the sharing does not run, while its emission waits, and when the chain
+    /// has ended. It is woken when a subscriber subscribes or unsubscribes, when its emission ends, and at the moment of
+    /// the stop or of the expiry.
     ///
     /// An emission that waits when the run is asked to stop stays in the flow, and the next run continues with it.
     /// Kotlin cancels it; so does `hub_mut().cancel()`.

@@ -1,7 +1,7 @@
 //! A hub whose driver sleeps while there is nothing to do.
 ghost use Rattle.std.specs.Prelude.{◌≡◌, true, IfOk};
 ghost use Rattle.flow_law.specs.sharing.SharingCalls.{HubStep, counts};
-ghost use Rattle.flow_turns.specs.Passing.{count_of};
+ghost use Rattle.flow_turns.specs.Passing.{count_alone};
 
 use crate::hub::Hub;
 use flow_law::FlowFault;
@@ -24,7 +24,7 @@ pub trait WatchedHub: Hub {
     /// Counts the subscribers as `count` does, and returns whether one has come since the last count, whether or not it
     /// has left since.
     fn count_since(&mut self) -> Result<CountSince, FlowFault>
-        ensures counts { HubStep Self.does Self.waits counts self.old (count_of result) self.new }
+        ensures counts { HubStep Self.does Self.waits counts self.old (count_alone result) self.new }
         ensures came { IfOk result (λ since. since.has_come ≡ true → Came self.old self.new) };
 
     /// Begins a watch: a change after the calls of the next turn wakes the driver.

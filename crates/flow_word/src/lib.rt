@@ -47,7 +47,7 @@ mod watch;
 pub use changed_future::ChangedFuture;
 pub use handles::{WordReader, WordSetter};
 pub use rule::WordRule;
-pub use subscriber::Counts;
+pub use subscriber::SubscriberCounts;
 pub use token::{WordSeat, WordState, WordSubscription};
 pub use values::WordValues;
 pub use view::{Known, LastGot, Start};

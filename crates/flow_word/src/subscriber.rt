@@ -19,7 +19,7 @@ const ENTRY: u64 = (1 << 32) + 1;
 
 /// The subscribers of a flow, and the subscriptions that it has accepted since it was made.
 #[derive(Clone, Copy, Debug, PartialEq, Eq)]
-pub struct Counts {
+pub struct SubscriberCounts {
     pub subscribers: u64,
     pub accepted: u64,
 }
@@ -144,7 +144,7 @@ impl<T: Packed> WordState<T> {
     }
 
     /// Counts the subscribers as `subscription_count` does, and the subscriptions that the flow has accepted in all.
-    pub fn counts(&self, seat: &mut WordSeat<T>) -> Counts
+    pub fn counts(&self, seat: &mut WordSeat<T>) -> SubscriberCounts
         requires { seat.old.table_id ≡ self.now.table_id }
         ensures counted { CallsAtOnceIn state_flow self.now.first seat.old call.SubscriptionCount
             (reply.Counted result.subscribers) seat.new }
@@ -152,7 +152,7 @@ impl<T: Packed> WordState<T> {
             ≡ result.accepted }
     {
         let word = self.table.shared.load::<Count>(&mut seat.seat, 1);
-        Counts {
+        SubscriberCounts {
             subscribers: word % (1 << 32),
             accepted: word / (1 << 32),
         }

@@ -1,9 +1,11 @@
 //! Subscribers that come and leave while a run sleeps: each is observed, though the run finds nobody.
 use crate::compare::compare;
-use crate::flows::{new_word_reader, new_word_state};
+use crate::flows::{
+    new_flow, new_reader, new_state_flow, new_state_reader, new_word_reader, new_word_state,
+};
 use crate::sharing::beside::{Follows, run_beside};
-use crate::sharing::shared::{chain_of, share_into_word};
-use flow_law::{Command, Event, Report, Started};
+use crate::sharing::shared::{chain_of, share_into, share_into_state, share_into_word};
+use flow_law::{Command, Config, Event, Report, Started};
 use flow_sharing::{StopSignal, WordStop};
 use flow_word::WordSetter;
 use std::alloc::Global;
@@ -71,19 +73,48 @@ fn a_momentary_subscriber_starts_the_chain(rt: HostRuntime) {
     }
 }
 
+/// The report of a turn that finds nothing to do.
+const RESTS: Report = Report {
+    command: Command::Keep,
+    event: Event::Idle,
+};
+
 /// Without other threads: after a subscriber that came and left, a run needs no present one to start the chain.
 #[test]
 fn a_run_starts_after_a_visit(rt: HostRuntime) {
     let (flow, mut seat) = new_word_state(&rt, rt.alloc(), 42, u32::MAX);
     let chain = chain_of(&rt, rt.alloc(), &[239]);
     let mut sharing = share_into_word(&flow, &mut seat, chain, Started::Lazily);
-    let rests = Report {
-        command: Command::Keep,
-        event: Event::Idle,
-    };
-    compare(&rt, "nobody", sharing.turn(0), Ok(rests));
+    compare(&rt, "nobody", sharing.turn(0), Ok(RESTS));
     let mut setter = flow.setter(seat);
     drop(new_word_reader(&rt, &mut setter));
     compare(&rt, "the run", sharing.run_to_end(&rt), Ok(()));
     compare(&rt, "the state", setter.value(), 239);
+}
+
+/// The same over a state flow that has a lock.
+#[test]
+fn a_run_over_a_state_flow_starts_after_a_visit(rt: HostRuntime) {
+    let (flow, mut seat) = new_state_flow(&rt, rt.alloc(), 42, u64::MAX);
+    let chain = chain_of(&rt, rt.alloc(), &[239]);
+    let mut sharing = share_into_state(&flow, &mut seat, chain, Started::Lazily);
+    compare(&rt, "nobody", sharing.turn(0), Ok(RESTS));
+    let mut setter = flow.setter(seat);
+    drop(new_state_reader(&rt, &mut setter));
+    compare(&rt, "the run", sharing.run_to_end(&rt), Ok(()));
+    compare(&rt, "the state", setter.value(&rt), Ok(239));
+}
+
+/// The same over a shared flow that replays a value.
+#[test]
+fn a_run_over_a_shared_flow_starts_after_a_visit(rt: HostRuntime) {
+    let (flow, mut seat) = new_flow(&rt, rt.alloc(), Config::new().replay(1));
+    let chain = chain_of(&rt, rt.alloc(), &[239]);
+    let mut sharing = share_into(&flow, &mut seat, chain, Started::Lazily);
+    compare(&rt, "nobody", sharing.turn(0), Ok(RESTS));
+    let mut emitter = flow.emitter(seat);
+    drop(new_reader(&rt, &mut emitter));
+    compare(&rt, "the run", sharing.run_to_end(&rt), Ok(()));
+    let mut reader = new_reader(&rt, &mut emitter);
+    compare(&rt, "the replayed value", reader.next(&rt), Ok(Some(239)));
 }

@@ -1,6 +1,7 @@
 //! Rounds of calls by one thread at flows that no other thread calls: no call is busy, and none is refused memory.
 use crate::compare::compare;
-use flow_law::{Config, FlowValue, Text};
+use crate::values::text;
+use flow_law::{Config, FlowValue};
 use flow_shared::{EmitAnswer, Emitter, Reader, Setter, SharedFlow, StateFlow, StateReader};
 use std::alloc::{AllocGlobal, Global};
 use std::process::Abort;
@@ -105,10 +106,6 @@ fn play_at_state_flow<R: Wait + Abort, T: FlowValue>(rt: &R, alloc: Global, valu
         compare(rt, "each call of a round succeeded", is_done, true);
         compare(rt, "subscribers", setter.try_subscription_count(), Ok(1));
     }
-}
-
-fn text(rt: &impl Abort, alloc: Global, text: &str) -> Text {
-    Text::from_str(alloc, text).expect(rt, "memory")
 }
 
 #[test]

@@ -2,13 +2,12 @@
 use crate::compare::compare;
 use crate::flows::{new_flow, new_reader};
 use crate::handle_calls::next;
+use crate::host::Host;
 use flow_law::{Config, FlowFault};
 use flow_shared::{Emitter, Reader, ReceiveFuture, SendFuture, Sent};
 use futures::task::Poll;
 use futures::test::MockTask;
-use std::alloc::AllocGlobal;
 use std::process::Abort;
-use std::random::RandomSource;
 use std::sync::Wait;
 
 /// Polls once. Returns what the subscriber receives, or `None` if the future is pending.
@@ -63,7 +62,7 @@ fn wakes_emitter<R: Wait + Abort>(
 
 /// Checks that a subscriber's task sleeps until 7 is emitted, and the emitter's task until that subscriber and a reader
 /// have received it.
-fn follow<R: Wait + RandomSource + AllocGlobal + Abort>(
+fn follow<R: Host>(
     rt: &R,
     receive: &mut ReceiveFuture<'_, i64>,
     reader: &mut Reader<'_, i64>,
@@ -76,10 +75,7 @@ fn follow<R: Wait + RandomSource + AllocGlobal + Abort>(
 }
 
 /// Makes the futures of two subscribers and an emission.
-fn follow_all<R: Wait + RandomSource + AllocGlobal + Abort>(
-    rt: &R,
-    emitter: &mut Emitter<'_, i64>,
-) {
+fn follow_all<R: Host>(rt: &R, emitter: &mut Emitter<'_, i64>) {
     let mut reader = new_reader(rt, emitter);
     let mut receive = new_reader(rt, emitter).into_receive();
     let mut send = emitter.another().into_send(7);

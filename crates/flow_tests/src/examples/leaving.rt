@@ -2,12 +2,12 @@
 use crate::compare::compare;
 use crate::flows::{new_flow, new_reader};
 use crate::handle_calls::{pause, send, try_emit};
+use crate::host::Host;
 use flow_law::Config;
 use flow_shared::{Emitter, Reader};
 use std::alloc::Global;
-use std::process::Abort;
 use std::sync::{Barrier, Wait};
-use std::thread::{Threads, join};
+use std::thread::join;
 use std::time::Clock;
 
 const TIMES: u32 = 20;
@@ -28,7 +28,7 @@ fn leave<R: Wait + Clock>(rt: &R, start: &Barrier, run: u32, reader: Reader<'_, 
 }
 
 /// Sends 2 and 3 from two threads. Returns how many of the emissions ended.
-fn send_two<R: Threads + Wait + Sync>(
+fn send_two<R: Host>(
     rt: &R,
     start: &Barrier,
     second: &mut Emitter<'_, i64>,
@@ -43,7 +43,7 @@ fn send_two<R: Threads + Wait + Sync>(
 }
 
 /// Sends 4 from one thread, and unsubscribes in another one. Returns how many emissions ended.
-fn send_and_leave<R: Threads + Wait + Clock + Sync>(
+fn send_and_leave<R: Host>(
     rt: &R,
     start: &Barrier,
     run: u32,
@@ -59,7 +59,7 @@ fn send_and_leave<R: Threads + Wait + Clock + Sync>(
 }
 
 /// Sends 2, 3 and 4 while the subscriber leaves. Returns how many of the emissions ended.
-fn send_beside_leaving<R: Threads + Wait + Clock + Sync>(
+fn send_beside_leaving<R: Host>(
     rt: &R,
     run: u32,
     emitter: &mut Emitter<'_, i64>,
@@ -77,7 +77,7 @@ fn send_beside_leaving<R: Threads + Wait + Clock + Sync>(
 
 /// The subscriber has not received 1, so that there is no room. After it has left, the cache has one of the three
 /// values that waited.
-fn leave_once<R: Threads + Wait + Clock + Abort + Sync>(rt: &R, alloc: Global, run: u32) {
+fn leave_once<R: Host>(rt: &R, alloc: Global, run: u32) {
     let (flow, seat) = new_flow(rt, alloc, Config::new().replay(1));
     let mut emitter = flow.emitter(seat);
     let reader = new_reader(rt, &mut emitter);

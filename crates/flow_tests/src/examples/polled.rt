@@ -4,19 +4,17 @@ ghost use Rattle.std.specs.Prelude.{◌≡◌};
 use crate::awaiting::send;
 use crate::compare::compare;
 use crate::flows::{new_flow, new_subscription};
+use crate::host::Host;
 use flow_law::Config;
 use flow_shared::{EmitFuture, NextFuture, Seat, Sent, SharedFlow, Subscription};
 use futures::Future;
 use futures::executor::block_on;
 use futures::test::MockTask;
-use std::alloc::AllocGlobal;
-use std::process::Abort;
-use std::random::RandomSource;
 use std::sync::Wait;
 use std::thread::join;
 
 /// Polls a future. Checks that it is pending and asks to be polled again, and returns it.
-fn asks_again<R: RandomSource + AllocGlobal + Abort, F>(rt: &R, future: F) -> F
+fn asks_again<R: Host, F>(rt: &R, future: F) -> F
 where
     F: Future<Output: Drop>,
     requires { F.can_poll future }
@@ -52,22 +50,14 @@ fn a_cancelled_emission_is_not_received(rt: HostRuntime) {
 }
 
 /// Emits 7. Returns whether the emission was done.
-fn sends<R: Wait + RandomSource + AllocGlobal>(
-    rt: &R,
-    flow: &SharedFlow<i64>,
-    seat: Seat<i64>,
-) -> bool
+fn sends<R: Host>(rt: &R, flow: &SharedFlow<i64>, seat: Seat<i64>) -> bool
     requires { seat.table_id ≡ flow.now.table_id }
 {
     matches!(send(rt, flow, seat, 7), Ok(Sent::Done(_)))
 }
 
 /// Receives the next value. Returns `None` if memory is refused.
-fn receives<R: Wait + RandomSource + AllocGlobal>(
-    rt: &R,
-    flow: &SharedFlow<i64>,
-    subscription: Subscription<i64>,
-) -> Option<i64>
+fn receives<R: Host>(rt: &R, flow: &SharedFlow<i64>, subscription: Subscription<i64>) -> Option<i64>
     requires { subscription.token.table_id ≡ flow.now.table_id }
 {
     match block_on(rt, NextFuture::new(flow, subscription)) {

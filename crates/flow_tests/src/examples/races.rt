@@ -1,14 +1,13 @@
 //! A `cancel` and a `next` that race on two threads. Whichever is first, the subscribers receive what is documented.
 use crate::compare::compare;
 use crate::flows::{new_flow, new_reader};
-use crate::handle_calls::{next, try_emit};
-use crate::handles::emissions::{cancel, emission_of};
+use crate::handle_calls::{begin, cancel, emission_of, next, try_emit};
+use crate::host::Host;
 use flow_law::Config;
 use flow_shared::{BoundEmission, Emitter, Reader};
 use std::alloc::Global;
-use std::process::Abort;
 use std::sync::{Barrier, Wait};
-use std::thread::{Threads, join, yield_now};
+use std::thread::join;
 
 /// The least number of races.
 const LEAST_RACES: u32 = 100;
@@ -16,16 +15,6 @@ const LEAST_RACES: u32 = 100;
 /// The greatest number of races. They end earlier if each of the two calls has been first, but not before the least
 /// number.
 const MOST_RACES: u32 = 10_000;
-
-/// Waits until the other thread has begun. In every fourth run it then yields, so that the other thread can be first.
-fn begin<R: Wait>(rt: &R, start: &Barrier, run: u32) {
-    let _order = start.wait(rt);
-    if run % 4 == 0 {
-        for _ in 0..20 {
-            yield_now();
-        }
-    }
-}
 
 /// Reads once. Returns the value that the reader receives, if any.
 fn read<R: Wait>(rt: &R, start: &Barrier, run: u32, reader: &mut Reader<'_, i64>) -> Option<i64> {
@@ -40,7 +29,7 @@ fn waited<R: Wait>(rt: &R, start: &Barrier, run: u32, emission: BoundEmission<'_
 }
 
 /// Reads on one thread, and cancels the emission of this value on another one.
-fn read_beside_cancel<R: Threads + Wait + Abort + Sync>(
+fn read_beside_cancel<R: Host>(
     rt: &R,
     run: u32,
     reader: &mut Reader<'_, i64>,
@@ -58,11 +47,7 @@ fn read_beside_cancel<R: Threads + Wait + Abort + Sync>(
 
 /// Emits 2 into a full buffer of one value, and cancels the emission while the subscriber makes room. The subscriber
 /// receives 2 only if its read is first. Returns whether the cancel was first.
-fn waits_for_room<R: Threads + Wait + Abort + Sync>(
-    rt: &R,
-    run: u32,
-    emitter: &mut Emitter<'_, i64>,
-) -> bool {
+fn waits_for_room<R: Host>(rt: &R, run: u32, emitter: &mut Emitter<'_, i64>) -> bool {
     let mut reader = new_reader(rt, emitter);
     compare(rt, "try_emit", try_emit(rt, emitter, 1), Ok(true));
     let (first, was_waiting) = read_beside_cancel(rt, run, &mut reader, emitter, 2);
@@ -74,11 +59,7 @@ fn waits_for_room<R: Threads + Wait + Abort + Sync>(
 
 /// Offers 7 to two subscribers without a buffer, and cancels the emission while one of them reads. That one receives 7
 /// or nothing, and the other one nothing. Returns whether the cancel was first.
-fn is_offered<R: Threads + Wait + Abort + Sync>(
-    rt: &R,
-    run: u32,
-    emitter: &mut Emitter<'_, i64>,
-) -> bool {
+fn is_offered<R: Host>(rt: &R, run: u32, emitter: &mut Emitter<'_, i64>) -> bool {
     let mut other = new_reader(rt, emitter);
     let mut reader = new_reader(rt, emitter);
     let (taken, was_waiting) = read_beside_cancel(rt, run, &mut reader, emitter, 7);
@@ -90,7 +71,7 @@ fn is_offered<R: Threads + Wait + Abort + Sync>(
 }
 
 /// Races the two calls at a new flow with room for this number of values. Returns whether the cancel was first.
-fn race<R: Threads + Wait + Abort + Sync>(rt: &R, alloc: Global, run: u32, room: u32) -> bool {
+fn race<R: Host>(rt: &R, alloc: Global, run: u32, room: u32) -> bool {
     let (flow, seat) = new_flow(rt, alloc, Config::new().extra(room));
     let mut emitter = flow.emitter(seat);
     match room {
@@ -101,7 +82,7 @@ fn race<R: Threads + Wait + Abort + Sync>(rt: &R, alloc: Global, run: u32, room:
 
 /// Races the two calls more than `LEAST_RACES` times, and until each of them has been first. Ends the test if one was
 /// first in all `MOST_RACES` races.
-fn race_often<R: Threads + Wait + Abort + Sync>(rt: &R, alloc: Global, room: u32) {
+fn race_often<R: Host>(rt: &R, alloc: Global, room: u32) {
     let mut cancelled_first = 0u32;
     for run in 0..MOST_RACES {
         if race(rt, alloc, run, room) {

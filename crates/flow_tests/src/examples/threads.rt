@@ -3,13 +3,14 @@ ghost use Rattle.std.specs.Prelude.{◌≡◌};
 
 use crate::compare::compare;
 use crate::flows::{new_flow, new_state_flow, new_subscription};
+use crate::host::Host;
 use crate::reading::set_and_read;
 use flow_law::Next::{Empty, Value};
 use flow_law::{Config, Next};
 use flow_shared::{Seat, SharedFlow, StateFlow, StateSeat, Subscription};
 use std::process::Abort;
 use std::sync::Wait;
-use std::thread::{Threads, join};
+use std::thread::join;
 
 /// Sets a value, and reads the current one. Returns whether that is a value that one of the two threads set.
 fn reads_what_was_set<R: Wait>(
@@ -25,11 +26,7 @@ fn reads_what_was_set<R: Wait>(
 }
 
 /// Sets 9 and 4 from two threads at once. Checks that each thread reads one of these.
-fn set_from_two_threads<R: Threads + Wait + Abort + Sync>(
-    rt: &R,
-    flow: &StateFlow<i64>,
-    seat: &mut StateSeat<i64>,
-)
+fn set_from_two_threads<R: Host>(rt: &R, flow: &StateFlow<i64>, seat: &mut StateSeat<i64>)
     requires { seat.old.table_id ≡ flow.now.table_id }
 {
     let mut other = flow.seat(seat);
@@ -63,7 +60,7 @@ fn emit<R: Wait + Abort>(rt: &R, flow: &SharedFlow<i64>, seat: Seat<i64>, value:
 }
 
 /// Sends the seat to a new thread, which emits the value. Returns the seat once that thread has ended.
-fn emit_on_a_thread<R: Wait + Threads + Abort + Sync>(
+fn emit_on_a_thread<R: Host>(
     rt: &R,
     flow: &SharedFlow<i64>,
     seat: Seat<i64>,

@@ -3,6 +3,7 @@ ghost use Rattle.std.specs.Prelude.{◌≡◌};
 
 use crate::compare::compare;
 use crate::flows::new_flow;
+use crate::host::Host;
 use flow_law::Config;
 use flow_shared::{Emission, Emitted, PolledNow, Seat, SharedFlow, Subscription, Watcher};
 use std::process::Abort;
@@ -11,7 +12,7 @@ use std::thread::{Threads, join, sleep};
 use std::time::{Clock, Duration, Instant};
 
 /// Sleeps for at most 20 seconds. Returns whether the thread was woken before that.
-fn is_woken<R: Wait + Clock + Abort>(rt: &R, watcher: &mut Watcher) -> bool {
+fn is_woken<R: Host>(rt: &R, watcher: &mut Watcher) -> bool {
     let start = Instant::now(rt).expect(rt, "the clock");
     watcher.sleep(rt, Some(Duration::from_secs(20)));
     let slept = start.elapsed(rt).expect(rt, "the clock");
@@ -63,7 +64,7 @@ fn make_room<R: Wait + Clock>(
 }
 
 /// Polls an emission by two watchers, one after the other, and sleeps by the second one until the emission ends.
-fn sleep_by_second<R: Threads + Wait + Clock + Abort + Sync>(
+fn sleep_by_second<R: Host>(
     rt: &R,
     flow: &SharedFlow<i64>,
     seat: &mut Seat<i64>,
@@ -109,7 +110,7 @@ fn subscribe<R: Wait + Clock>(rt: &R, flow: &SharedFlow<i64>, seat: &mut Seat<i6
 }
 
 /// Counts the subscribers by the flow's watcher and by one of another flow, and sleeps by the latter.
-fn sleep_by_anothers<R: Threads + Wait + Clock + Abort + Sync>(
+fn sleep_by_anothers<R: Host>(
     rt: &R,
     flow: &SharedFlow<i64>,
     seat: &mut Seat<i64>,

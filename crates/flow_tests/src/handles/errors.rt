@@ -7,28 +7,20 @@ use flow_law::{
 
 #[test]
 fn each_error_stands_for_a_fault(rt: HostRuntime) {
+    let of_number = FlowFault::from(NumberError::OutOfMemory);
+    let of_limit = FlowFault::from(NumberError::Exhausted);
+    let of_emit = FlowFault::from(EmitNowError::Exhausted);
+    let of_next = FlowFault::from(TryNextError::OutOfMemory);
     let table = [
         (FlowFault::from(OutOfMemory), FlowFault::OutOfMemory),
         (FlowFault::from(Exhausted), FlowFault::Exhausted),
         (FlowFault::from(Busy), FlowFault::Busy),
         (FlowFault::from(Unsupported), FlowFault::Unsupported),
-        (
-            FlowFault::from(NumberError::OutOfMemory),
-            FlowFault::OutOfMemory,
-        ),
-        (
-            FlowFault::from(NumberError::Exhausted),
-            FlowFault::Exhausted,
-        ),
+        (of_number, FlowFault::OutOfMemory),
+        (of_limit, FlowFault::Exhausted),
         (FlowFault::from(EmitNowError::Busy), FlowFault::Busy),
-        (
-            FlowFault::from(EmitNowError::Exhausted),
-            FlowFault::Exhausted,
-        ),
-        (
-            FlowFault::from(TryNextError::OutOfMemory),
-            FlowFault::OutOfMemory,
-        ),
+        (of_emit, FlowFault::Exhausted),
+        (of_next, FlowFault::OutOfMemory),
         (FlowFault::from(TryNextError::Busy), FlowFault::Busy),
     ];
     for (fault, wanted) in table {

@@ -2,21 +2,15 @@
 //! takes: a sleeper that is not woken fails.
 use crate::compare::compare;
 use crate::flows::{new_flow, new_reader};
-use crate::handle_calls::{next_of, pause, receive, send};
-use crate::handles::emissions::{cancel_late, emission_of};
+use crate::handle_calls::{an_hour, cancel_late, emission_of, next_of, pause, receive, send};
 use crate::handles::shared::meet;
+use crate::host::Host;
 use flow_law::{Config, OutOfMemory};
 use flow_shared::{Emitter, Reader, SendEnd};
-use std::alloc::AllocGlobal;
 use std::process::Abort;
-use std::random::RandomSource;
 use std::sync::Wait;
-use std::thread::{Threads, join};
-use std::time::{Clock, Duration};
-
-fn an_hour() -> Duration {
-    Duration::from_secs(3_600)
-}
+use std::thread::join;
+use std::time::Clock;
 
 /// Sends a value. Returns whether the flow took it.
 fn sends<R: Wait + Clock>(rt: &R, emitter: &mut Emitter<'_, i64>, value: i64) -> bool {
@@ -29,39 +23,35 @@ fn sends_late<R: Wait + Clock>(rt: &R, emitter: &mut Emitter<'_, i64>, value: i6
     sends(rt, emitter, value)
 }
 
-fn unsubscribe<R: Wait + Clock>(rt: &R, reader: Reader<'_, i64>) {
+/// Unsubscribes, or drops the reader.
+fn leave<R: Wait + Clock>(rt: &R, reader: Reader<'_, i64>, is_dropped: bool) {
     pause(rt);
-    drop(reader.unsubscribe(rt));
+    if is_dropped {
+        drop(reader);
+    } else {
+        drop(reader.unsubscribe(rt));
+    }
 }
 
-/// Without a buffer `emit` suspends until each subscriber has received the value, or has unsubscribed.
+/// Sends a value to a reader that leaves without it.
+fn send_to_one_that_leaves<R: Host>(rt: &R, emitter: &mut Emitter<'_, i64>, is_dropped: bool) {
+    let reader = new_reader(rt, emitter);
+    let (is_sent, ()) = join(
+        rt,
+        || sends(rt, emitter, 7),
+        || leave(rt, reader, is_dropped),
+    );
+    compare(rt, "the value was sent", is_sent, true);
+    compare(rt, "subscribers", emitter.subscription_count(rt), 0);
+}
+
+/// Without a buffer `emit` suspends until each subscriber has received the value, or has left.
 #[test]
 fn a_wait_ends_when_the_subscriber_leaves(rt: HostRuntime) {
     let (flow, seat) = new_flow(&rt, rt.alloc(), Config::new());
     let mut emitter = flow.emitter(seat);
-    let reader = new_reader(&rt, &mut emitter);
-    let (is_sent, ()) = join(
-        &rt,
-        || sends(&rt, &mut emitter, 7),
-        || unsubscribe(&rt, reader),
-    );
-    compare(&rt, "the value was sent", is_sent, true);
-    compare(&rt, "subscribers", emitter.subscription_count(&rt), 0);
-}
-
-fn let_go<R: Clock>(rt: &R, reader: Reader<'_, i64>) {
-    pause(rt);
-    drop(reader);
-}
-
-#[test]
-fn a_wait_ends_when_the_reader_is_dropped(rt: HostRuntime) {
-    let (flow, seat) = new_flow(&rt, rt.alloc(), Config::new());
-    let mut emitter = flow.emitter(seat);
-    let reader = new_reader(&rt, &mut emitter);
-    let (is_sent, ()) = join(&rt, || sends(&rt, &mut emitter, 7), || let_go(&rt, reader));
-    compare(&rt, "the value was sent", is_sent, true);
-    compare(&rt, "subscribers", emitter.subscription_count(&rt), 0);
+    send_to_one_that_leaves(&rt, &mut emitter, false);
+    send_to_one_that_leaves(&rt, &mut emitter, true);
 }
 
 /// Returns the next value that comes in time, if any.
@@ -84,10 +74,7 @@ fn a_value_that_comes_in_time_is_received(rt: HostRuntime) {
 }
 
 /// Cancels an emission of 1, behind which another one waits. Returns whether it waited, and the next value.
-fn cancel_and_receive<R: Wait + Clock + Abort>(
-    rt: &R,
-    reader: &mut Reader<'_, i64>,
-) -> (bool, Option<i64>) {
+fn cancel_and_receive<R: Host>(rt: &R, reader: &mut Reader<'_, i64>) -> (bool, Option<i64>) {
     let was_waiting = cancel_late(rt, &mut reader.another(), 1);
     (was_waiting, receive_in_time(rt, reader))
 }
@@ -108,7 +95,7 @@ fn a_value_behind_a_cancelled_one_is_received(rt: HostRuntime) {
 }
 
 /// Meets another reader, drops it and an emission of 6, and sends 7.
-fn drop_and_send<R: Wait + Clock + Abort>(rt: &R, emitter: &mut Emitter<'_, i64>) -> bool {
+fn drop_and_send<R: Host>(rt: &R, emitter: &mut Emitter<'_, i64>) -> bool {
     pause(rt);
     meet(rt, emitter);
     drop(emission_of(rt, emitter, 6));
@@ -179,10 +166,7 @@ fn send_slowly<R: Wait + Clock>(rt: &R, emitter: &mut Emitter<'_, i64>) -> bool 
 }
 
 /// Returns the first two items of the reader's stream.
-fn stream_two<R: Wait + Abort + RandomSource + AllocGlobal>(
-    rt: &R,
-    reader: Reader<'_, i64>,
-) -> Vec<Result<i64, OutOfMemory>> {
+fn stream_two<R: Host>(rt: &R, reader: Reader<'_, i64>) -> Vec<Result<i64, OutOfMemory>> {
     next_of(rt, reader.into_stream(), 2)
 }
 

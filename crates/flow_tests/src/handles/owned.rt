@@ -116,10 +116,6 @@ fn refused<A: Allocator + Copy>(
 fn an_owned_flow_takes_memory(rt: HostRuntime) {
     let memory = Refusing::new(rt.alloc());
     let refused = refused(&rt, &memory, &memory);
-    compare(
-        &rt,
-        "refused",
-        refused,
-        (Some(OutOfMemory), Some(OutOfMemory)),
-    );
+    let wanted = (Some(OutOfMemory), Some(OutOfMemory));
+    compare(&rt, "refused", refused, wanted);
 }

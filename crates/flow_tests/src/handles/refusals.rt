@@ -2,11 +2,11 @@
 //! again, so the wait returns the same as with memory.
 use crate::compare::compare;
 use crate::flows::{new_reader, new_state_reader};
+use crate::host::Host;
 use flow_law::{Config, Rejected};
 use flow_refusals::Refusing;
 use flow_shared::{Emitter, Reader, SendEnd, Setter, SharedFlow, StateFlow, StateReader};
 use std::alloc::{Allocator, Global};
-use std::process::Abort;
 use std::sync::Wait;
 use std::time::{Clock, Duration};
 
@@ -30,7 +30,7 @@ fn send_again<R: Wait + Clock, A: Allocator + Copy>(
 }
 
 /// Checks that nothing is received in time, and that a value finds no room in time, whichever request is refused.
-fn waits_in_vain<R: Wait + Clock + Abort, A: Allocator + Copy>(
+fn waits_in_vain<R: Host, A: Allocator + Copy>(
     rt: &R,
     emitter: &mut Emitter<'_, i64, A>,
     reader: &mut Reader<'_, i64, A>,
@@ -46,7 +46,7 @@ fn waits_in_vain<R: Wait + Clock + Abort, A: Allocator + Copy>(
 }
 
 /// Makes a flow and a reader without a refusal, and then refuses one request of each wait.
-fn refuse_waits<R: Wait + Clock + Abort, A: Allocator + Copy>(
+fn refuse_waits<R: Host, A: Allocator + Copy>(
     rt: &R,
     memory: A,
     refusing: &Refusing<Global>,
@@ -73,7 +73,7 @@ fn exceeds_eight(value: &i64) -> bool {
 }
 
 /// Checks that the state does not change in time, whichever request is refused.
-fn changes_in_vain<R: Wait + Clock + Abort, A: Allocator + Copy>(
+fn changes_in_vain<R: Host, A: Allocator + Copy>(
     rt: &R,
     setter: &mut Setter<'_, i64, A>,
     reader: &mut StateReader<'_, i64, A>,
@@ -91,7 +91,7 @@ fn changes_in_vain<R: Wait + Clock + Abort, A: Allocator + Copy>(
 }
 
 /// Makes a state flow and a reader without a refusal, and then refuses one request of each wait.
-fn refuse_state_waits<R: Wait + Clock + Abort, A: Allocator + Copy>(
+fn refuse_state_waits<R: Host, A: Allocator + Copy>(
     rt: &R,
     memory: A,
     refusing: &Refusing<Global>,

@@ -3,10 +3,11 @@ ghost use Rattle.std.specs.Prelude.{◌≡◌};
 
 use crate::compare::compare;
 use crate::flows::{new_flow, new_reader};
-use crate::handle_calls::{next, receive, send, try_emit};
-use crate::handles::emissions::{cancel, emission_of, poll, queued, try_cancel, try_poll};
+use crate::handle_calls::{
+    cancel, emission_of, next, queued, receive, send, try_cancel, try_emit, try_poll,
+};
 use flow_law::{Config, Exhausted, NumberError, Rejected};
-use flow_shared::{DrainEnd, Emitter, Reader, SharedFlow};
+use flow_shared::{DrainEnd, EmitAnswer, Emitter, Reader, Seat, SharedFlow};
 use std::alloc::AllocGlobal;
 use std::process::Abort;
 use std::sync::Wait;
@@ -122,18 +123,6 @@ fn a_dropped_reader_ends_its_subscription(rt: HostRuntime) {
     compare(&rt, "try_emit 2", try_emit(&rt, &mut emitter, 2), Ok(true));
 }
 
-/// Without a buffer an emission waits until the subscriber has received its value.
-#[test]
-fn an_emission_waits_until_it_is_received(rt: HostRuntime) {
-    let (flow, seat) = new_flow(&rt, rt.alloc(), Config::new());
-    let mut emitter = flow.emitter(seat);
-    let mut reader = new_reader(&rt, &mut emitter);
-    let emission = poll(&rt, emission_of(&rt, &mut emitter, 1)).expect(&rt, "it waits");
-    let emission = try_poll(emission).expect(&rt, "it waits");
-    compare(&rt, "next", next(&rt, &mut reader), Ok(Some(1)));
-    compare(&rt, "done", poll(&rt, emission).is_none(), true);
-}
-
 /// No reader receives the value of an emission that was dropped, or cancelled.
 #[test]
 fn a_dropped_emission_is_cancelled(rt: HostRuntime) {
@@ -163,4 +152,22 @@ fn a_reader_drains(rt: HostRuntime) {
     let end = reader.drain(&rt, 9, &mut values);
     compare(&rt, "drain of 9", end, Ok(DrainEnd::Empty));
     compare(&rt, "the values", values.as_slice(), [1, 2].as_slice());
+}
+
+/// Emits 4, takes the emission out of its handle, binds it again and cancels it. Returns whether it waited.
+fn is_bound_again<R: Wait>(rt: &R, flow: &SharedFlow<i64>, seat: Seat<i64>) -> bool
+    requires { seat.table_id ≡ flow.now.table_id }
+{
+    match flow.emitter(seat).emit(rt, 4) {
+        EmitAnswer::Queued(emission) => flow.emission(emission.into_emission()).cancel(rt).1,
+        EmitAnswer::Done(_emitter) => false,
+        EmitAnswer::Refused(_emitter, _rejected) => false,
+    }
+}
+
+#[test]
+fn an_emission_gives_its_token_back(rt: HostRuntime) {
+    let (flow, mut seat) = new_flow(&rt, rt.alloc(), Config::new());
+    compare(&rt, "made", flow.subscribe(&rt, &mut seat).is_ok(), true);
+    compare(&rt, "it waited", is_bound_again(&rt, &flow, seat), true);
 }

@@ -3,14 +3,13 @@ use crate::compare::compare;
 use crate::flows::{new_state_flow, new_state_reader};
 use crate::handle_calls::next_of;
 use crate::handles::states::{Reads, Sets};
+use crate::host::Host;
 use flow_law::{OutOfMemory, Unsupported};
 use flow_shared::{DrainEnd, Setter, StateReader};
 use futures::executor::block_on;
-use std::alloc::AllocGlobal;
 use std::process::Abort;
-use std::random::RandomSource;
 use std::sync::Wait;
-use std::time::{Clock, Duration};
+use std::time::Duration;
 
 impl<'a> Sets for Setter<'a, i64> {
     type Reader = StateReader<'a, i64>;
@@ -33,7 +32,7 @@ impl<'a> Reads for StateReader<'a, i64> {
         self.changed(rt).expect(rt, "memory")
     }
 
-    fn wait_in_time<R: Wait + Clock + Abort>(&mut self, rt: &R, limit: Duration) -> Option<i64> {
+    fn wait_in_time<R: Host>(&mut self, rt: &R, limit: Duration) -> Option<i64> {
         self.changed_timeout(rt, limit).expect(rt, "memory")
     }
 
@@ -42,25 +41,17 @@ impl<'a> Reads for StateReader<'a, i64> {
         found.expect(rt, "memory")
     }
 
-    fn wait_above_in_time<R: Wait + Clock + Abort>(
-        &mut self,
-        rt: &R,
-        limit: Duration,
-        least: i64,
-    ) -> Option<i64> {
+    fn wait_above_in_time<R: Host>(&mut self, rt: &R, limit: Duration, least: i64) -> Option<i64> {
         let found = self.wait_for_timeout(rt, limit, |value: &i64| *value > least);
         found.expect(rt, "memory")
     }
 
-    fn await_one<R: Wait + Abort + RandomSource + AllocGlobal>(
-        self,
-        rt: &R,
-    ) -> Option<(i64, Option<i64>)> {
+    fn await_one<R: Host>(self, rt: &R) -> Option<(i64, Option<i64>)> {
         let (mut reader, value) = block_on(rt, self.into_changed()).ok()?;
         Some((value.ok()?, reader.next(rt).ok()?))
     }
 
-    fn stream_one<R: Wait + Abort + RandomSource + AllocGlobal>(self, rt: &R) -> Option<i64> {
+    fn stream_one<R: Host>(self, rt: &R) -> Option<i64> {
         next_of(rt, self.into_stream(), 1).pop()?.ok()
     }
 }

@@ -1,12 +1,11 @@
 //! What holds of the handles of state flows and of word states alike. Each state begins with the value 7.
 use crate::compare::compare;
 use crate::flows::{new_state_flow, new_word_state};
-use crate::handle_calls::pause;
-use std::alloc::AllocGlobal;
+use crate::handle_calls::{an_hour, pause};
+use crate::host::Host;
 use std::process::Abort;
-use std::random::RandomSource;
 use std::sync::Wait;
-use std::thread::{Threads, join};
+use std::thread::join;
 use std::time::{Clock, Duration};
 
 /// A handle that sets a state.
@@ -26,35 +25,22 @@ pub trait Reads: Send + Drop {
     /// Waits for a value that the subscriber has not received yet.
     fn wait<R: Wait + Abort>(&mut self, rt: &R) -> i64;
 
-    fn wait_in_time<R: Wait + Clock + Abort>(&mut self, rt: &R, limit: Duration) -> Option<i64>;
+    fn wait_in_time<R: Host>(&mut self, rt: &R, limit: Duration) -> Option<i64>;
 
     /// Waits for a value that is greater than this one.
     fn wait_above<R: Wait + Abort>(&mut self, rt: &R, least: i64) -> i64;
 
-    fn wait_above_in_time<R: Wait + Clock + Abort>(
-        &mut self,
-        rt: &R,
-        limit: Duration,
-        least: i64,
-    ) -> Option<i64>;
+    fn wait_above_in_time<R: Host>(&mut self, rt: &R, limit: Duration, least: i64) -> Option<i64>;
 
     /// Awaits a change by a future, and then takes the next value, if there is one.
-    fn await_one<R: Wait + Abort + RandomSource + AllocGlobal>(
-        self,
-        rt: &R,
-    ) -> Option<(i64, Option<i64>)>;
+    fn await_one<R: Host>(self, rt: &R) -> Option<(i64, Option<i64>)>;
 
     /// Returns the first item of the reader's stream.
-    fn stream_one<R: Wait + Abort + RandomSource + AllocGlobal>(self, rt: &R) -> Option<i64>;
-}
-
-/// A limit that no test reaches.
-fn an_hour() -> Duration {
-    Duration::from_secs(3_600)
+    fn stream_one<R: Host>(self, rt: &R) -> Option<i64>;
 }
 
 /// `StateFlow.first { }` tests the current value first, whether or not the reader has received it.
-fn waits_for_a_value<R: Wait + Clock + Abort, S: Sets>(rt: &R, setter: &mut S) {
+fn waits_for_a_value<R: Host, S: Sets>(rt: &R, setter: &mut S) {
     let mut reader = setter.reader(rt);
     compare(rt, "wait_for above 6", reader.wait_above(rt, 6), 7);
     compare(rt, "next after it", reader.take(rt), None);
@@ -71,7 +57,7 @@ fn waits_for_a_value<R: Wait + Clock + Abort, S: Sets>(rt: &R, setter: &mut S) {
 }
 
 /// Like `withTimeoutOrNull`: null if no value that is waited for is there in time, and otherwise the value.
-fn waits_in_time<R: Wait + Clock + Abort, S: Sets>(rt: &R, setter: &mut S) {
+fn waits_in_time<R: Host, S: Sets>(rt: &R, setter: &mut S) {
     let mut reader = setter.reader(rt);
     let limit = Duration::from_millis(1);
     compare(rt, "changed", reader.wait_in_time(rt, limit), Some(7));
@@ -86,7 +72,7 @@ fn waits_in_time<R: Wait + Clock + Abort, S: Sets>(rt: &R, setter: &mut S) {
     compare(rt, "not changed", reader.wait_in_time(rt, at_once), None);
 }
 
-fn waits<R: Wait + Clock + Abort, S: Sets>(rt: &R, setter: &mut S) {
+fn waits<R: Host, S: Sets>(rt: &R, setter: &mut S) {
     waits_for_a_value(rt, setter);
     setter.put(rt, 7);
     waits_in_time(rt, setter);
@@ -119,10 +105,7 @@ fn put_late<R: Wait + Clock, S: Sets>(rt: &R, setter: &mut S, value: i64) {
 }
 
 /// A reader sleeps until the value changes.
-fn a_change_wakes_a_thread<R, S: Sets>(rt: &R, setter: &mut S)
-where
-    R: Wait + Clock + Threads + Abort + Sync,
-{
+fn a_change_wakes_a_thread<R: Host, S: Sets>(rt: &R, setter: &mut S) {
     let mut reader = reader_of_seven(rt, setter);
     let ((), came) = join(rt, || put_late(rt, setter, 8), || reader.wait(rt));
     compare(rt, "changed on another thread", came, 8);
@@ -135,10 +118,7 @@ fn put_three<R: Wait + Clock, S: Sets>(rt: &R, setter: &mut S) {
 }
 
 /// `StateFlow.first { it > 9 }` is 10 if the values are set one after the other, up to 10.
-fn a_thread_waits_for_a_value<R, S: Sets>(rt: &R, setter: &mut S)
-where
-    R: Wait + Clock + Threads + Abort + Sync,
-{
+fn a_thread_waits_for_a_value<R: Host, S: Sets>(rt: &R, setter: &mut S) {
     let mut reader = reader_of_seven(rt, setter);
     let ((), came) = join(rt, || put_three(rt, setter), || reader.wait_above(rt, 9));
     compare(rt, "wait_for on another thread", came, 10);
@@ -164,39 +144,27 @@ fn follow<R: Wait + Abort, D: Reads>(rt: &R, reader: &mut D) -> bool {
 }
 
 /// A reader skips values, and receives none twice.
-fn a_thread_follows<R, S: Sets>(rt: &R, setter: &mut S)
-where
-    R: Wait + Clock + Threads + Abort + Sync,
-{
+fn a_thread_follows<R: Host, S: Sets>(rt: &R, setter: &mut S) {
     let mut reader = reader_of_seven(rt, setter);
     let ((), is_right) = join(rt, || put_many(rt, setter), || follow(rt, &mut reader));
     compare(rt, "each value is greater", is_right, true);
 }
 
 /// A task sleeps in the executor until the other thread sets a value.
-fn a_change_wakes_a_task<R, S: Sets>(rt: &R, setter: &mut S)
-where
-    R: Wait + Clock + Threads + Abort + RandomSource + AllocGlobal + Sync,
-{
+fn a_change_wakes_a_task<R: Host, S: Sets>(rt: &R, setter: &mut S) {
     let reader = reader_of_seven(rt, setter);
     let ((), came) = join(rt, || put_late(rt, setter, 8), || reader.await_one(rt));
     compare(rt, "the future's, the next", came, Some((8, None)));
 }
 
 /// `drop(1).take(1)` of a state that begins with 7 and is set to 8 gives 8.
-fn a_change_wakes_a_stream<R, S: Sets>(rt: &R, setter: &mut S)
-where
-    R: Wait + Clock + Threads + Abort + RandomSource + AllocGlobal + Sync,
-{
+fn a_change_wakes_a_stream<R: Host, S: Sets>(rt: &R, setter: &mut S) {
     let reader = reader_of_seven(rt, setter);
     let ((), came) = join(rt, || put_late(rt, setter, 8), || reader.stream_one(rt));
     compare(rt, "the stream's item", came, Some(8));
 }
 
-fn meet<R, S: Sets>(rt: &R, setter: &mut S)
-where
-    R: Wait + Clock + Threads + Abort + RandomSource + AllocGlobal + Sync,
-{
+fn meet<R: Host, S: Sets>(rt: &R, setter: &mut S) {
     a_change_wakes_a_thread(rt, setter);
     a_thread_waits_for_a_value(rt, setter);
     a_thread_follows(rt, setter);

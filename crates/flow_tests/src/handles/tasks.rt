@@ -1,23 +1,21 @@
-//! Futures of an emitter and of readers of one shared flow, on one thread.
+//! Futures of an emitter and of readers of one shared flow, on one thread, and a flow that is dropped while a task sleeps.
+ghost use Rattle.std.specs.Prelude.{◌≡◌};
+
 use crate::compare::compare;
 use crate::flows::{new_flow, new_reader};
 use crate::handle_calls::next;
+use crate::host::Host;
 use flow_law::Config;
-use flow_shared::{Emitter, ReceiveFuture, Received};
+use flow_shared::{Emitter, ReceiveFuture, Received, Seat, SharedFlow};
 use futures::Future;
 use futures::future::{ready, select};
 use futures::task::Poll;
 use futures::test::MockTask;
-use std::alloc::AllocGlobal;
 use std::process::Abort;
-use std::random::RandomSource;
 use std::sync::Wait;
 
 /// Polls a future once, and drops it. Returns whether it waited.
-fn poll_and_drop<R: Wait + Abort + RandomSource + AllocGlobal, F: Future<Output: Drop> + Drop>(
-    rt: &R,
-    mut future: F,
-) -> bool
+fn poll_and_drop<R: Host, F: Future<Output: Drop> + Drop>(rt: &R, mut future: F) -> bool
     requires { F.can_poll future }
 {
     let task = MockTask::new(rt).expect(rt, "a task");
@@ -25,11 +23,7 @@ fn poll_and_drop<R: Wait + Abort + RandomSource + AllocGlobal, F: Future<Output:
 }
 
 /// Polls a future that sends this value, and drops it. Returns whether it waited.
-fn poll_send<R: Wait + Abort + RandomSource + AllocGlobal>(
-    rt: &R,
-    emitter: &mut Emitter<'_, i64>,
-    value: i64,
-) -> bool {
+fn poll_send<R: Host>(rt: &R, emitter: &mut Emitter<'_, i64>, value: i64) -> bool {
     poll_and_drop(rt, emitter.another().into_send(value))
 }
 
@@ -50,20 +44,14 @@ fn received(poll: Poll<Received<i64>>) -> Option<i64> {
 }
 
 /// Polls a future of a new reader, and drops it. Returns what it received.
-fn poll_receive<R: Wait + Abort + RandomSource + AllocGlobal>(
-    rt: &R,
-    emitter: &mut Emitter<'_, i64>,
-) -> Option<i64> {
+fn poll_receive<R: Host>(rt: &R, emitter: &mut Emitter<'_, i64>) -> Option<i64> {
     let task = MockTask::new(rt).expect(rt, "a task");
     received(task.poll(&mut new_future(rt, emitter)))
 }
 
 /// Drops a future of a new reader before it is polled, since another future wins a `select`. Returns whether that one
 /// won at once.
-fn lose_select<R: Wait + Abort + RandomSource + AllocGlobal>(
-    rt: &R,
-    emitter: &mut Emitter<'_, i64>,
-) -> bool {
+fn lose_select<R: Host>(rt: &R, emitter: &mut Emitter<'_, i64>) -> bool {
     !poll_and_drop(rt, select(ready(7), new_future(rt, emitter)))
 }
 
@@ -91,4 +79,38 @@ fn a_dropped_future_that_sends_is_cancelled(rt: HostRuntime) {
     let mut reader = new_reader(&rt, &mut emitter);
     compare(&rt, "5 waits", poll_send(&rt, &mut emitter, 5), true);
     compare(&rt, "next", next(&rt, &mut reader), Ok(None));
+}
+
+/// Polls a future, and takes the subscription out of it; its waker stays in the flow. Returns whether the future was
+/// pending and still had the subscription.
+fn poll_and_leave(task: &MockTask, mut future: ReceiveFuture<'_, i64>) -> bool {
+    let waits = task.poll(&mut future).is_pending();
+    waits & future.into_subscription().is_some()
+}
+
+/// Leaves the task's waker in the flow, and returns the seat.
+fn leave_waker<R: Wait + Abort>(
+    rt: &R,
+    task: &MockTask,
+    flow: &SharedFlow<i64>,
+    seat: Seat<i64>,
+) -> Seat<i64>
+    requires { seat.table_id ≡ flow.now.table_id }
+    ensures { result.table_id ≡ flow.now.table_id }
+{
+    let mut emitter = flow.emitter(seat);
+    let future = new_reader(rt, &mut emitter).into_receive();
+    compare(rt, "the future waits", poll_and_leave(task, future), true);
+    emitter.into_seat()
+}
+
+/// A flow that is dropped wakes the tasks whose wakers it has.
+#[test]
+fn the_end_of_a_flow_wakes_its_sleepers(rt: HostRuntime) {
+    let (flow, seat) = new_flow(&rt, rt.alloc(), Config::new());
+    let task = MockTask::new(&rt).expect(&rt, "a task");
+    let seat = leave_waker(&rt, &task, &flow, seat);
+    compare(&rt, "woken before the end", task.is_woken(), false);
+    compare(&rt, "the flow is closed", flow.close(seat).is_some(), true);
+    compare(&rt, "woken by the end", task.is_woken(), true);
 }

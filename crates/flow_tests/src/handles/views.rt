@@ -2,11 +2,12 @@
 use crate::compare::compare;
 use crate::flows::{new_flow, new_reader, new_state_flow};
 use crate::handle_calls::try_emit;
+use crate::host::Host;
 use flow_law::{Config, NumberError};
 use flow_shared::{Reader, SharedView, StateView};
 use std::process::Abort;
 use std::sync::Wait;
-use std::time::{Clock, Duration};
+use std::time::Duration;
 
 /// Returns the sum of the values up to and with `last`.
 fn sum_to<R: Wait + Abort>(rt: &R, reader: &mut Reader<'_, i64>, last: i64) -> i64 {
@@ -22,7 +23,7 @@ fn sum_to<R: Wait + Abort>(rt: &R, reader: &mut Reader<'_, i64>, last: i64) -> i
 }
 
 /// Returns the sum of the values that come within some milliseconds.
-fn sum_within<R: Wait + Clock + Abort>(rt: &R, reader: &mut Reader<'_, i64>, millis: u64) -> i64 {
+fn sum_within<R: Host>(rt: &R, reader: &mut Reader<'_, i64>, millis: u64) -> i64 {
     let mut sum = 0i64;
     for value in reader.values_until(rt, Duration::from_millis(millis)) {
         sum = sum.wrapping_add(value.expect(rt, "a value"));
@@ -47,18 +48,14 @@ fn an_iterator_receives_the_values(rt: HostRuntime) {
 }
 
 /// Subscribes through a view of a shared flow, and receives by each call of its reader.
-fn read_shared<R: Wait + Clock + Abort>(rt: &R, view: &mut SharedView<'_, i64>) {
+fn read_shared<R: Host>(rt: &R, view: &mut SharedView<'_, i64>) {
     let mut reader = view.subscribe(rt).expect(rt, "a reader");
     compare(rt, "receive", reader.receive(rt), Ok(1));
     compare(rt, "next", reader.next(rt), Ok(Some(2)));
     compare(rt, "value", reader.values(rt).next(), Some(Ok(3)));
     let millis = Duration::from_millis(1);
-    compare(
-        rt,
-        "in time",
-        reader.values_until(rt, millis).next(),
-        Some(Ok(4)),
-    );
+    let value = reader.values_until(rt, millis).next();
+    compare(rt, "in time", value, Some(Ok(4)));
     compare(rt, "no more", reader.receive_timeout(rt, millis), Ok(None));
     let mut back = reader.unsubscribe(rt);
     let cache = back.replay_cache(rt).expect(rt, "a list");
@@ -83,23 +80,15 @@ fn a_view_reads_a_shared_flow(rt: HostRuntime) {
 }
 
 /// Subscribes through a view of a state flow, and receives its state.
-fn read_state<R: Wait + Clock + Abort>(rt: &R, view: &mut StateView<'_, i64>) {
+fn read_state<R: Host>(rt: &R, view: &mut StateView<'_, i64>) {
     compare(rt, "value", view.value(rt), Ok(7));
     let mut reader = view.subscribe(rt).expect(rt, "a reader");
     compare(rt, "changed", reader.changed(rt), Ok(7));
     let millis = Duration::from_millis(1);
-    compare(
-        rt,
-        "not changed",
-        reader.changed_timeout(rt, millis),
-        Ok(None),
-    );
-    compare(
-        rt,
-        "wait_for",
-        reader.wait_for(rt, |value| *value == 7),
-        Ok(7),
-    );
+    let late = reader.changed_timeout(rt, millis);
+    compare(rt, "not changed", late, Ok(None));
+    let found = reader.wait_for(rt, |value| *value == 7);
+    compare(rt, "wait_for", found, Ok(7));
 }
 
 /// A view of a state flow reads the state and subscribes.

@@ -5,13 +5,12 @@ use crate::compare::compare;
 use crate::flows::{new_word_reader, new_word_state};
 use crate::handle_calls::next_of;
 use crate::handles::states::{Reads, Sets};
+use crate::host::Host;
 use flow_word::{WordReader, WordSetter, WordState};
 use futures::executor::block_on;
-use std::alloc::AllocGlobal;
 use std::process::Abort;
-use std::random::RandomSource;
 use std::sync::Wait;
-use std::time::{Clock, Duration};
+use std::time::Duration;
 
 impl<'a> Sets for WordSetter<'a, i64> {
     type Reader = WordReader<'a, i64>;
@@ -34,7 +33,7 @@ impl<'a> Reads for WordReader<'a, i64> {
         self.changed(rt)
     }
 
-    fn wait_in_time<R: Wait + Clock + Abort>(&mut self, rt: &R, limit: Duration) -> Option<i64> {
+    fn wait_in_time<R: Host>(&mut self, rt: &R, limit: Duration) -> Option<i64> {
         self.changed_timeout(rt, limit)
     }
 
@@ -42,24 +41,16 @@ impl<'a> Reads for WordReader<'a, i64> {
         self.wait_for(rt, |value: &i64| *value > least)
     }
 
-    fn wait_above_in_time<R: Wait + Clock + Abort>(
-        &mut self,
-        rt: &R,
-        limit: Duration,
-        least: i64,
-    ) -> Option<i64> {
+    fn wait_above_in_time<R: Host>(&mut self, rt: &R, limit: Duration, least: i64) -> Option<i64> {
         self.wait_for_timeout(rt, limit, |value: &i64| *value > least)
     }
 
-    fn await_one<R: Wait + Abort + RandomSource + AllocGlobal>(
-        self,
-        rt: &R,
-    ) -> Option<(i64, Option<i64>)> {
+    fn await_one<R: Host>(self, rt: &R) -> Option<(i64, Option<i64>)> {
         let (mut reader, value) = block_on(rt, self.into_changed()).ok()?;
         Some((value, reader.next()))
     }
 
-    fn stream_one<R: Wait + Abort + RandomSource + AllocGlobal>(self, rt: &R) -> Option<i64> {
+    fn stream_one<R: Host>(self, rt: &R) -> Option<i64> {
         next_of(rt, self.into_stream(), 1).pop()
     }
 }

@@ -1,8 +1,9 @@
-//! Drains, of which no script has one. The values are those that kotlinx.coroutines documents for the same collector.
+//! Drains, of which no script has one, and refused copies of values. The values are those that kotlinx.coroutines documents
+//! for the same collector.
 use crate::one_thread::caller::Caller;
 use flow_law::Drained::{Empty, Gone, Most};
 use flow_law::Emit::{Done, Queued};
-use flow_law::{Config, FlowFault};
+use flow_law::{Config, FlowFault, Overflow};
 use std::cell::Cell;
 
 /// A drain takes all values that the subscriber can receive, and none once it has unsubscribed.
@@ -54,4 +55,40 @@ fn a_drain_copies_again(rt: HostRuntime) {
     let id = flow.subscribe(&rt);
     flow.refuse_copy(2);
     flow.drain(&rt, id, 10, Ok(Empty), &[1, 2, 3]);
+}
+
+/// A cache of one value, and room for one more.
+fn room_for_two() -> Config {
+    Config::new()
+        .replay(1)
+        .extra(1)
+        .overflow(Overflow::DropOldest)
+}
+
+/// First values of a subscriber's own are moved: the first copy, which is refused, is that of a value of the flow.
+#[test]
+fn own_first_values_are_not_copied(rt: HostRuntime) {
+    let copies = Cell::new(0);
+    let mut flow = Caller::new(&rt, rt.alloc(), room_for_two(), &copies);
+    flow.emit_all(&rt, 1, 1);
+    let id = flow.subscribe_with(&rt, rt.alloc(), &[8, 9]);
+    flow.emit_all(&rt, 2, 4);
+    flow.refuse_copy(1);
+    flow.receive_all(&rt, id, 8, 9);
+    flow.receive_nothing(&rt, id);
+    flow.receive_all(&rt, id, 3, 4);
+}
+
+#[test]
+fn a_refused_copy_is_received_later(rt: HostRuntime) {
+    let copies = Cell::new(0);
+    let mut flow = Caller::new(&rt, rt.alloc(), room_for_two(), &copies);
+    flow.emit_all(&rt, 1, 1);
+    let id = flow.subscribe_with(&rt, rt.alloc(), &[8]);
+    flow.emit_all(&rt, 2, 3);
+    flow.refuse_copy(2);
+    flow.receive(&rt, id, 8);
+    flow.receive(&rt, id, 2);
+    flow.receive_nothing(&rt, id);
+    flow.receive(&rt, id, 3);
 }

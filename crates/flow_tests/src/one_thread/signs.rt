@@ -1,7 +1,9 @@
-//! What a flow for threads reads of a core to find the sleepers that have something after a call.
+//! What a flow for threads reads of a core to find the sleepers that have something after a call, and the place of a
+//! subscriber, at which a core looks first: its subscription's `Debug` shows it.
 use crate::compare::{compare, compare_step};
-use flow_core::{ReaderCalls, SharedCore, Signs, StateCore};
+use flow_core::{ReaderCalls, SharedCore, Signs, StateCore, SubId, SubscriberCalls};
 use flow_law::{Config, Emit};
+use std::alloc::Global;
 use std::process::Abort;
 
 /// Compares the number of values, the first emission that waits, the number of subscribers, and the last one's number.
@@ -42,4 +44,31 @@ fn a_state_counts_its_subscribers_alone(rt: HostRuntime) {
     are(&rt, "subscribe", core.signs(), (0, None, 1, last));
     compare(&rt, "it was there", core.unsubscribe(id), true);
     are(&rt, "unsubscribe", core.signs(), (0, None, 0, last));
+}
+
+/// Compares the text that `Debug` prints of a subscription.
+fn is_printed(rt: &impl Abort, alloc: Global, id: SubId, wanted: &str) {
+    let printed = format!(in alloc; "{id:?}").expect(rt, "memory");
+    compare(rt, "the text of a subscription", printed.as_str(), wanted);
+}
+
+/// Adds three subscribers, removes the second, and adds a fourth. Checks that the fourth has the place of the second.
+fn subscribe_four<S: SubscriberCalls>(rt: &impl Abort, alloc: Global, core: &mut S) {
+    let first = core.subscribe().expect(rt, "a subscription");
+    let second = core.subscribe().expect(rt, "a subscription");
+    let third = core.subscribe().expect(rt, "a subscription");
+    compare(rt, "unsubscribe", core.unsubscribe(second), true);
+    let fourth = core.subscribe().expect(rt, "a subscription");
+    is_printed(rt, alloc, first, "SubId { number: 1, key: 0 }");
+    is_printed(rt, alloc, second, "SubId { number: 2, key: 1 }");
+    is_printed(rt, alloc, third, "SubId { number: 3, key: 2 }");
+    is_printed(rt, alloc, fourth, "SubId { number: 4, key: 1 }");
+}
+
+#[test]
+fn a_subscription_has_the_place_of_its_subscriber(rt: HostRuntime) {
+    let alloc = rt.alloc();
+    let shared = SharedCore::<i64>::new(alloc, Config::new());
+    subscribe_four(&rt, alloc, &mut shared.expect(&rt, "a flow"));
+    subscribe_four(&rt, alloc, &mut StateCore::new(alloc, 0i64, u64::MAX));
 }

@@ -1,6 +1,7 @@
 //! The traits of values that own memory: what they print, when they are equal, and that equal values have equal hashes.
 use crate::compare::compare;
-use crate::one_thread::values::{boxed, items};
+use crate::one_thread::values::items;
+use crate::values::{boxed, text};
 use flow_law::{OutOfMemory, Text};
 use flow_refusals::Refusing;
 use std::alloc::Global;
@@ -13,10 +14,6 @@ use std::process::Abort;
 enum Page {
     Loading,
     Ready(Text),
-}
-
-fn text(rt: &impl Abort, alloc: Global, text: &str) -> Text {
-    Text::from_str(alloc, text).expect(rt, "memory")
 }
 
 fn ready(rt: &impl Abort, alloc: Global, title: &str) -> Page {
@@ -57,21 +54,13 @@ fn texts_are_equal_if_their_bytes_are(rt: HostRuntime) {
     }
 }
 
+/// A text is hashed as a `str` is and printed as it is, and in a state with quotes.
 #[test]
-fn a_text_is_hashed_as_a_str_is(rt: HostRuntime) {
+fn a_text_is_hashed_and_printed(rt: HostRuntime) {
     let page = text(&rt, rt.alloc(), "page");
     compare(&rt, "the hash", hash_of(&page), hash_of(&"page"));
-}
-
-#[test]
-fn a_text_is_printed_as_it_is(rt: HostRuntime) {
-    let page = text(&rt, rt.alloc(), "page");
     let printed = format!(in rt.alloc(); "{page}, {page:>6}").expect(&rt, "memory");
     compare(&rt, "what is printed", printed.as_str(), "page,   page");
-}
-
-#[test]
-fn a_text_in_a_state_is_printed_with_quotes(rt: HostRuntime) {
     is_printed(&rt, rt.alloc(), &Page::Loading, "Loading");
     let page = ready(&rt, rt.alloc(), "page");
     is_printed(&rt, rt.alloc(), &page, "Ready(\"page\")");
@@ -88,39 +77,19 @@ fn a_text_is_refused_without_memory(rt: HostRuntime) {
 #[test]
 fn a_list_is_compared_and_printed_by_its_values(rt: HostRuntime) {
     let list = items(&rt, rt.alloc(), 0, &[1, 2]);
-    are_equal(
-        &rt,
-        "a list of the same values",
-        &list,
-        &items(&rt, rt.alloc(), 0, &[1, 2]),
-        true,
-    );
-    are_equal(
-        &rt,
-        "a shorter list",
-        &list,
-        &items(&rt, rt.alloc(), 0, &[1]),
-        false,
-    );
+    let same = items(&rt, rt.alloc(), 0, &[1, 2]);
+    are_equal(&rt, "the same values", &list, &same, true);
+    let shorter = items(&rt, rt.alloc(), 0, &[1]);
+    are_equal(&rt, "a shorter list", &list, &shorter, false);
     is_printed(&rt, rt.alloc(), &list, "[1, 2]");
 }
 
 #[test]
 fn a_box_is_compared_and_printed_by_its_value(rt: HostRuntime) {
     let seven = boxed(&rt, rt.alloc(), 7);
-    are_equal(
-        &rt,
-        "a box of the same value",
-        &seven,
-        &boxed(&rt, rt.alloc(), 7),
-        true,
-    );
-    are_equal(
-        &rt,
-        "a box of another value",
-        &seven,
-        &boxed(&rt, rt.alloc(), 8),
-        false,
-    );
+    let same = boxed(&rt, rt.alloc(), 7);
+    are_equal(&rt, "the same value", &seven, &same, true);
+    let other = boxed(&rt, rt.alloc(), 8);
+    are_equal(&rt, "another value", &seven, &other, false);
     is_printed(&rt, rt.alloc(), &seven, "7");
 }

@@ -1,6 +1,7 @@
 //! Lists and boxed values in flows. Two are the same if their contents are, as `StateFlow` compares by `equals`.
 use crate::compare::{compare, compare_step};
-use crate::one_thread::limited::list_of;
+use crate::one_thread::caller::list_of;
+use crate::values::boxed;
 use flow_core::{StateCore, SubId};
 use flow_law::{Boxed, FlowFault, FlowValue, Items, Next};
 use flow_refusals::CopyLimited;
@@ -51,10 +52,6 @@ fn a_list_is_its_values(rt: HostRuntime) {
         let list = items(&rt, rt.alloc(), *room, values);
         is_list(&rt, set_and_receive(&mut flow, reader, list), *wanted);
     }
-}
-
-pub fn boxed(rt: &impl Abort, alloc: Global, number: i64) -> Boxed<i64> {
-    Boxed::new(Box::new(alloc, number).expect(rt, "memory"))
 }
 
 /// Returns the number in the box, if there is one.

@@ -4,7 +4,7 @@ ghost use Rattle.std.specs.Prelude.{◌≡◌};
 
 use crate::compare::compare;
 use crate::refusals::flows::SMALL;
-use crate::values::Numbered;
+use crate::values::boxed;
 use flow_law::{Boxed, FlowFault};
 use flow_refusals::Refusing;
 use flow_shared::{EmitFuture, Emitted, NextFuture, Seat, Sent, SharedFlow, Subscription};
@@ -14,14 +14,20 @@ use std::alloc::{Allocator, Global};
 use std::process::Abort;
 use std::sync::Wait;
 
+type BoxFlow<A> = SharedFlow<Boxed<i64, A>, A>;
+
+type BoxSeat<A> = Seat<Boxed<i64, A>, A>;
+
+type BoxSubscription<A> = Subscription<Boxed<i64, A>, A>;
+
 /// Emits 3, which is refused. Returns the seat and the value, which are handed back.
-fn emit_now<R: Abort, T: Numbered<Memory = A>, A: Allocator + Copy>(
+fn emit_now<R: Abort, A: Allocator + Copy>(
     rt: &R,
-    flow: &SharedFlow<T, A>,
-    seat: Seat<T, A>,
-    value: T,
+    flow: &BoxFlow<A>,
+    seat: BoxSeat<A>,
+    value: Boxed<i64, A>,
     refusing: &Refusing<Global>,
-) -> (Seat<T, A>, T)
+) -> (BoxSeat<A>, Boxed<i64, A>)
     requires { seat.table_id ≡ flow.now.table_id }
     ensures { result.0.table_id ≡ flow.entry.now.table_id }
 {
@@ -36,14 +42,14 @@ fn emit_now<R: Abort, T: Numbered<Memory = A>, A: Allocator + Copy>(
 }
 
 /// Emits 3 by a future, which is refused. Returns the seat and the value, which are handed back.
-fn emit_later<R: Abort, T: Numbered<Memory = A>, A: Allocator + Copy>(
+fn emit_later<R: Abort, A: Allocator + Copy>(
     rt: &R,
     task: &MockTask,
-    flow: &SharedFlow<T, A>,
-    seat: Seat<T, A>,
-    value: T,
+    flow: &BoxFlow<A>,
+    seat: BoxSeat<A>,
+    value: Boxed<i64, A>,
     refusing: &Refusing<Global>,
-) -> (Seat<T, A>, T)
+) -> (BoxSeat<A>, Boxed<i64, A>)
     requires { seat.table_id ≡ flow.now.table_id }
     ensures { result.0.table_id ≡ flow.entry.now.table_id }
 {
@@ -51,7 +57,7 @@ fn emit_later<R: Abort, T: Numbered<Memory = A>, A: Allocator + Copy>(
     match task.poll(&mut EmitFuture::new(flow, seat, value)) {
         Poll::Ready(Sent::Refused(seat, value, fault)) => {
             compare(rt, "a refused EmitFuture", fault, FlowFault::OutOfMemory);
-            compare(rt, "the value that it hands back", value.number(), 3);
+            compare(rt, "the value that it hands back", *value.value(), 3);
             (seat, value)
         }
         _ => panic!(rt; "it is refused"),
@@ -59,12 +65,12 @@ fn emit_later<R: Abort, T: Numbered<Memory = A>, A: Allocator + Copy>(
 }
 
 /// Emits a value that has to wait. Checks that its future asks for memory once.
-fn emits<R: Abort, T: Numbered<Memory = A>, A: Allocator + Copy>(
+fn emits<R: Abort, A: Allocator + Copy>(
     rt: &R,
     task: &MockTask,
-    flow: &SharedFlow<T, A>,
-    seat: Seat<T, A>,
-    value: T,
+    flow: &BoxFlow<A>,
+    seat: BoxSeat<A>,
+    value: Boxed<i64, A>,
     refusing: &Refusing<Global>,
 )
     requires { seat.table_id ≡ flow.now.table_id }
@@ -76,12 +82,12 @@ fn emits<R: Abort, T: Numbered<Memory = A>, A: Allocator + Copy>(
 }
 
 /// Polls a future that receives, which is ready. Returns its subscription, and what it received.
-fn poll_next<R: Abort, T: Numbered<Memory = A>, A: Allocator + Copy>(
+fn poll_next<R: Abort, A: Allocator + Copy>(
     rt: &R,
     task: &MockTask,
-    flow: &SharedFlow<T, A>,
-    subscription: Subscription<T, A>,
-) -> (Subscription<T, A>, Result<T, FlowFault>)
+    flow: &BoxFlow<A>,
+    subscription: BoxSubscription<A>,
+) -> (BoxSubscription<A>, Result<Boxed<i64, A>, FlowFault>)
     requires { subscription.token.table_id ≡ flow.now.table_id }
     ensures { result.0.token.table_id ≡ flow.entry.now.table_id }
 {
@@ -92,13 +98,13 @@ fn poll_next<R: Abort, T: Numbered<Memory = A>, A: Allocator + Copy>(
 }
 
 /// Receives by a future, which is refused. Returns the subscription, which is handed back.
-fn receive_later<R: Abort, T: Numbered<Memory = A>, A: Allocator + Copy>(
+fn receive_later<R: Abort, A: Allocator + Copy>(
     rt: &R,
     task: &MockTask,
-    flow: &SharedFlow<T, A>,
-    subscription: Subscription<T, A>,
+    flow: &BoxFlow<A>,
+    subscription: BoxSubscription<A>,
     refusing: &Refusing<Global>,
-) -> Subscription<T, A>
+) -> BoxSubscription<A>
     requires { subscription.token.table_id ≡ flow.now.table_id }
     ensures { result.token.table_id ≡ flow.entry.now.table_id }
 {
@@ -109,11 +115,11 @@ fn receive_later<R: Abort, T: Numbered<Memory = A>, A: Allocator + Copy>(
 }
 
 /// Receives the first value. Checks that its future asks for memory once.
-fn receives<R: Abort, T: Numbered<Memory = A>, A: Allocator + Copy>(
+fn receives<R: Abort, A: Allocator + Copy>(
     rt: &R,
     task: &MockTask,
-    flow: &SharedFlow<T, A>,
-    subscription: Subscription<T, A>,
+    flow: &BoxFlow<A>,
+    subscription: BoxSubscription<A>,
     refusing: &Refusing<Global>,
 )
     requires { subscription.token.table_id ≡ flow.now.table_id }
@@ -121,55 +127,40 @@ fn receives<R: Abort, T: Numbered<Memory = A>, A: Allocator + Copy>(
     refusing.refuse(2);
     let (_subscription, received) = poll_next(rt, task, flow, subscription);
     match received {
-        Ok(value) => compare(rt, "the first value", value.number(), 1),
+        Ok(value) => compare(rt, "the first value", *value.value(), 1),
         Err(_fault) => panic!(rt; "it is received"),
     }
     compare(rt, "one request alone", refusing.is_waiting(), true);
 }
 
-/// Emits the value with this number. Ends the test unless the flow takes it.
-fn fill<R: Wait + Abort, T: Numbered<Memory = A>, A: Allocator + Copy>(
-    rt: &R,
-    memory: A,
-    flow: &SharedFlow<T, A>,
-    seat: &mut Seat<T, A>,
-    number: i64,
-)
-    requires { seat.old.table_id ≡ flow.now.table_id }
-    ensures { seat.new.table_id ≡ flow.entry.now.table_id }
-{
-    let taken = flow.try_emit(rt, seat, T::of(rt, memory, number));
-    compare(rt, "try_emit", taken.ok(), Some(true));
-}
-
 /// Returns a flow into which 1 and 2 were emitted, a seat of it, and a subscriber that has received neither.
-fn full_flow<R: Wait + Abort, T: Numbered<Memory = A>, A: Allocator + Copy>(
+fn full_flow<R: Wait + Abort, A: Allocator + Copy>(
     rt: &R,
     memory: A,
-) -> (SharedFlow<T, A>, Seat<T, A>, Subscription<T, A>)
+) -> (BoxFlow<A>, BoxSeat<A>, BoxSubscription<A>)
     ensures { (result.1.table_id ≡ result.0.table_id) ×
         (result.2.token.table_id ≡ result.0.table_id) }
 {
-    let Ok((flow, mut seat)) = SharedFlow::<T, A>::new(memory, SMALL) else {
-        panic!(rt; "a flow")
-    };
-    let Ok(subscription) = flow.subscribe(rt, &mut seat) else {
-        panic!(rt; "a subscription")
-    };
-    fill(rt, memory, &flow, &mut seat, 1);
-    fill(rt, memory, &flow, &mut seat, 2);
+    let made = SharedFlow::<Boxed<i64, A>, A>::new(memory, SMALL);
+    let (flow, mut seat) = made.expect(rt, "a flow");
+    let subscribed = flow.subscribe(rt, &mut seat);
+    let subscription = subscribed.expect(rt, "a subscription");
+    let taken = flow.try_emit(rt, &mut seat, boxed(rt, memory, 1));
+    compare(rt, "try_emit 1", taken.ok(), Some(true));
+    let taken = flow.try_emit(rt, &mut seat, boxed(rt, memory, 2));
+    compare(rt, "try_emit 2", taken.ok(), Some(true));
     (flow, seat, subscription)
 }
 
 /// Emits a third value, which waits, and receives the first one. Both are first refused, as calls and as futures.
-fn play<R: Wait + Abort, T: Numbered<Memory = A>, A: Allocator + Copy>(
+fn play<R: Wait + Abort, A: Allocator + Copy>(
     rt: &R,
     task: &MockTask,
     memory: A,
     refusing: &Refusing<Global>,
 ) {
-    let (flow, seat, mut subscription) = full_flow::<R, T, A>(rt, memory);
-    let (seat, value) = emit_now(rt, &flow, seat, T::of(rt, memory, 3), refusing);
+    let (flow, seat, mut subscription) = full_flow(rt, memory);
+    let (seat, value) = emit_now(rt, &flow, seat, boxed(rt, memory, 3), refusing);
     let (seat, value) = emit_later(rt, task, &flow, seat, value, refusing);
     emits(rt, task, &flow, seat, value, refusing);
     refusing.refuse(1);
@@ -183,5 +174,5 @@ fn play<R: Wait + Abort, T: Numbered<Memory = A>, A: Allocator + Copy>(
 fn calls_at_once_and_futures_are_refused(rt: HostRuntime) {
     let memory = Refusing::new(rt.alloc());
     let task = MockTask::new(&rt).expect(&rt, "a task");
-    play::<_, Boxed<i64, _>, _>(&rt, &task, &memory, &memory);
+    play(&rt, &task, &memory, &memory);
 }

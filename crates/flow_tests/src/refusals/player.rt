@@ -2,9 +2,9 @@
 ghost use Rattle.std.specs.Prelude.{◌≡◌};
 
 use crate::compare::compare_step;
-use crate::values::{Numbered, by_number};
+use crate::values::by_number;
 use flow_core::{FlowCore, SubscriberCalls};
-use flow_law::{FlowFault, Next};
+use flow_law::{Boxed, FlowFault, Next};
 use flow_shared::{Flow, FlowSeat, FlowSubscription};
 use std::alloc::{Allocator, Global};
 use std::process::Abort;
@@ -40,11 +40,7 @@ pub struct Reader<'a, S: FlowCore + Drop, A: Allocator + Copy = Global> {
     ghost of_flow: { subscription.token.table_id ≡ flow.now.table_id },
 }
 
-impl<'a, T: Numbered, S: FlowCore<Item = T> + SubscriberCalls + Drop, A: Allocator + Copy> Reader<
-    'a,
-    S,
-    A,
-> {
+impl<'a, S: Played<A>, A: Allocator + Copy> Reader<'a, S, A> {
     /// Receives a value. Returns `Err` if memory is refused.
     fn next<R: Wait>(&mut self, rt: &R) -> Result<Next<i64>, FlowFault> {
         let next = self.flow.next(rt, &mut self.subscription)?;
@@ -60,7 +56,7 @@ impl<'a, T: Numbered, S: FlowCore<Item = T> + SubscriberCalls + Drop, A: Allocat
 
 /// A caller with a seat of a flow, its subscriber, and the name of the example that it plays.
 #[derive(Drop)]
-pub struct FlowPlayer<'a, T: Numbered, S: FlowCore<Item = T> + Drop, A: Allocator + Copy = Global> {
+pub struct FlowPlayer<'a, S: FlowCore + Drop, A: Allocator + Copy = Global> {
     pub name: &'static str,
     pub flow: &'a Flow<S, A>,
     pub seat: FlowSeat<S, A>,
@@ -69,29 +65,24 @@ pub struct FlowPlayer<'a, T: Numbered, S: FlowCore<Item = T> + Drop, A: Allocato
     ghost of_flow: { seat.table_id ≡ flow.now.table_id },
 }
 
-/// A core whose flows for several threads take further steps beside those of subscribers.
-pub trait Played<T: Numbered, A: Allocator + Copy>: FlowCore<Item = T> + SubscriberCalls + Drop {
+/// A core of boxed numbers, whose flows for several threads take further steps beside those of subscribers.
+pub trait Played<A: Allocator + Copy>: FlowCore<Item = Boxed<i64, A>> + SubscriberCalls + Drop {
     /// Takes a step, and compares what it returns. Returns `Err` if memory is refused.
     fn take<R: Wait + Abort>(
-        player: &mut FlowPlayer<'_, T, Self, A>,
+        player: &mut FlowPlayer<'_, Self, A>,
         rt: &R,
         step: Step,
     ) -> Result<(), FlowFault>;
 }
 
-impl<
-    'a,
-    T: Numbered<Memory = A>,
-    S: FlowCore<Item = T> + SubscriberCalls + Drop,
-    A: Allocator + Copy,
-> FlowPlayer<'a, T, S, A> {
+impl<'a, S: Played<A>, A: Allocator + Copy> FlowPlayer<'a, S, A> {
     /// Returns a caller with this seat of the flow, without a subscription.
     pub fn new(
         name: &'static str,
         memory: A,
         flow: &'a Flow<S, A>,
         seat: FlowSeat<S, A>,
-    ) -> FlowPlayer<'a, T, S, A>
+    ) -> FlowPlayer<'a, S, A>
         requires { seat.table_id ≡ flow.now.table_id }
     {
         FlowPlayer {

@@ -4,7 +4,7 @@ ghost use Rattle.std.specs.Prelude.{◌≡◌};
 use crate::compare::{compare, compare_step};
 use crate::refusals::MANY;
 use crate::refusals::player::{FlowPlayer, Played, Step};
-use crate::values::Numbered;
+use crate::values::boxed;
 use flow_law::{Boxed, Config, FlowFault};
 use flow_refusals::Refusing;
 use flow_shared::{Flow, FlowSeat, SharedFlow, StateFlow};
@@ -27,9 +27,9 @@ pub struct Example {
 }
 
 /// Takes the steps. Takes a refused step once more, and adds its place to `refused`.
-fn take_again<R: Wait + Abort, T: Numbered, S: Played<T, A>, A: Allocator + Copy>(
+fn take_again<R: Wait + Abort, S: Played<A>, A: Allocator + Copy>(
     rt: &R,
-    player: &mut FlowPlayer<'_, T, S, A>,
+    player: &mut FlowPlayer<'_, S, A>,
     example: &Example,
     refused: &mut Vec<usize>,
 ) {
@@ -43,7 +43,7 @@ fn take_again<R: Wait + Abort, T: Numbered, S: Played<T, A>, A: Allocator + Copy
 }
 
 /// Takes the steps on a flow.
-fn take_on<R: Wait + Abort, T: Numbered<Memory = A>, S: Played<T, A>, A: Allocator + Copy>(
+fn take_on<R: Wait + Abort, S: Played<A>, A: Allocator + Copy>(
     rt: &R,
     memory: A,
     flow: &Flow<S, A>,
@@ -70,7 +70,7 @@ fn play_once<R: Wait + Abort, A: Allocator + Copy>(
             Ok(take_on(rt, memory, &flow, seat, example, refused))
         }
         PlayedKind::State => {
-            let (flow, seat) = StateFlow::new(memory, Boxed::of(rt, memory, 0), u64::MAX)?;
+            let (flow, seat) = StateFlow::new(memory, boxed(rt, memory, 0), u64::MAX)?;
             Ok(take_on(rt, memory, &flow, seat, example, refused))
         }
     }
@@ -120,12 +120,7 @@ pub fn refuse_each<R: Wait + Abort>(rt: &R, alloc: Global, example: &Example) {
 /// Checks that the steps at these places, and no others, are those that take memory.
 fn are_refused(rt: &impl Abort, example: &Example, refused: &[usize]) {
     for (place, (step, takes_memory)) in example.steps.iter().enumerate() {
-        compare_step(
-            rt,
-            example.name,
-            step,
-            refused.contains(&place),
-            *takes_memory,
-        );
+        let is_refused = refused.contains(&place);
+        compare_step(rt, example.name, step, is_refused, *takes_memory);
     }
 }

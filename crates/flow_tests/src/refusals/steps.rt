@@ -1,15 +1,15 @@
 //! The steps that only shared flows have, and those of state flows.
 use crate::compare::compare_step;
 use crate::refusals::player::{FlowPlayer, Played, Reader, Step};
-use crate::values::{Numbered, are, list_of};
+use crate::values::{are, boxed, boxes};
 use flow_core::{SharedCore, StateCore};
-use flow_law::FlowFault;
+use flow_law::{Boxed, FlowFault};
 use flow_shared::Emitted;
 use std::alloc::Allocator;
 use std::process::Abort;
 use std::sync::Wait;
 
-impl<'a, T: Numbered<Memory = A>, A: Allocator + Copy> FlowPlayer<'a, T, SharedCore<T, A>, A> {
+impl<'a, A: Allocator + Copy> FlowPlayer<'a, SharedCore<Boxed<i64, A>, A>, A> {
     /// Emits a value by a new seat, and returns whether it waits. A refusal hands the value back.
     fn emit<R: Wait + Abort>(
         &mut self,
@@ -17,13 +17,13 @@ impl<'a, T: Numbered<Memory = A>, A: Allocator + Copy> FlowPlayer<'a, T, SharedC
         step: Step,
         number: i64,
     ) -> Result<bool, FlowFault> {
-        let value = T::of(rt, self.memory, number);
+        let value = boxed(rt, self.memory, number);
         let seat = self.flow.seat(&mut self.seat);
         match self.flow.emit(rt, seat, value) {
             Emitted::Done(_seat) => Ok(false),
             Emitted::Queued(_emission) => Ok(true),
             Emitted::Refused(_seat, value, fault) => {
-                compare_step(rt, self.name, &step, value.number(), number);
+                compare_step(rt, self.name, &step, *value.value(), number);
                 Err(fault)
             }
         }
@@ -37,7 +37,7 @@ impl<'a, T: Numbered<Memory = A>, A: Allocator + Copy> FlowPlayer<'a, T, SharedC
         first: &[i64],
     ) -> Result<(), FlowFault> {
         let flow = self.flow;
-        let values = list_of(rt, self.memory, first);
+        let values = boxes(rt, self.memory, first);
         match flow.subscribe_with(rt, &mut self.seat, values) {
             Ok(subscription) => {
                 self.reader = Some(Reader { flow, subscription });
@@ -70,15 +70,15 @@ impl<'a, T: Numbered<Memory = A>, A: Allocator + Copy> FlowPlayer<'a, T, SharedC
     }
 }
 
-impl<T: Numbered<Memory = A>, A: Allocator + Copy> Played<T, A> for SharedCore<T, A> {
+impl<A: Allocator + Copy> Played<A> for SharedCore<Boxed<i64, A>, A> {
     fn take<R: Wait + Abort>(
-        player: &mut FlowPlayer<'_, T, SharedCore<T, A>, A>,
+        player: &mut FlowPlayer<'_, SharedCore<Boxed<i64, A>, A>, A>,
         rt: &R,
         step: Step,
     ) -> Result<(), FlowFault> {
         match step {
             Step::TryEmit(number) => {
-                let value = T::of(rt, player.memory, number);
+                let value = boxed(rt, player.memory, number);
                 let answer = player.flow.try_emit(rt, &mut player.seat, value).ok();
                 Ok(compare_step(rt, player.name, &step, answer, Some(true)))
             }
@@ -88,13 +88,13 @@ impl<T: Numbered<Memory = A>, A: Allocator + Copy> Played<T, A> for SharedCore<T
     }
 }
 
-impl<'a, T: Numbered<Memory = A>, A: Allocator + Copy> FlowPlayer<'a, T, StateCore<T, A>, A> {
+impl<'a, A: Allocator + Copy> FlowPlayer<'a, StateCore<Boxed<i64, A>, A>, A> {
     /// Takes a step that compares the current value.
     fn value_step<R: Wait + Abort>(&mut self, rt: &R, step: Step) -> Result<(), FlowFault> {
         match step {
             Step::Current(number) => {
                 let value = self.flow.value(rt, &mut self.seat)?;
-                Ok(compare_step(rt, self.name, &step, value.number(), number))
+                Ok(compare_step(rt, self.name, &step, *value.value(), number))
             }
             Step::Cache(numbers) => {
                 let cache = self.flow.replay_cache(rt, &mut self.seat)?;
@@ -105,19 +105,19 @@ impl<'a, T: Numbered<Memory = A>, A: Allocator + Copy> FlowPlayer<'a, T, StateCo
     }
 }
 
-impl<T: Numbered<Memory = A>, A: Allocator + Copy> Played<T, A> for StateCore<T, A> {
+impl<A: Allocator + Copy> Played<A> for StateCore<Boxed<i64, A>, A> {
     fn take<R: Wait + Abort>(
-        player: &mut FlowPlayer<'_, T, StateCore<T, A>, A>,
+        player: &mut FlowPlayer<'_, StateCore<Boxed<i64, A>, A>, A>,
         rt: &R,
         step: Step,
     ) -> Result<(), FlowFault> {
         match step {
             Step::Set(number) => {
-                let value = T::of(rt, player.memory, number);
+                let value = boxed(rt, player.memory, number);
                 Ok(player.flow.set(rt, &mut player.seat, value))
             }
             Step::SetNow(number) => {
-                let value = T::of(rt, player.memory, number);
+                let value = boxed(rt, player.memory, number);
                 let answer = player.flow.set_now(&mut player.seat, value).is_ok();
                 Ok(compare_step(rt, player.name, &step, answer, true))
             }

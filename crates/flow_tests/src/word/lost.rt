@@ -1,14 +1,13 @@
 //! Futures and streams of a word state that are dropped while their tasks sleep.
 use crate::compare::compare;
 use crate::flows::{new_word_reader, new_word_state};
+use crate::host::Host;
 use flow_word::{WordReader, WordSetter};
 use futures::Stream;
 use futures::test::MockTask;
-use std::alloc::AllocGlobal;
 use std::process::Abort;
-use std::random::RandomSource;
 use std::sync::{Barrier, Wait};
-use std::thread::{Threads, for_each_mut};
+use std::thread::for_each_mut;
 
 /// The number of futures, and of streams, that are lost.
 const LOST: u32 = 1_000;
@@ -110,10 +109,7 @@ impl Loser<'_> {
     }
 }
 
-fn new_loser<'a, R: Abort + RandomSource + AllocGlobal>(
-    rt: &R,
-    setter: &mut WordSetter<'a, i64>,
-) -> Loser<'a> {
+fn new_loser<'a, R: Host>(rt: &R, setter: &mut WordSetter<'a, i64>) -> Loser<'a> {
     Loser {
         setter: setter.another(),
         task: MockTask::new(rt).expect(rt, "a task"),
@@ -121,10 +117,7 @@ fn new_loser<'a, R: Abort + RandomSource + AllocGlobal>(
 }
 
 /// Lets four threads lose futures at the same time. Returns whether a change wakes one of their tasks afterwards.
-fn lose_beside<R: Wait + Abort + Threads + RandomSource + AllocGlobal + Sync>(
-    rt: &R,
-    setter: &mut WordSetter<'_, i64>,
-) -> bool {
+fn lose_beside<R: Host>(rt: &R, setter: &mut WordSetter<'_, i64>) -> bool {
     let mut losers = [
         new_loser(rt, setter),
         new_loser(rt, setter),

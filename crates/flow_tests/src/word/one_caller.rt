@@ -1,8 +1,10 @@
-//! What one caller of a word state knows after two of its seats have met, and a word state that is refused memory.
+//! What one caller of a word state knows after two of its seats have met or a message was received, and a word state that
+//! is refused memory.
 ghost use Rattle.std.specs.Prelude.{◌≡◌};
 
 use crate::compare::compare;
 use flow_law::{FlowFault, Next};
+use flow_messages::pass_on;
 use flow_word::{WordSeat, WordState};
 use std::alloc::Global;
 use std::process::Abort;
@@ -51,4 +53,14 @@ fn a_subscriber_that_has_met_receives_what_was_set(rt: HostRuntime) {
     compare(&rt, "next", flow.next(&mut subscription), Next::Value(4));
     flow.seen_by_subscription(&mut subscription);
     compare(&rt, "no more", flow.next(&mut subscription), Next::Empty);
+}
+
+#[test]
+fn a_reader_finds_what_a_message_tells(rt: HostRuntime) {
+    let (flow, seat) = WordState::new(rt.alloc(), 0u64, 0).expect(&rt, "a flow");
+    let mut setter = flow.setter(seat);
+    let reader = setter.another();
+    let heard = pass_on(&rt, rt.alloc(), setter, reader, 7).expect(&rt, "memory");
+    compare(&rt, "the value of the message", heard.value, 7);
+    compare(&rt, "what its reader found", heard.found, 7);
 }

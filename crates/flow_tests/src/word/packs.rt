@@ -23,6 +23,10 @@ fn numbers(rt: HostRuntime) {
     come_back(&rt, "u8", &[0, 1, u8::MAX]);
 }
 
+fn celsius(degrees: i32) -> Celsius {
+    Celsius { degrees }
+}
+
 #[test]
 fn other_values(rt: HostRuntime) {
     come_back(&rt, "bool", &[false, true]);
@@ -30,13 +34,6 @@ fn other_values(rt: HostRuntime) {
     come_back(&rt, "()", &[()]);
     come_back(&rt, "Option", &[None, Some(0), Some(u32::MAX)]);
     come_back(&rt, "a pair", &[(0, 0), (u32::MAX, i32::MIN), (0, -1)]);
-    come_back(
-        &rt,
-        "Celsius",
-        &[
-            Celsius { degrees: -40 },
-            Celsius { degrees: 0 },
-            Celsius { degrees: 100 },
-        ],
-    );
+    let warm = [celsius(-40), celsius(0), celsius(100)];
+    come_back(&rt, "Celsius", &warm);
 }

@@ -1,5 +1,6 @@
 //! Several threads on one flow.
 use crate::compare::compare;
+use crate::host::Host;
 use crate::word::caller::{Caller, Task};
 use crate::word::signals::Signals;
 use flow_law::FlowFault;
@@ -7,7 +8,7 @@ use flow_word::WordState;
 use std::alloc::Global;
 use std::process::Abort;
 use std::sync::{Barrier, Wait};
-use std::thread::{Threads, for_each_mut};
+use std::thread::for_each_mut;
 
 /// The number of numbers that the flow issues.
 const NUMBERS: u32 = 4_000;
@@ -16,12 +17,7 @@ const NUMBERS: u32 = 4_000;
 type Outcome = (i64, i64, u32);
 
 /// Does each of these tasks in a thread of its own, on a flow with the value 0; all threads begin at the same time.
-fn run<R: Abort + Threads + Wait + Sync>(
-    rt: &R,
-    alloc: Global,
-    tasks: [Task; 4],
-    signals: &Signals,
-) -> Outcome {
+fn run<R: Host>(rt: &R, alloc: Global, tasks: [Task; 4], signals: &Signals) -> Outcome {
     let (flow, seat) = WordState::new(alloc, 0, NUMBERS).expect(rt, "a flow");
     let mut maker = Caller {
         flow: &flow,

@@ -1,16 +1,13 @@
 //! Readers of a word flow that sleep until a value is emitted.
 use crate::compare::compare;
 use crate::handle_calls::{next_of, pause};
+use crate::host::Host;
 use crate::word_flows::{dropping, new_word_flow, new_word_flow_reader};
 use flow_word_shared::{WordEmitter, WordFlowReader, WordReceiveFuture};
 use futures::task::Poll;
 use futures::test::MockTask;
-use std::alloc::{AllocGlobal, Global};
-use std::process::Abort;
-use std::random::RandomSource;
 use std::sync::Wait;
-use std::thread::{Threads, join};
-use std::time::Clock;
+use std::thread::join;
 
 /// Polls once. Returns what the subscriber receives, or `None` if the future is pending.
 fn received(task: &MockTask, future: &mut WordReceiveFuture<'_, i64>) -> Option<i64> {
@@ -21,46 +18,28 @@ fn received(task: &MockTask, future: &mut WordReceiveFuture<'_, i64>) -> Option<
 }
 
 /// Polls a future of a new reader before and after an emission, which wakes its task.
-fn follow<R: Wait + RandomSource + AllocGlobal + Abort>(
-    rt: &R,
-    emitter: &mut WordEmitter<'_, i64>,
-) {
+fn follow<R: Host>(rt: &R, emitter: &mut WordEmitter<'_, i64>) {
     let task = MockTask::new(rt).expect(rt, "a task");
     let mut future = new_word_flow_reader(rt, emitter).into_receive();
     for _ in 0..2 {
-        compare(
-            rt,
-            "poll before the emission",
-            received(&task, &mut future),
-            None,
-        );
+        compare(rt, "no value yet", received(&task, &mut future), None);
         compare(rt, "woken before the emission", task.is_woken(), false);
     }
     compare(rt, "emit", emitter.emit(rt, 7), Ok(()));
     compare(rt, "woken after the emission", task.is_woken(), true);
-    compare(
-        rt,
-        "poll after the emission",
-        received(&task, &mut future),
-        Some(7),
-    );
+    compare(rt, "a value", received(&task, &mut future), Some(7));
     compare(rt, "subscribers", emitter.subscription_count(), 0);
 }
 
 /// Drops a future whose task sleeps. The drop ends its subscription, and wakes the task.
-fn leave<R: Wait + RandomSource + AllocGlobal + Abort>(rt: &R, emitter: &mut WordEmitter<'_, i64>) {
+fn leave<R: Host>(rt: &R, emitter: &mut WordEmitter<'_, i64>) {
     let task = MockTask::new(rt).expect(rt, "a task");
     let mut future = new_word_flow_reader(rt, emitter).into_receive();
     compare(rt, "poll", received(&task, &mut future), None);
     compare(rt, "subscribers", emitter.subscription_count(), 1);
     drop(future);
     compare(rt, "woken by the drop", task.is_woken(), true);
-    compare(
-        rt,
-        "subscribers after the drop",
-        emitter.subscription_count(),
-        0,
-    );
+    compare(rt, "after the drop", emitter.subscription_count(), 0);
 }
 
 #[test]
@@ -72,7 +51,7 @@ fn an_emission_wakes_the_task_of_a_reader(rt: HostRuntime) {
 }
 
 /// Emits the numbers from 1 to 3, each after a pause.
-fn emit_late<R: Wait + Clock>(rt: &R, emitter: &mut WordEmitter<'_, i64>) -> bool {
+fn emit_late<R: Host>(rt: &R, emitter: &mut WordEmitter<'_, i64>) -> bool {
     let mut taken = true;
     for value in 1..=3 {
         pause(rt);
@@ -86,30 +65,33 @@ fn receive_three<R: Wait>(rt: &R, reader: &mut WordFlowReader<'_, i64>) -> (i64,
     (reader.receive(rt), reader.receive(rt), reader.receive(rt))
 }
 
-/// Receives on two threads what a third one emits: one reader as a thread, the other one as a stream.
-fn wake_both<R: Threads + Wait + Clock + RandomSource + AllocGlobal + Abort + Sync>(
-    rt: &R,
-    alloc: Global,
-) {
-    let (flow, seat) = new_word_flow(rt, alloc, dropping(0, 4, u64::MAX));
-    let mut emitter = flow.emitter(seat);
-    let mut reader = new_word_flow_reader(rt, &mut emitter);
-    let stream = new_word_flow_reader(rt, &mut emitter).into_stream();
-    let (emitted, (got, streamed)) = join(
-        rt,
-        || emit_late(rt, &mut emitter),
-        || join(
-            rt,
-            || receive_three(rt, &mut reader),
-            || next_of(rt, stream, 3),
-        ),
-    );
-    compare(rt, "emitted", emitted, true);
-    compare(rt, "received by a thread", got, (1, 2, 3));
-    compare(rt, "received by a stream", streamed.as_slice(), &[1, 2, 3]);
+/// Returns the first three items of the reader's stream.
+fn stream_three<R: Host>(rt: &R, reader: WordFlowReader<'_, i64>) -> Vec<i64> {
+    next_of(rt, reader.into_stream(), 3)
 }
 
+/// One reader receives as a thread, and the other one as a stream.
+fn receive_twice<R: Host>(
+    rt: &R,
+    reader: &mut WordFlowReader<'_, i64>,
+    other: WordFlowReader<'_, i64>,
+) -> ((i64, i64, i64), Vec<i64>) {
+    join(rt, || receive_three(rt, reader), || stream_three(rt, other))
+}
+
+/// A third thread emits.
 #[test]
 fn an_emission_wakes_readers_that_sleep(rt: HostRuntime) {
-    wake_both(&rt, rt.alloc());
+    let (flow, seat) = new_word_flow(&rt, rt.alloc(), dropping(0, 4, u64::MAX));
+    let mut emitter = flow.emitter(seat);
+    let mut reader = new_word_flow_reader(&rt, &mut emitter);
+    let other = new_word_flow_reader(&rt, &mut emitter);
+    let (emitted, (got, streamed)) = join(
+        &rt,
+        || emit_late(&rt, &mut emitter),
+        || receive_twice(&rt, &mut reader, other),
+    );
+    compare(&rt, "emitted", emitted, true);
+    compare(&rt, "received by a thread", got, (1, 2, 3));
+    compare(&rt, "received by a stream", streamed.as_slice(), &[1, 2, 3]);
 }

@@ -1,12 +1,14 @@
 //! Calls that race on two threads at a word flow. Each race goes on until each of its outcomes was seen.
 use crate::compare::compare;
+use crate::handle_calls::begin;
+use crate::host::Host;
 use crate::word_flows::{dropping, new_word_flow, new_word_flow_reader};
-use flow_law::{Busy, FlowFault, Refused};
+use flow_law::{Busy, FlowFault};
 use flow_word_shared::{WordEmitter, WordFlowReader};
 use std::alloc::Global;
 use std::process::Abort;
 use std::sync::{Barrier, Wait};
-use std::thread::{Threads, join, yield_now};
+use std::thread::join;
 
 /// The greatest number of races. They end earlier once each outcome was seen.
 const MOST_RACES: u32 = 10_000;
@@ -44,7 +46,7 @@ fn overruns<R: Wait>(rt: &R, start: &Barrier, reader: &mut WordFlowReader<'_, i6
 
 /// Emits into a buffer of one value beside a reader. After the race the reader gets the last value, unless it has it.
 /// Returns how many of its attempts were overrun.
-fn race_reader<R: Threads + Wait + Abort + Sync>(rt: &R, alloc: Global) -> u32 {
+fn race_reader<R: Host>(rt: &R, alloc: Global) -> u32 {
     let (flow, seat) = new_word_flow(rt, alloc, dropping(0, 1, u64::MAX));
     let mut emitter = flow.emitter(seat);
     let mut reader = new_word_flow_reader(rt, &mut emitter);
@@ -56,12 +58,8 @@ fn race_reader<R: Threads + Wait + Abort + Sync>(rt: &R, alloc: Global) -> u32 {
     );
     compare(rt, "emitted", emitted, true);
     let rest = reader.next(rt);
-    compare(
-        rt,
-        "nothing or the last value is left",
-        rest == None || rest == Some(CALLS),
-        true,
-    );
+    let is_last = rest == None || rest == Some(CALLS);
+    compare(rt, "nothing or the last value is left", is_last, true);
     compare(rt, "next", reader.next(rt), None);
     overrun.expect(rt, "rising values")
 }
@@ -89,20 +87,19 @@ fn attempts<R: Wait>(
     for value in 1..=CALLS {
         match emitter.emit_now(value) {
             Ok(()) => emitted = emitted.wrapping_add(1),
-            Err(
-                Refused {
-                    value: back,
-                    fault: FlowFault::Busy,
-                },
-            ) if back == value => busy = busy.wrapping_add(1),
-            Err(_) => return None,
+            Err(refused) => {
+                if refused.value != value || refused.fault != FlowFault::Busy {
+                    return None;
+                }
+                busy = busy.wrapping_add(1);
+            }
         }
     }
     Some((emitted, busy))
 }
 
 /// Emits on two threads by attempts. Returns how many of these failed.
-fn race_emitters<R: Threads + Wait + Abort + Sync>(rt: &R, alloc: Global) -> u64 {
+fn race_emitters<R: Host>(rt: &R, alloc: Global) -> u64 {
     let (flow, seat) = new_word_flow(rt, alloc, dropping(0, 1, u64::MAX));
     let mut one = flow.emitter(seat);
     let mut other = one.another();
@@ -119,12 +116,8 @@ fn race_emitters<R: Threads + Wait + Abort + Sync>(rt: &R, alloc: Global) -> u64
     drop(other);
     let seat = last.into_seat();
     let closed = flow.close(seat);
-    compare(
-        rt,
-        "emitted",
-        closed.emitted(),
-        first.0.wrapping_add(second.0),
-    );
+    let emitted = first.0.wrapping_add(second.0);
+    compare(rt, "emitted", closed.emitted(), emitted);
     first.1.wrapping_add(second.1)
 }
 
@@ -136,16 +129,6 @@ fn an_emission_beside_another_one_is_busy(rt: HostRuntime) {
         }
     }
     panic!(rt; "no emission was busy");
-}
-
-/// Waits until the other thread has begun. In every fourth run it then yields, so that the other thread can be first.
-fn begin<R: Wait>(rt: &R, start: &Barrier, run: u32) {
-    let _order = start.wait(rt);
-    if run % 4 == 0 {
-        for _ in 0..20 {
-            yield_now();
-        }
-    }
 }
 
 /// Subscribes, and reads twice.
@@ -168,7 +151,7 @@ fn reset<R: Wait>(rt: &R, start: &Barrier, run: u32, emitter: &mut WordEmitter<'
 
 /// Empties the replay cache beside a subscription. The new reader gets 7 if it subscribed first, and an old reader gets it
 /// in any case. Returns whether the new reader got it.
-fn race_reset<R: Threads + Wait + Abort + Sync>(rt: &R, alloc: Global, run: u32) -> bool {
+fn race_reset<R: Host>(rt: &R, alloc: Global, run: u32) -> bool {
     let (flow, seat) = new_word_flow(rt, alloc, dropping(1, 0, u64::MAX));
     let mut emitter = flow.emitter(seat);
     let mut old = new_word_flow_reader(rt, &mut emitter);
@@ -181,12 +164,8 @@ fn race_reset<R: Threads + Wait + Abort + Sync>(rt: &R, alloc: Global, run: u32)
         || reset(rt, &start, run.wrapping_add(2), &mut other),
     );
     compare(rt, "next of the old reader", old.next(rt), Some(7));
-    compare(
-        rt,
-        "nothing or 7 first",
-        received.0 == None || received.0 == Some(7),
-        true,
-    );
+    let is_seven = received.0 == None || received.0 == Some(7);
+    compare(rt, "nothing or 7 first", is_seven, true);
     compare(rt, "nothing next", received.1, None);
     received.0 == Some(7)
 }
