@@ -40,7 +40,11 @@ pub struct Reader<'a, S: FlowCore + Drop, A: Allocator + Copy = Global> {
     ghost of_flow: { subscription.token.table_id ≡ flow.now.table_id },
 }
 
-impl<'a, S: Played<A>, A: Allocator + Copy> Reader<'a, S, A> {
+impl<'a, S, A> Reader<'a, S, A>
+where
+    S: FlowCore<Item = Boxed<i64, A>> + SubscriberCalls + Drop,
+    A: Allocator + Copy,
+{
     /// Receives a value. Returns `Err` if memory is refused.
     fn next<R: Wait>(&mut self, rt: &R) -> Result<Next<i64>, FlowFault> {
         let next = self.flow.next(rt, &mut self.subscription)?;
@@ -75,7 +79,11 @@ pub trait Played<A: Allocator + Copy>: FlowCore<Item = Boxed<i64, A>> + Subscrib
     ) -> Result<(), FlowFault>;
 }
 
-impl<'a, S: Played<A>, A: Allocator + Copy> FlowPlayer<'a, S, A> {
+impl<'a, S, A> FlowPlayer<'a, S, A>
+where
+    S: FlowCore<Item = Boxed<i64, A>> + SubscriberCalls + Drop,
+    A: Allocator + Copy,
+{
     /// Returns a caller with this seat of the flow, without a subscription.
     pub fn new(
         name: &'static str,
