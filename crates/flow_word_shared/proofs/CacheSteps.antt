@@ -48,7 +48,7 @@ given_out n [] less = absurd (omega arith)
 given_out zero (x ∷ xs) less = refl
 given_out (suc n) (x ∷ xs) less = given_out n xs (omega arith)
 
-module _ (T : Type 0) (packs : ℕ → Type 0) (value_of : ℕ → T) (start : RingStart) where
+module _ (T : Type 0) (packs : List ℕ → Type 0) (value_of : List ℕ → T) (start : RingStart) where
   abbrev V : Type 0
   V = List (RingKnown T)
 

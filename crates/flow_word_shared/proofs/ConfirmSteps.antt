@@ -37,7 +37,7 @@ module _ {A : Type 0} where
   there (x ∷ xs) zero a e = omega arith
   there (x ∷ xs) (suc i) a e = omega (arith, there xs i a e)
 
-module _ (T : Type 0) (packs : ℕ → Type 0) (value_of : ℕ → T) (start : RingStart) where
+module _ (T : Type 0) (packs : List ℕ → Type 0) (value_of : List ℕ → T) (start : RingStart) where
   abbrev V : Type 0
   V = List (RingKnown T)
 

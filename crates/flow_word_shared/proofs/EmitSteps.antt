@@ -36,7 +36,7 @@ free_if_even (Some name) n found old is hit even = absurd (omega arith)
 half_free : (owner : Option (List ℕ)) (n found : ℕ) → found ≡ n * 2 + bit owner → owner ≡ None → found ≡ n * 2
 half_free owner n found is free = is ∙ ap (λ o. n * 2 + bit o) free ∙ (let z : n * 2 + 0 ≡ n * 2 = omega arith in z)
 
-module _ (T : Type 0) (packs : ℕ → Type 0) (value_of : ℕ → T) (start : RingStart) where
+module _ (T : Type 0) (packs : List ℕ → Type 0) (value_of : List ℕ → T) (start : RingStart) where
   abbrev V : Type 0
   V = List (RingKnown T)
 

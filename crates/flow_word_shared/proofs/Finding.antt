@@ -7,7 +7,7 @@ use Rattle.flow_word_shared.specs.Rule.{HasValue}
 use Rattle.flow_word_shared.specs.Steps.{IsFound, AreFound}
 use Rattle.flow_word_shared.proofs.Keeps.{slice_get_left}
 
-module _ {T : Type 0} (packs : ℕ → Type 0) (value_of : ℕ → T) (c : ℕ) where
+module _ {T : Type 0} (packs : List ℕ → Type 0) (value_of : List ℕ → T) (c : ℕ) where
   abbrev Found : List T → ℕ → List ℕ → Type 0
   Found = AreFound packs value_of c
 

@@ -80,7 +80,7 @@ module _ {T : Type 0} (start : RingStart) where
     subst (IsIfKnown h.cell) (sym (cells h.length)) f.5,
   )
 
-module _ (T : Type 0) (packs : ℕ → Type 0) (value_of : ℕ → T) (start : RingStart) where
+module _ (T : Type 0) (packs : List ℕ → Type 0) (value_of : List ℕ → T) (start : RingStart) where
   abbrev V : Type 0
   V = List (RingKnown T)
 

@@ -35,11 +35,11 @@ halved n word None e = omega (arith, e)
 halved n word (Some name) e = omega (arith, e)
 
 -- the values of some cells, one by one
-pub length_cells : {T : Type 0} (value_of : ℕ → T) (room : ℕ) (words : List ℕ) (count position : ℕ) → length (in_cells value_of room words count position) ≡ count
+pub length_cells : {T : Type 0} (value_of : List ℕ → T) (room : ℕ) (words : List ℕ) (count position : ℕ) → length (in_cells value_of room words count position) ≡ count
 length_cells value_of room words zero position = refl
 length_cells value_of room words (suc count) position = ap suc (length_cells value_of room words count (position + 1))
 
-pub cell_is : {T : Type 0} (value_of : ℕ → T) (room : ℕ) (words : List ℕ) (count position i : ℕ) → i < count
+pub cell_is : {T : Type 0} (value_of : List ℕ → T) (room : ℕ) (words : List ℕ) (count position i : ℕ) → i < count
     → slice_get (in_cells value_of room words count position) i ≡ Some (value_of (get_or words (head + (position + i) % room) 0))
 cell_is value_of room words zero position i less = absurd (omega arith)
 cell_is value_of room words (suc count) position zero less = ap (λ p. Some (value_of (get_or words (head + p % room) 0))) (let e : position ≡ position + 0 = omega arith in e)
@@ -52,7 +52,7 @@ taken_more xs n v old list longer here is more =
     more ∙ ap (λ l. l ++ v ∷ []) is ∙ append_assoc old (take n xs) (v ∷ [])
     ∙ ap (λ x. old ++ (take n xs ++ x ∷ [])) (sym (get_or_from_slice_get xs n v v here)) ∙ ap (λ l. old ++ l) (sym (take_more xs n v (slice_get_within xs n v here)))
 
-module _ (T : Type 0) (packs : ℕ → Type 0) (value_of : ℕ → T) (start : RingStart) where
+module _ (T : Type 0) (packs : List ℕ → Type 0) (value_of : List ℕ → T) (start : RingStart) where
   abbrev V : Type 0
   V = List (RingKnown T)
 

@@ -57,7 +57,7 @@ at_grows {T} start oldest buffer lost k h number position is fits mine = record 
       (stands_in_silence T start.config oldest buffer number position k.name k.seen fits.0.0 (subst (IsSharedHistory start.config) fits.0.1 is) fits.0.2 mine.given mine.stands);
 }
 
-module _ (T : Type 0) (packs : ℕ → Type 0) (value_of : ℕ → T) (start : RingStart) where
+module _ (T : Type 0) (packs : List ℕ → Type 0) (value_of : List ℕ → T) (start : RingStart) where
   abbrev V : Type 0
   V = List (RingKnown T)
 

@@ -30,7 +30,7 @@ length_same : (z n : ℕ) → length (replicate n z) ≡ n
 length_same z zero = refl
 length_same z (suc n) = ap suc (length_same z n)
 
-module _ (T : Type 0) (packs : ℕ → Type 0) (value_of : ℕ → T) (start : RingStart) where
+module _ (T : Type 0) (packs : List ℕ → Type 0) (value_of : List ℕ → T) (start : RingStart) where
   abbrev V : Type 0
   V = List (RingKnown T)
 

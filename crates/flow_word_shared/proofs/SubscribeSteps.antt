@@ -61,7 +61,7 @@ module _ {T : Type 0} where
   live_few config h = let st = shared_after_all (Rattle.flow_law.specs.flow.SharedFlow.first_state config) h in
       omega (arith, rises_few 0 st.issued (numbers_of st.subscribers) (always_in_order config h), length-map st.subscribers (λ (u : Subscriber T). u.number))
 
-module _ (T : Type 0) (packs : ℕ → Type 0) (value_of : ℕ → T) (start : RingStart) where
+module _ (T : Type 0) (packs : List ℕ → Type 0) (value_of : List ℕ → T) (start : RingStart) where
   abbrev V : Type 0
   V = List (RingKnown T)
 

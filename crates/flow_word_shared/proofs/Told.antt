@@ -71,7 +71,7 @@ module _ {T : Type 0} where
   pub saw_overrun : (a b c : WordFlowToken T) → Saw 0 a b → IsOverrun b c → IsOverrun a c
   saw_overrun a b c one two = (two.0 ∙ one.0, sees_sees 0 1 a.knows b.knows c.knows one.1 two.1)
 
-  module _ (packs : ℕ → Type 0) (value_of : ℕ → T) (number p count : ℕ) (s t : Place T) where
+  module _ (packs : List ℕ → Type 0) (value_of : List ℕ → T) (number p count : ℕ) (s t : Place T) where
     -- one value
     pub receives_one : (first : SharedFlowState T) (w : ℕ) → t.table_id ≡ s.table_id → began_as (only s.me.0).start ≡ first → Receives packs value_of number p count (w ∷ []) s.me t.me
         → packs w × CallsAtOnceIn shared_flow first (ring_token s) (call.TakeNext number) (reply.Received (Value (value_of w))) (ring_token t)
@@ -97,7 +97,7 @@ module _ {T : Type 0} where
         → IsReading t number (max p (count - capacity_of (only s.me.0).start) + length ws) [] count
     reads_on ws is r = ((still_one s.me t.me is r.one, r.hold), r.reads, r.stands, omega (arith, r.counted))
 
-  module _ (packs : ℕ → Type 0) (value_of : ℕ → T) (first : SharedFlowState T) (number : ℕ) (table : TableId) where
+  module _ (packs : List ℕ → Type 0) (value_of : List ℕ → T) (first : SharedFlowState T) (number : ℕ) (table : TableId) where
     -- the subscription whose seat has this view
     abbrev pub numbered_by : MeOf T → WordFlowNumbered T
     numbered_by me = numbered_token (token (word_flow_id table (only me.0).start) (only me.0).knows) number
@@ -129,7 +129,7 @@ module _ {T : Type 0} where
   tried_gives first a b c v vs one number folds = (folds.0, tried_nexts first a b folds.0 (Ok (Value v)) one number folds.1, folds.2)
 
   -- what a load of word 0 told of the words that the buffer still has: calls of `next`, or the subscriber was overrun
-  module _ (packs : ℕ → Type 0) (value_of : ℕ → T) (first : SharedFlowState T) (number p count : ℕ) (a s t : Place T) (saw : Saw 0 (ring_token a) (ring_token s)) (table : t.table_id ≡ s.table_id) where
+  module _ (packs : List ℕ → Type 0) (value_of : List ℕ → T) (first : SharedFlowState T) (number p count : ℕ) (a s t : Place T) (saw : Saw 0 (ring_token a) (ring_token s)) (table : t.table_id ≡ s.table_id) where
     pub all_given : began_as (only s.me.0).start ≡ first → (ws : List ℕ) → length ws ≢ 0 → Receives packs value_of number p count ws s.me t.me
         → NextsGive (WordFlowNexts first) (numbered_token (ring_token a) number) (map value_of ws) (numbered_token (ring_token t) number)
     all_given began [] some r = absurd (some refl)

@@ -5,6 +5,6 @@ use Rattle.flow_word_shared.proofs.drain.unpack_all.Given as goal
 
 abbrev pub invariant-loop-i : goal.invariant-loop-i
 invariant-loop-i g l = record {
-  items : l.values.items ≡ l.fn.values.items ++ map g.T.Packed.value_of (take l.i l.words);
+  items : l.values.items ≡ l.fn.values.items ++ map g.T.Words.value_in (take l.i l.words);
   room : (vec_len l.values ≡ vec_len l.fn.values + l.i) × (vec_capacity l.values ≡ vec_capacity l.fn.values);
 }

@@ -9,7 +9,7 @@ use Rattle.flow_word_shared.proofs.closing.ClosedWordFlow.copy_cache.Goals.{At-l
 
 -- the number of values in the cache
 count_is : (g : _) (c : At-loop-i g) → length c.args.self.now.replay_cache ≡ c.self.inside.emitted - c.self.inside.first
-count_is g c = ap (λ z. length z.replay_cache) (sym c.self.view_is) ∙ length_cells g.T.Packed.value_of c.self.inside.room (slots_items c.self.inside.closed.words) (c.self.inside.emitted - c.self.inside.first) c.self.inside.first
+count_is g c = ap (λ z. length z.replay_cache) (sym c.self.view_is) ∙ length_cells g.T.Words.value_in c.self.inside.room (slots_items c.self.inside.closed.words) (c.self.inside.emitted - c.self.inside.first) c.self.inside.first
 
 pub word-word-requires : goal.word-word-requires
 word-word-requires g c =
@@ -18,7 +18,7 @@ word-word-requires g c =
 pub unpack-requires : goal.unpack-requires
 unpack-requires g c =
     let less = c.loop-i-test.true in
-    subst g.T.Packed.packs (word_at (slots_items c.self.inside.closed.words) (4 + (c.self.inside.first + c.loop-i.i) % c.self.inside.room) c.word-word.result c.word-word.ensures) (c.self.invariant.6 (c.self.inside.first + c.loop-i.i) (omega arith) (omega arith))
+    subst g.T.Words.are_words (word_at (slots_items c.self.inside.closed.words) (4 + (c.self.inside.first + c.loop-i.i) % c.self.inside.room) c.word-word.result c.word-word.ensures) (c.self.invariant.6 (c.self.inside.first + c.loop-i.i) (omega arith) (omega arith))
 
 pub push_reserved-requires : goal.push_reserved-requires
 push_reserved-requires g c =
@@ -27,8 +27,8 @@ push_reserved-requires g c =
 pub loop-i-preserved : goal.loop-i-preserved
 loop-i-preserved g c =
     let inv = c.loop-i.invariant in let less = c.loop-i-test.true in let cache = ap (λ z. z.replay_cache) c.self.view_is in
-    let here = cell_is g.T.Packed.value_of c.self.inside.room (slots_items c.self.inside.closed.words) (c.self.inside.emitted - c.self.inside.first) c.self.inside.first c.loop-i.i (omega arith)
-    ∙ ap (λ w. Some (g.T.Packed.value_of w)) (word_at (slots_items c.self.inside.closed.words) (4 + (c.self.inside.first + c.loop-i.i) % c.self.inside.room) c.word-word.result c.word-word.ensures) ∙ ap Some (sym c.unpack.ensures) in record {
+    let here = cell_is g.T.Words.value_in c.self.inside.room (slots_items c.self.inside.closed.words) (c.self.inside.emitted - c.self.inside.first) c.self.inside.first c.loop-i.i (omega arith)
+    ∙ ap (λ w. Some (g.T.Words.value_in w)) (word_at (slots_items c.self.inside.closed.words) (4 + (c.self.inside.first + c.loop-i.i) % c.self.inside.room) c.word-word.result c.word-word.ensures) ∙ ap Some (sym c.unpack.ensures) in record {
       copied = taken_more c.args.self.now.replay_cache c.loop-i.i c.unpack.result _ _ _ (subst (λ l. slice_get l c.loop-i.i ≡ Some c.unpack.result) cache here) inv.copied c.push_reserved.ensures.items;
       room = (omega (arith, c.push_reserved.ensures.len, inv.room.0), c.push_reserved.ensures.capacity ∙ inv.room.1);
     }

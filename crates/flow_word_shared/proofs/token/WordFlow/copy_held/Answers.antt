@@ -20,7 +20,7 @@ load-word-requires g c =
 
 -- what the load told: the seat is as before, and the word packs the value at position k
 told : (g : _) (c : After-load-word g) →
-    (c.load-word.new.seat.me ≡ c.loop-k.seat.me) × HasValue g.T.Packed.packs g.T.Packed.value_of (log_after c.args.self.now.table_id.start (only c.args.seat.now.me.0).knows.seen) c.loop-k.k c.load-word.result
+    (c.load-word.new.seat.me ≡ c.loop-k.seat.me) × HasValue g.T.Words.are_words g.T.Words.value_in (log_after c.args.self.now.table_id.start (only c.args.seat.now.me.0).knows.seen) c.loop-k.k c.load-word.result
 told g c =
     let T = g.row.T.Denot in let inv = c.loop-k.invariant in let held = c.requires.held in let k = c.loop-k.k in let kept = c.requires.kept in let from = c.loop-k.auto.k in let less = c.loop-k-test.true in
     let low = mask_is k c.self.inside.mask c.self.inside.room c.self.invariant.8 c.self.invariant.9 in
@@ -29,7 +29,7 @@ told g c =
     let all : held.0.length ≡ length (log_after (only c.loop-k.seat.me.0).start (only c.loop-k.seat.me.0).knows.seen) = held.2 ∙ (held.3 ∙ ap (λ (m : MeOf T). length (log_after (only m.0).start (only m.0).knows.seen)) (sym inv.same.0)) in
     let room = ap capacity_of begins in
     let says = c.load-word.ensures.2 held.0 k (subst (λ (m : MeOf T). (only m.0).hold ≡ Some held.0) (sym inv.same.0) held.1.1) (ap (λ n. 4 + n) low ∙ ap (λ n. 4 + k % n) key) all (omega (arith, held.2, less)) (omega (arith, held.2, kept, from, room)) in
-    (says.0, subst (λ (z : RingStart × MeOf T). HasValue g.T.Packed.packs g.T.Packed.value_of (log_after z.0 (only z.1.0).knows.seen) k c.load-word.result) (λ i. (begins i, inv.same.0 i)) says.1)
+    (says.0, subst (λ (z : RingStart × MeOf T). HasValue g.T.Words.are_words g.T.Words.value_in (log_after z.0 (only z.1.0).knows.seen) k c.load-word.result) (λ i. (begins i, inv.same.0 i)) says.1)
 
 pub unpack-requires : goal.unpack-requires
 unpack-requires g c = (told g (goal.at.unpack-requires g c).After-load-word).1.0

@@ -30,7 +30,7 @@ load-found-requires g c =
 
 -- what the two loads told, of the words that the buffer still has
 received : (g : _) (c : After-load-found g) →
-    Receives g.T.Packed.packs g.T.Packed.value_of c.args.number c.args.position (c.load-found.result / 2)
+    Receives g.T.Words.are_words g.T.Words.value_in c.args.number c.args.position (c.load-found.result / 2)
     (take 1 (still_kept (capacity_of (only c.load-word.new.seat.me.0).start) (c.load-found.result / 2) c.args.position (c.load-word.result ∷ []))) c.load-word.new.seat.me c.load-found.new.seat.me
 received g c = c.load-found.ensures.2 (reading c.args.number c.args.position (c.load-word.result ∷ [])) (c.load-word.ensures.2 (reading c.args.number c.args.position []) c.requires.reading.1).2
 
@@ -43,7 +43,7 @@ first_flow g c = ap began_as (start_is g c) ∙ (ap (λ z. began_as z.table_id.s
 
 pub returns-clause-fresh : goal.returns-clause-fresh
 returns-clause-fresh g c = λ kept.
-    let packs = g.T.Packed.packs in let value_of = g.T.Packed.value_of in
+    let packs = g.T.Words.are_words in let value_of = g.T.Words.value_in in
     let d = (goal.at.returns-clause-fresh g c).After-load-found in let e = (goal.at.returns-clause-fresh g c).After-load-word in
     let p = c.args.position in let w = c.load-word.result in let n = c.load-found.result / 2 in
     let told = c.load-word.ensures.2 (reading c.args.number p []) c.requires.reading.1 in let room = ap capacity_of (start_is g e) in
@@ -60,7 +60,7 @@ returns-clause-fresh g c = λ kept.
 
 pub returns-clause-late : goal.returns-clause-late
 returns-clause-late g c = λ late.
-    let packs = g.T.Packed.packs in let value_of = g.T.Packed.value_of in
+    let packs = g.T.Words.are_words in let value_of = g.T.Words.value_in in
     let d = (goal.at.returns-clause-late g c).After-load-found in let e = (goal.at.returns-clause-late g c).After-load-word in
     let p = c.args.position in let w = c.load-word.result in let n = c.load-found.result / 2 in
     let told = c.load-word.ensures.2 (reading c.args.number p []) c.requires.reading.1 in let room = ap capacity_of (start_is g e) in

@@ -20,8 +20,8 @@ first_flow : (g : _) (c : After-load-length g) → began_as (only c.read_cells-w
 first_flow g c = ap (λ z. began_as z.start) (c.read_cells-words.ensures.sees.0 ∙ c.requires.flow) ∙ (ap (λ z. began_as z.table_id.start) (sym c.self.view_is) ∙ ap (λ z. z.first) c.self.view_is)
 
 found_words : (g : _) (c : After-read_cells-words g) →
-    AreFound g.T.Packed.packs g.T.Packed.value_of (capacity_of (only c.read_cells-words.new.seat.me.0).start) (log_after (only c.read_cells-words.new.seat.me.0).start (only c.read_cells-words.new.seat.me.0).knows.seen) c.args.position c.read_cells-words.result.items
-found_words g c = subst (λ (z : RingStart). AreFound g.T.Packed.packs g.T.Packed.value_of (capacity_of z) (log_after z (only c.read_cells-words.new.seat.me.0).knows.seen) c.args.position c.read_cells-words.result.items) (sym (start_is g c)) c.read_cells-words.ensures.found
+    AreFound g.T.Words.are_words g.T.Words.value_in (capacity_of (only c.read_cells-words.new.seat.me.0).start) (log_after (only c.read_cells-words.new.seat.me.0).start (only c.read_cells-words.new.seat.me.0).knows.seen) c.args.position c.read_cells-words.result.items
+found_words g c = subst (λ (z : RingStart). AreFound g.T.Words.are_words g.T.Words.value_in (capacity_of z) (log_after z (only c.read_cells-words.new.seat.me.0).knows.seen) c.args.position c.read_cells-words.result.items) (sym (start_is g c)) c.read_cells-words.ensures.found
 
 pub load-length-requires : goal.load-length-requires
 load-length-requires g c =
@@ -33,18 +33,18 @@ load-length-requires g c =
 
 -- what the load of word 0 told, of the words that the buffer still has
 received : (g : _) (c : After-saturating_sub-passed g) →
-    Receives g.T.Packed.packs g.T.Packed.value_of c.args.number c.args.position (c.load-length.result / 2)
+    Receives g.T.Words.are_words g.T.Words.value_in c.args.number c.args.position (c.load-length.result / 2)
     (take 1 (drop c.saturating_sub-passed.result c.read_cells-words.result.items)) c.read_cells-words.new.seat.me c.load-length.new.seat.me
 received g c =
     let cells = c.read_cells-words in let n = c.load-length.result / 2 in let d = (goal.at.After-saturating_sub-passed g c).After-read_cells-words in
     let cap : capacity_of (only cells.new.seat.me.0).start ≡ c.self.inside.capacity = ap capacity_of (start_is g d) ∙ (ap (λ z. capacity_of z.table_id.start) (sym c.self.view_is) ∙ c.self.invariant.3) in
     let passed : n - capacity_of (only cells.new.seat.me.0).start - c.args.position ≡ c.saturating_sub-passed.result = omega (arith, cap, c.saturating_sub.ensures, c.saturating_sub-passed.ensures) in
-    subst (λ k. Receives g.T.Packed.packs g.T.Packed.value_of c.args.number c.args.position n (take 1 (drop k cells.result.items)) cells.new.seat.me c.load-length.new.seat.me) passed
+    subst (λ k. Receives g.T.Words.are_words g.T.Words.value_in c.args.number c.args.position n (take 1 (drop k cells.result.items)) cells.new.seat.me c.load-length.new.seat.me) passed
     (c.load-length.ensures.2 (reading c.args.number c.args.position cells.result.items) cells.ensures.reading.1)
 
 pub returns-in-Some-clause-fresh : goal.returns-in-Some-clause-fresh
 returns-in-Some-clause-fresh g c =
-    let packs = g.T.Packed.packs in let value_of = g.T.Packed.value_of in
+    let packs = g.T.Words.are_words in let value_of = g.T.Words.value_in in
     let d = (goal.at.returns-in-Some-clause-fresh g c).After-saturating_sub-passed in let e = (goal.at.returns-in-Some-clause-fresh g c).After-read_cells-words in
     let cells = c.read_cells-words in let w = c.in-Some.field-0.now in let n = c.load-length.result / 2 in let p = c.args.position in let r = cells.ensures.reading in
     let here = true-ltb c.saturating_sub-passed.result (length c.as_slice.result.now) c.in-Some.ensures.lookup.0 in
@@ -59,7 +59,7 @@ returns-in-Some-clause-fresh g c =
 
 pub returns-in-None-clause-late : goal.returns-in-None-clause-late
 returns-in-None-clause-late g c =
-    let packs = g.T.Packed.packs in let value_of = g.T.Packed.value_of in
+    let packs = g.T.Words.are_words in let value_of = g.T.Words.value_in in
     let d = (goal.at.returns-in-None-clause-late g c).After-saturating_sub-passed in let e = (goal.at.returns-in-None-clause-late g c).After-read_cells-words in
     let cells = c.read_cells-words in let n = c.load-length.result / 2 in let p = c.args.position in let r = cells.ensures.reading in
     let past = false-ltb c.saturating_sub-passed.result (length c.as_slice.result.now) c.in-None.ensures.lookup.0 in

@@ -23,7 +23,7 @@ load-length-requires g c =
       ap (λ z. z.table) (cells.ensures.sees.0 ∙ c.requires.flow) ∙ ap (λ z. z.table_id.table) (sym c.self.view_is),
       omega arith,
       confirming _ _ _ _ _ _ _ (λ l. l) all_is (reading c.args.number c.args.position cells.result.items) (ap (λ m. m.0) r.0.0) r.1 r.2
-          (subst (λ (z : RingStart). AreFound g.T.Packed.packs g.T.Packed.value_of (capacity_of z) (log_after z (only cells.new.seat.me.0).knows.seen) c.args.position cells.result.items) (sym (start_is g d)) cells.ensures.found),
+          (subst (λ (z : RingStart). AreFound g.T.Words.are_words g.T.Words.value_in (capacity_of z) (log_after z (only cells.new.seat.me.0).knows.seen) c.args.position cells.result.items) (sym (start_is g d)) cells.ensures.found),
     )
 
 -- the words that the buffer still has
@@ -32,14 +32,14 @@ kept passed words = take (length words - passed) (drop passed words)
 
 -- what the load of word 0 told of them
 received : (g : _) (c : After-as_slice g) →
-    Receives g.T.Packed.packs g.T.Packed.value_of c.args.number c.args.position (c.load-length.result / 2) (kept c.min-passed.result c.as_slice.result.now) c.read_cells-words.new.seat.me c.load-length.new.seat.me
+    Receives g.T.Words.are_words g.T.Words.value_in c.args.number c.args.position (c.load-length.result / 2) (kept c.min-passed.result c.as_slice.result.now) c.read_cells-words.new.seat.me c.load-length.new.seat.me
 received g c =
     let cells = c.read_cells-words in let n = c.load-length.result / 2 in let d = (goal.at.After-as_slice g c).After-read_cells-words in
     let cap : capacity_of (only cells.new.seat.me.0).start ≡ c.self.inside.capacity = ap capacity_of (start_is g d) ∙ (ap (λ z. capacity_of z.table_id.start) (sym c.self.view_is) ∙ c.self.invariant.3) in
     let passed : c.min-passed.result ≡ min (n - capacity_of (only cells.new.seat.me.0).start - c.args.position) (length cells.result.items) = omega (arith, cap, c.saturating_sub.ensures, c.saturating_sub-passed.ensures, c.min-passed.ensures, cells.ensures.count) in
     let is : still_kept (capacity_of (only cells.new.seat.me.0).start) n c.args.position cells.result.items ≡ kept c.min-passed.result c.as_slice.result.now =
     sym (take_rest c.as_slice.result.now c.min-passed.result ∙ ap (drop c.min-passed.result) c.as_slice.ensures.value ∙ min_kept cells.result.items (n - capacity_of (only cells.new.seat.me.0).start - c.args.position) c.min-passed.result passed) in
-    subst (λ l. Receives g.T.Packed.packs g.T.Packed.value_of c.args.number c.args.position n l cells.new.seat.me c.load-length.new.seat.me) is
+    subst (λ l. Receives g.T.Words.are_words g.T.Words.value_in c.args.number c.args.position n l cells.new.seat.me c.load-length.new.seat.me) is
     (c.load-length.ensures.2 (reading c.args.number c.args.position cells.result.items) cells.ensures.reading.1)
 
 pub unpack_all-requires-clause-packed : goal.unpack_all-requires-clause-packed
@@ -49,10 +49,10 @@ pub returns-clause-taken : goal.returns-clause-taken
 returns-clause-taken g c = λ some.
     let r = received g (goal.at.returns-clause-taken g c).After-as_slice in let cells = c.read_cells-words in let ws = kept c.min-passed.result c.as_slice.result.now in
     let began : began_as (only cells.new.seat.me.0).start ≡ c.args.self.now.first = ap (λ z. began_as z.start) (cells.ensures.sees.0 ∙ c.requires.flow) ∙ (ap (λ z. began_as z.table_id.start) (sym c.self.view_is) ∙ ap (λ z. z.first) c.self.view_is) in record {
-      values = map g.T.Packed.value_of ws;
-      taken = all_given g.T.Packed.packs g.T.Packed.value_of c.args.self.now.first c.args.number c.args.position (c.load-length.result / 2) c.args.seat.now cells.new.seat c.load-length.new.seat cells.ensures.sees c.load-length.ensures.0 began ws some r;
+      values = map g.T.Words.value_in ws;
+      taken = all_given g.T.Words.are_words g.T.Words.value_in c.args.self.now.first c.args.number c.args.position (c.load-length.result / 2) c.args.seat.now cells.new.seat c.load-length.new.seat cells.ensures.sees c.load-length.ensures.0 began ws some r;
       appended = c.unpack_all.ensures.items;
-      counted = length-map ws g.T.Packed.value_of;
+      counted = length-map ws g.T.Words.value_in;
     }
 
 -- a list of no words has no values
@@ -63,15 +63,15 @@ no_values f (w ∷ ws) list longer none is = absurd (omega (arith, none))
 pub returns-clause-late : goal.returns-clause-late
 returns-clause-late g c = λ none.
     let r = received g (goal.at.returns-clause-late g c).After-as_slice in let cells = c.read_cells-words in let ws = kept c.min-passed.result c.as_slice.result.now in (
-      no_values g.T.Packed.value_of ws c.args.values.now.items c.unpack_all.new.values.items none c.unpack_all.ensures.items,
-      none_given g.T.Packed.packs g.T.Packed.value_of c.args.self.now.first c.args.number c.args.position (c.load-length.result / 2) c.args.seat.now cells.new.seat c.load-length.new.seat cells.ensures.sees c.load-length.ensures.0 ws none r,
+      no_values g.T.Words.value_in ws c.args.values.now.items c.unpack_all.new.values.items none c.unpack_all.ensures.items,
+      none_given g.T.Words.are_words g.T.Words.value_in c.args.self.now.first c.args.number c.args.position (c.load-length.result / 2) c.args.seat.now cells.new.seat c.load-length.new.seat cells.ensures.sees c.load-length.ensures.0 ws none r,
     )
 
 pub returns-clause-reading : goal.returns-clause-reading
 returns-clause-reading g c =
     let r = received g (goal.at.returns-clause-reading g c).After-as_slice in let cells = c.read_cells-words in let n = c.load-length.result / 2 in let ws = kept c.min-passed.result c.as_slice.result.now in
     subst (λ k. IsReading c.load-length.new.seat c.args.number (max c.args.position (n - k) + length ws) [] n) (ap capacity_of (start_is g (goal.at.returns-clause-reading g c).After-read_cells-words))
-    (reads_on g.T.Packed.packs g.T.Packed.value_of c.args.number c.args.position n cells.new.seat c.load-length.new.seat ws cells.ensures.reading.0.0 r)
+    (reads_on g.T.Words.are_words g.T.Words.value_in c.args.number c.args.position n cells.new.seat c.load-length.new.seat ws cells.ensures.reading.0.0 r)
 
 pub returns-clause-within : goal.returns-clause-within
 returns-clause-within g c = λ some.

@@ -23,7 +23,7 @@ load-word-requires g c =
       ap (λ z. z.table) (inv.sees.0 ∙ c.requires.flow) ∙ ap (λ z. z.table_id.table) (sym c.self.view_is),
       omega arith,
       reading_cell _ _ _ _ _ _ _ (reading c.args.number c.args.position c.loop-i.words.items) _ (ap (λ m. m.0) r.0.0) r.1 r.2
-          (subst (λ (z : RingStart). AreFound g.T.Packed.packs g.T.Packed.value_of (capacity_of z) (log_after z (only c.loop-i.seat.me.0).knows.seen) c.args.position c.loop-i.words.items) (sym (start_is g d)) inv.found)
+          (subst (λ (z : RingStart). AreFound g.T.Words.are_words g.T.Words.value_in (capacity_of z) (log_after z (only c.loop-i.seat.me.0).knows.seen) c.args.position c.loop-i.words.items) (sym (start_is g d)) inv.found)
           (ap (λ k. 4 + k) low ∙ ap (λ k. 4 + q % k) (sym c.self.invariant.2) ∙ ap (λ k. 4 + (c.args.position + k) % c.self.inside.table.shared.key.room) (sym count)) (omega arith),
     )
 
@@ -34,7 +34,7 @@ loop-i-preserved g c =
       count = ap length items ∙ (length-append c.loop-i.words.items (c.load-word.result ∷ []) ∙ ap (λ k. k + 1) inv.count);
       reading = subst (λ ws. IsReading new c.args.number c.args.position ws c.args.seen) (sym items)
           ((still_one old.me new.me r.0.0 told.0.2, told.1), told.2, told.3, still_emitted 0 old.me new.me c.args.seen told.0 r.3);
-      found = subst (λ ws. AreFound g.T.Packed.packs g.T.Packed.value_of (capacity_of c.args.self.now.table_id.start) (log_after c.args.self.now.table_id.start (only new.me.0).knows.seen) c.args.position ws) (sym items)
-          (subst (λ (z : RingStart). AreFound g.T.Packed.packs g.T.Packed.value_of (capacity_of z) (log_after z (only new.me.0).knows.seen) c.args.position (c.loop-i.words.items ++ c.load-word.result ∷ [])) (told.0.1 ∙ start_is g d) told.4);
+      found = subst (λ ws. AreFound g.T.Words.are_words g.T.Words.value_in (capacity_of c.args.self.now.table_id.start) (log_after c.args.self.now.table_id.start (only new.me.0).knows.seen) c.args.position ws) (sym items)
+          (subst (λ (z : RingStart). AreFound g.T.Words.are_words g.T.Words.value_in (capacity_of z) (log_after z (only new.me.0).knows.seen) c.args.position (c.loop-i.words.items ++ c.load-word.result ∷ [])) (told.0.1 ∙ start_is g d) told.4);
       sees = saw_saw _ _ _ inv.sees (told_sees 0 old new c.load-word.ensures.0 told.0);
     }

@@ -9,6 +9,6 @@ abbrev pub invariant-loop-i : goal.invariant-loop-i
 invariant-loop-i g l = record {
   count : length l.words.items ≡ l.i;
   reading : IsReading l.seat l.fn.number l.fn.position l.words.items l.fn.seen;
-  found : AreFound g.T.Packed.packs g.T.Packed.value_of (capacity_of l.fn.self.table_id.start) (log_after l.fn.self.table_id.start (ring_token l.seat).knows.seen) l.fn.position l.words.items;
+  found : AreFound g.T.Words.are_words g.T.Words.value_in (capacity_of l.fn.self.table_id.start) (log_after l.fn.self.table_id.start (ring_token l.seat).knows.seen) l.fn.position l.words.items;
   sees : Saw 0 (ring_token l.fn.seat) (ring_token l.seat);
 }
