@@ -12,8 +12,8 @@ use Rattle.flow_word_shared.proofs.token.WordFlow.try_ahead.Goals as goal
 pub returns-in-Ok-clause-called : goal.returns-in-Ok-clause-called
 returns-in-Ok-clause-called g c =
     let more = c.if-seen-position.false in
-    subst (λ (z : WordFlowNumbered g.row.T.Denot × g.row.T.Denot). CallsAtOnceIn shared_flow c.args.self.now.first z.0.token (call.TakeNext z.0.number) (reply.Received (Value z.1)) (ring_token c.read_ahead.new.seat)) (λ i. (c.subscription.view_is i, sym c.unpack.ensures i))
-    (saw_then c.args.self.now.first _ _ _ _ _ (c.look.ensures.more (omega (arith, more))) c.in-Ok.ensures.fresh.1)
+    subst (λ (z : WordFlowNumbered g.row.T.Denot). CallsAtOnceIn shared_flow c.args.self.now.first z.token (call.TakeNext z.number) _ (ring_token c.read_ahead.new.seat)) c.subscription.view_is
+    (saw_then c.args.self.now.first _ _ _ _ _ (c.look.ensures.more (omega (arith, more))) c.in-Ok.ensures.fresh.0)
 
 pub returns-in-Err-clause-late : goal.returns-in-Err-clause-late
 returns-in-Err-clause-late g c = λ _.
