@@ -41,7 +41,7 @@ words_same (suc n) words words' p same = λ i. same p (omega arith) (omega arith
 
 -- a store into another cell
 pub words_kept : (n : ℕ) (words : List ℕ) (place w p : ℕ) → ((i : ℕ) → p ≤ i → i < p + n → place ≢ i) → words_from n (set words place w) p ≡ words_from n words p
-words_kept n words place w p other = words_same n words (set words place w) p (λ i from less. get_or-set_other words place i w 0 (other i from less))
+words_kept n words place w p other = words_same n words (set words place w) p (λ i from less. get_or-set_other words place i w 0 (λ e. other i from less (sym e)))
 
 -- a store into a word before the cells
 pub head_kept : (n : ℕ) (start : RingStart) (words : List ℕ) (place w k : ℕ) → place < head → words_from n (set words place w) (cell_at start k) ≡ words_from n words (cell_at start k)
@@ -56,7 +56,7 @@ word_from (suc n) words p (suc j) less = word_from n words (p + 1) j (omega (ari
 -- one more cell
 pub words_more : (n : ℕ) (words : List ℕ) (p : ℕ) → words_from (n + 1) words p ≡ words_from n words p ++ get_or words (p + n) 0 ∷ []
 words_more zero words p = ap (λ q. get_or words q 0 ∷ []) (let e : p ≡ p + 0 = omega arith in e)
-words_more (suc n) words p = ap (λ l. get_or words p 0 ∷ l) (words_more n words (p + 1) ∙ ap (λ q. words_from n words (p + 1) ++ get_or words q 0 ∷ []) (let e : p + 1 + n ≡ p + suc n = omega arith in e))
+words_more (suc n) words p = ap (λ k. words_from k words p) (let e : suc n + 1 ≡ suc (n + 1) = omega arith in e) ∙ ap (λ l. get_or words p 0 ∷ l) (words_more n words (p + 1) ∙ ap (λ q. words_from n words (p + 1) ++ get_or words q 0 ∷ []) (let e : p + 1 + n ≡ p + suc n = omega arith in e))
 
 -- ---- a value whose words are read one by one
 
@@ -126,7 +126,7 @@ drop_left (suc n) [] ys e = absurd (omega (arith, e))
 drop_left (suc n) (x ∷ xs) ys e = drop_left n xs ys (omega (arith, e))
 
 length_dropped : (n : ℕ) (xs : List ℕ) (m : ℕ) → length xs ≡ n + m → length (drop n xs) ≡ m
-length_dropped zero xs m e = e
+length_dropped zero xs m e = e ∙ (let z : 0 + m ≡ m = omega arith in z)
 length_dropped (suc n) [] m e = absurd (omega (arith, e))
 length_dropped (suc n) (x ∷ xs) m e = length_dropped n xs m (omega (arith, e))
 
@@ -141,7 +141,8 @@ values_more width zero [] p all one = ap (λ l. l ∷ []) (take_full width p one
     take_full (suc n) (x ∷ xs) e = ap (λ l. x ∷ l) (take_full n xs (omega (arith, e)))
 values_more width zero (w ∷ ws) p all one = absurd (omega (arith, all))
 values_more width (suc n) ws p all one = let long : width ≤ length ws = omega (arith, all) in
-    λ i. take_left width ws p long i ∷ (ap (values_of width (n + 1)) (drop_left width ws p long) ∙ values_more width n (drop width ws) p (length_dropped width ws (n * width) (omega (arith, all))) one) i
+    ap (λ k. values_of width k (ws ++ p)) (let e : suc n + 1 ≡ suc (n + 1) = omega arith in e)
+    ∙ (λ i. take_left width ws p long i ∷ (ap (values_of width (n + 1)) (drop_left width ws p long) ∙ values_more width n (drop width ws) p (length_dropped width ws (n * width) (omega (arith, all))) one) i)
 
 pub length_values_of : (width n : ℕ) (ws : List ℕ) → length (values_of width n ws) ≡ n
 length_values_of width zero ws = refl
@@ -150,25 +151,26 @@ length_values_of width (suc n) ws = ap suc (length_values_of width n (drop width
 drop_drop : (a b : ℕ) (xs : List ℕ) → drop a (drop b xs) ≡ drop (a + b) xs
 drop_drop a zero xs = ap (λ n. drop n xs) (let e : a ≡ a + 0 = omega arith in e)
 drop_drop zero (suc b) xs = ap (λ n. drop n xs) (let e : suc b ≡ 0 + suc b = omega arith in e)
-drop_drop (suc a) (suc b) [] = refl
+drop_drop (suc a) (suc b) [] = ap (λ n. drop {A = ℕ} n []) (let e : suc (a + suc b) ≡ suc a + suc b = omega arith in e)
 drop_drop (suc a) (suc b) (x ∷ xs) = drop_drop (suc a) b xs ∙ ap (λ n. drop n (x ∷ xs)) (let e : suc (suc a + b) ≡ suc a + suc b = omega arith in e)
 
 -- without the first values
 pub values_drop : (width n d : ℕ) (ws : List ℕ) → d ≤ n → drop d (values_of width n ws) ≡ values_of width (n - d) (drop (d * width) ws)
-values_drop width n zero ws less = refl
+values_drop width n zero ws less = let z : 0 ≡ 0 * width = omega arith in let m : n ≡ n - 0 = omega arith in λ i. values_of width (m i) (drop (z i) ws)
 values_drop width zero (suc d) ws less = absurd (omega (arith, less))
-values_drop width (suc n) (suc d) ws less = values_drop width n d (drop width ws) (omega (arith, less)) ∙ ap (values_of width (n - d)) (drop_drop (d * width) width ws ∙ ap (λ k. drop k ws) (let e : d * width + width ≡ suc d * width = omega arith in e))
+values_drop width (suc n) (suc d) ws less = values_drop width n d (drop width ws) (omega (arith, less)) ∙ (let m : n - d ≡ suc n - suc d = omega arith in let e : d * width + width ≡ suc d * width = omega arith in
+    λ i. values_of width (m i) ((drop_drop (d * width) width ws ∙ ap (λ k. drop k ws) e) i))
 
 -- one of the values
 pub value_is : {A : Type 0} (f : List ℕ → A) (width n i : ℕ) (ws : List ℕ) → i < n → slice_get (map f (values_of width n ws)) i ≡ Some (f (take width (drop (i * width) ws)))
 value_is f width zero i ws less = absurd (omega (arith, less))
-value_is f width (suc n) zero ws less = refl
+value_is f width (suc n) zero ws less = ap (λ k. Some (f (take width (drop k ws)))) (let z : 0 ≡ 0 * width = omega arith in z)
 value_is f width (suc n) (suc i) ws less = value_is f width n i (drop width ws) (omega (arith, less))
     ∙ ap (λ l. Some (f (take width l))) (drop_drop (i * width) width ws ∙ ap (λ k. drop k ws) (let e : i * width + width ≡ suc i * width = omega arith in e))
 
 pub each_is : (packs : List ℕ → Type 0) (width n i : ℕ) (ws : List ℕ) → AllByRecursion packs (values_of width n ws) → i < n → packs (take width (drop (i * width) ws))
 each_is packs width zero i ws all less = absurd (omega (arith, less))
-each_is packs width (suc n) zero ws all less = all.0
+each_is packs width (suc n) zero ws all less = subst (λ k. packs (take width (drop k ws))) (let z : 0 ≡ 0 * width = omega arith in z) all.0
 each_is packs width (suc n) (suc i) ws all less =
     subst packs (ap (take width) (drop_drop (i * width) width ws ∙ ap (λ k. drop k ws) (let e : i * width + width ≡ suc i * width = omega arith in e))) (each_is packs width n i (drop width ws) all.1 (omega (arith, less)))
 
@@ -179,3 +181,8 @@ first_left width n d ws less = ap (take 1) (values_drop width n d ws (omega (ari
     one : (m : ℕ) → 0 < m → take 1 (values_of width m (drop (d * width) ws)) ≡ take width (drop (d * width) ws) ∷ []
     one zero l = absurd (omega (arith, l))
     one (suc m) l = refl
+
+pub length_took : (n : ℕ) (xs : List ℕ) → n ≤ length xs → length (take n xs) ≡ n
+length_took zero xs less = refl
+length_took (suc n) [] less = absurd (omega (arith, less))
+length_took (suc n) (x ∷ xs) less = ap suc (length_took n xs (omega (arith, less)))

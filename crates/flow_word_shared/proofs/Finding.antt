@@ -8,7 +8,7 @@ use Rattle.flow_word_shared.specs.Steps.{IsFound, AreFound}
 use Rattle.flow_word_shared.proofs.Keeps.{slice_get_left}
 
 module _ {T : Type 0} (packs : List ℕ → Type 0) (value_of : List ℕ → T) (c : ℕ) where
-  abbrev Found : List T → ℕ → List ℕ → Type 0
+  abbrev Found : List T → ℕ → List (List ℕ) → Type 0
   Found = AreFound packs value_of c
 
   pub found_grows : (log more : List T) (p : ℕ) (ws : List (List ℕ)) → Found log p ws → Found (log ++ more) p ws

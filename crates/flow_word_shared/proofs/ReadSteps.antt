@@ -100,7 +100,7 @@ module _ (T : Type 0) (packs : List ℕ → Type 0) (value_of : List ℕ → T) 
   -- a reader holds no lock bit
   pub holds_none : (s t : SharedFlowState T) (owner : Option (List ℕ)) (ahead : ℕ) (words : List ℕ) → length t.emitted ≡ length s.emitted → t.issued ≡ s.issued → t.reset_mark ≡ s.reset_mark
       → (y : RingKnown T) → HoldFits start s owner ahead words y.knows.name y.hold → HoldFits start t owner ahead words y.knows.name y.hold
-  holds_none s t owner ahead words count issued mark y f = same_hold start s t owner ahead words words y.knows.name y.hold count issued mark (λ _. refl) f
+  holds_none s t owner ahead words count issued mark y f = same_hold start s t owner ahead words words y.knows.name y.hold count issued mark (λ i from. refl) f
 
   -- a call of `next` that finds nothing
   looks_empty : (s : St) (r : Rule s) (id : ℕ) (me : Me Unit V) (x : Reads) → me.0 ≡ only me.0 ∷ [] → get_elem? s.views id ≡ some me.0 → IsAt start (saw (only me.0).knows.lost r.history (only me.0).knows) x.number x.position

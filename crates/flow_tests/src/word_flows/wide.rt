@@ -202,7 +202,8 @@ fn calls<T: Numbered, R: Wait + Abort>(rt: &R, alloc: Global, row: &str) {
         Err(refused) => compare(rt, row, refused.value, T::of_number(7)),
     }
     drop(reader);
-    let closed = flow.close(emitter.into_seat());
+    let seat = emitter.into_seat();
+    let closed = flow.close(seat);
     compare(rt, row, closed.emitted(), 6);
     let cache = closed.replay_cache().expect(rt, "memory");
     compare(rt, row, cache.as_slice(), &[T::of_number(5), T::of_number(6)]);
