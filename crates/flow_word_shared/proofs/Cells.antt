@@ -1,9 +1,9 @@
 -- The cells of values of several words. Begin with `apart` (no cell of one place is one of another), `words_kept` (a store elsewhere leaves
 -- the words of a value), `begun_more` and `begun_whole` (a value whose words are read one by one).
-use Rattle.std.proofs.Common.{◌≡◌, ◌≢◌, ◌⊎◌, ℕ, zero, suc, ◌+◌, ◌-◌, ◌*◌, ◌%◌, ◌<◌, ◌≤◌, List, [], ◌∷◌, ◌++◌, length, map, get_or, set, Some, refl, sym, ap, ◌∙◌, subst, inl, inr, ⊎_elim, length-append, arith}
+use Rattle.std.proofs.Common.{◌≡◌, ◌≢◌, ◌⊎◌, ℕ, zero, suc, ◌+◌, ◌-◌, ◌*◌, ◌/◌, ◌%◌, ◌<◌, ◌≤◌, List, [], ◌∷◌, ◌++◌, length, map, get_or, set, Some, refl, sym, ap, ◌∙◌, subst, inl, inr, ⊎_elim, length-append, arith}
 use Rattle.std.specs.Prelude.{take, drop}
 use Rattle.std.specs.List.{slice_get, AllByRecursion}
-use Rattle.std.proofs.Math.Nat.{mod-lt}
+use Rattle.std.proofs.Math.Nat.{mod-lt, div-add-mod}
 use Rattle.std.proofs.lemmas.Bool.{cases_lt}
 use Rattle.std.proofs.lemmas.List.{get_or-set_same, get_or-set_other}
 use Rattle.flow_word_shared.specs.declared.view.RingStart.{RingStart}
@@ -186,3 +186,14 @@ pub length_took : (n : ℕ) (xs : List ℕ) → n ≤ length xs → length (take
 length_took zero xs less = refl
 length_took (suc n) [] less = absurd (omega (arith, less))
 length_took (suc n) (x ∷ xs) less = ap suc (length_took n xs (omega (arith, less)))
+
+-- places in order have cells in order
+pub in_order : (a b width : ℕ) → a ≤ b → a * width ≤ b * width
+in_order a b width less = elim (cases_lt a b) as (λ _. a * width ≤ b * width) [
+  | inl l ↦ omega (arith, before width a b l)
+  | inr past ↦ let same : a ≡ b = omega (arith, past, less) in subst (λ k. a * width ≤ k * width) same (omega arith)
+]
+
+-- values whose words are at most 64 in all
+pub fit_ahead : (count width : ℕ) → count ≤ 64 / width → count * width ≤ 64
+fit_ahead count width less = let all = div-add-mod 64 width in let order = in_order count (64 / width) width less in let turned : width * (64 / width) ≡ 64 / width * width = omega arith in omega (arith, all, order, turned)

@@ -98,9 +98,10 @@ impl<T: Words> WordFlow<T> {
         ensures value { slice_get (log_after self.now.table_id.start (ring_token seat.old).knows.seen) position
             ≡ Some result }
     {
-        let first = HEAD + (position & self.mask) as usize * T::WIDTH;
+        let width = T::WIDTH;
+        let first = HEAD + (position & self.mask) as usize * width;
         let mut words = Pack::new();
-        for place in 0..T::WIDTH {
+        for place in 0..width {
             let word = self.table.shared.load::<ReadHeld>(seat, first + place);
             words.push(word);
         }

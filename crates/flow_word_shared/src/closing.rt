@@ -50,9 +50,11 @@ fn value_at<T: Words>(closed: &Closed<(), Global>, cell: usize) -> T
     requires words { T.are_words (words_from T.WIDTH (slots_items closed.now.words) cell) }
     ensures { result ≡ T.value_in (words_from T.WIDTH (slots_items closed.now.words) cell) }
 {
+    let width = T::WIDTH;
     let mut words = Pack::new();
-    for place in 0..T::WIDTH {
-        words.push(closed.word(cell + place));
+    for place in 0..width {
+        let word = closed.word(cell + place);
+        words.push(word);
     }
     T::of_words(words.as_slice())
 }
@@ -130,8 +132,9 @@ impl<T: Words> ClosedWordFlow<T> {
         ensures { values.new.items ≡ values.old.items ++ self.now.replay_cache }
     {
         let first = self.first;
+        let width = T::WIDTH;
         for i in 0..self.emitted - first {
-            let cell = HEAD + ((first + i) % self.room) as usize * T::WIDTH;
+            let cell = HEAD + ((first + i) % self.room) as usize * width;
             values.push_reserved(value_at(&self.closed, cell));
         }
     }

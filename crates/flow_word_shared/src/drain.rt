@@ -32,9 +32,10 @@ fn unpack_all<T: Words, B: Allocator>(words: &[u64], count: usize, values: &mut 
     ensures room { (vec_len values.new ≡ vec_len values.old + count)
         × (vec_capacity values.new ≡ vec_capacity values.old) }
 {
+    let width = T::WIDTH;
     for i in 0..count {
-        let from = i * T::WIDTH;
-        values.push_reserved(T::of_words(&words[from..from + T::WIDTH]));
+        let from = i * width;
+        values.push_reserved(T::of_words(&words[from..from + width]));
     }
 }
 
@@ -75,7 +76,8 @@ impl<T: Words> WordFlow<T> {
             .saturating_sub(position);
         let passed = passed.min(count as u64) as usize;
         let kept = count - passed;
-        unpack_all(&words.as_slice()[passed * T::WIDTH..], kept, values);
+        let width = T::WIDTH;
+        unpack_all(&words.as_slice()[passed * width..], kept, values);
         (kept, length)
     }
 

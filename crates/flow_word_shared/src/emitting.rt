@@ -23,14 +23,15 @@ use std::thread;
 impl<T: Words> WordFlow<T> {
     /// Stores the words of a value into the free cells, for a caller that holds the lock bit.
     #[inline(always)]
-    fn fill(&self, seat: &mut Seat<(), Sequence<RingKnown<T>>>, length: u64, words: &[u64])
+    fn fill(&self, seat: &mut Seat<(), Sequence<RingKnown<T>>>, position: u64, words: &[u64])
         requires flow { (ring_token seat.old).table_id ≡ self.now.table_id }
         requires width { length words.now ≡ T.WIDTH }
-        requires holds { IsFilling seat.old length }
+        requires holds { IsFilling seat.old position }
         ensures flow { seat.new.table_id ≡ seat.old.table_id }
         ensures filled { Fills seat.old.me words.now seat.new.me }
     {
-        let first = HEAD + (length & self.mask) as usize * T::WIDTH;
+        let width = T::WIDTH;
+        let first = HEAD + (position & self.mask) as usize * width;
         for place in 0..words.len() {
             self.table.shared.store::<Fill>(seat, first + place, words[place]);
         }

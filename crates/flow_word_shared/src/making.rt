@@ -78,13 +78,13 @@ impl<T: Words> WordFlow<T> {
             (λ fault. fault ≡ Flow OutOfMemory) }
     {
         let room = (capacity + 1).next_power_of_two();
-        let width = T::WIDTH as u64;
+        let width = T::WIDTH;
         let start = RingStart {
             config,
             room,
-            width,
+            width: width as u64,
         };
-        let Ok(words) = vec![in alloc; 0; HEAD + room as usize * T::WIDTH] else {
+        let Ok(words) = vec![in alloc; 0; HEAD + room as usize * width] else {
             return Err(WordFlowFault::Flow(FlowFault::OutOfMemory));
         };
         match Table::of_words(alloc, words.as_slice(), &start) {

@@ -85,13 +85,15 @@ impl<T: Words> WordFlow<T> {
             × SeesMore 0 (ring_token seat.old).knows (ring_token seat.new).knows }
     {
         let shared = &self.table.shared;
-        let first = HEAD + ((position + ahead as u64) & self.mask) as usize * T::WIDTH;
-        for place in 0..T::WIDTH - 1 {
+        let width = T::WIDTH;
+        let first = HEAD + ((position + ahead as u64) & self.mask) as usize * width;
+        let last = width - 1;
+        for place in 0..last {
             let word = shared.load::<ReadPart>(seat, first + place);
             words.push(word);
         }
-        let last = shared.load::<ReadCell>(seat, first + T::WIDTH - 1);
-        words.push(last);
+        let end = shared.load::<ReadCell>(seat, first + last);
+        words.push(end);
     }
 
     /// Loads the cells of the position, and then word 0. Returns the words in these cells and the number of emitted values.
@@ -183,8 +185,9 @@ impl<T: Words> WordFlow<T> {
         if passed >= count as u64 {
             return Err(length);
         }
-        let from = passed as usize * T::WIDTH;
-        let value = T::of_words(&words.as_slice()[from..from + T::WIDTH]);
+        let width = T::WIDTH;
+        let from = passed as usize * width;
+        let value = T::of_words(&words.as_slice()[from..from + width]);
         Ok((value, length))
     }
 }

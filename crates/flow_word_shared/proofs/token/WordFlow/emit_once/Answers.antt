@@ -1,9 +1,11 @@
-use Rattle.std.proofs.Common.{rules, ◌≡◌, ℕ, ◌+◌, ◌/◌, List, [], ◌∷◌, Some, refl, sym, ap, subst, ◌∙◌, arith}
+use Rattle.std.proofs.Common.{rules, ◌≡◌, ℕ, ◌+◌, ◌/◌, List, [], ◌∷◌, Some, None, refl, sym, ap, subst, ◌∙◌, arith}
 use Rattle.flow_law.specs.declared.call.SharedCall.{SharedCall}
 use Rattle.flow_law.specs.declared.call.SharedReply.{SharedReply}
 use Rattle.flow_law.specs.declared.states.SharedFlowState.{SharedFlowState}
 use Rattle.flow_law.specs.history.History.{IsHistory}
-use Rattle.flow_law.specs.history.Promise.{AddsOne}
+use Rattle.flow_law.specs.history.Promise.{AddsOne, CallsAtOnceIn}
+use Rattle.flow_law.specs.declared.call.SharedReply.TheVariants as reply
+use Rattle.flow_law.specs.declared.fault.FlowFault.TheVariants.{Exhausted}
 use Rattle.flow_law.specs.flow.SharedHistory.{shared_flow}
 use Rattle.flow_law.specs.history.Tokens.{token}
 use Rattle.flow_word_shared.specs.Tokens.{word_flow_id, ring_token}
@@ -97,4 +99,25 @@ returns-clause-emitted g c =
         adds_at (first_is g d) (ap (λ z. z.knows) before) published.0.0,
       ),
       published.0.3 ∙ ap (λ z. z.knows.lost) before,
+    )
+
+-- the seat has seen the refusal, and then gives up the lock bit
+pub invariant_of-seat-then-made-length : goal.invariant_of-seat-then-made-length
+invariant_of-seat-then-made-length g c =
+    let d = (goal.at.invariant_of-seat-then-made-length g c).After-fill in let n = c.seat.inside.expected / 2 in let made = c.load-made.result in
+    let refused = c.load.ensures.2 (holds n made c.args.words.now) (ap (λ m. (only m.0).hold) (filled_is g d)) in
+    let slots : c.load.new.seat.me.1 ≡ [] = ap (λ m. m.1) refused.0.2 ∙ slots_are g d in
+    (subst (λ (m : MeOf g.row.T.Denot). (m ≡ (only m.0 ∷ [], [])) × ((only m.0).hold ≡ None)) (sym (c.store.ensures.2 ∙ (λ i. (with_hold None (only c.load.new.seat.me.0) ∷ [], slots i)))) (refl, refl), c.seat.invariant.1)
+
+pub returns-then-made-length-clause-refused : goal.returns-then-made-length-clause-refused
+returns-then-made-length-clause-refused g c =
+    let d = (goal.at.returns-then-made-length-clause-refused g c).After-fill in let n = c.seat.inside.expected / 2 in let made = c.load-made.result in let before = before_is g d in
+    let refused = c.load.ensures.2 (holds n made c.args.words.now) (ap (λ m. (only m.0).hold) (filled_is g d)) in let released = c.store.ensures.2 in
+    let after : ring_token c.store.new.seat ≡ ring_token c.load.new.seat = λ i. token (word_flow_id (c.store.ensures.0 i) (only (released i).0).start) (only (released i).0).knows in
+    λ _. subst (λ t. CallsAtOnceIn shared_flow c.args.self.now.first c.args.seat.now _ (reply.Refused Exhausted) t) (sym after) (
+      (
+        (λ i. word_flow_id (c.load.ensures.0 i) (refused.0.1 i)) ∙ ap (λ z. z.table_id) before,
+        adds_at (first_is g d) (ap (λ z. z.knows) before) refused.0.0,
+      ),
+      refused.0.3 ∙ ap (λ z. z.knows.lost) before,
     )

@@ -18,7 +18,7 @@ use Rattle.flow_word_shared.proofs.token.WordFlow.read.Goals as goal
 use Rattle.flow_word_shared.proofs.token.WordFlow.read.Goals.{After-read_value, After-load-found}
 
 -- the words that were found
-words : (g : _) (c : After-read_value g) → List ℕ
+abbrev words : (g : _) (c : After-read_value g) → List ℕ
 words g c = take g.T.Words.WIDTH c.read_value.new.words.items
 
 words_are : (g : _) (c : After-read_value g) → words g c ≡ c.read_value.new.words.items
@@ -28,8 +28,8 @@ words_are g c = take_all g.T.Words.WIDTH c.read_value.new.words.items (omega (ar
 start_is : (g : _) (c : After-read_value g) → (only c.read_value.new.seat.me.0).start ≡ c.args.self.now.table_id.start
 start_is g c = ap (λ z. z.start) (c.read_value.ensures.sees.0 ∙ c.requires.flow)
 
-first_flow : (g : _) (c : After-read_value g) → began_as (only c.read_value.new.seat.me.0).start ≡ c.args.self.now.first
-first_flow g c = ap began_as (start_is g c) ∙ (ap (λ z. began_as z.table_id.start) (sym c.self.view_is) ∙ ap (λ z. z.first) c.self.view_is)
+first_flow : (g : _) (c : After-load-found g) → began_as (only c.read_value.new.seat.me.0).start ≡ c.args.self.now.first
+first_flow g c = ap (λ z. began_as z.start) (c.read_value.ensures.sees.0 ∙ c.requires.flow) ∙ (ap (λ z. began_as z.table_id.start) (sym c.self.view_is) ∙ ap (λ z. z.first) c.self.view_is)
 
 pub load-found-requires : goal.load-found-requires
 load-found-requires g c =
@@ -54,7 +54,7 @@ returns-clause-fresh g c = λ kept.
     let none : n - capacity_of (only s.me.0).start - p ≡ 0 = omega (arith, kept, room) in
     let one : take 1 (still_kept (capacity_of (only s.me.0).start) n p (w ∷ [])) ≡ w ∷ [] = ap (λ k. take 1 (drop k (w ∷ []))) none in
     let r = subst (λ l. Receives packs value_of c.args.number p n l s.me t.me) one (received g d) in
-    let called = receives_one packs value_of c.args.number p n s t c.args.self.now.first w c.load-found.ensures.0 (first_flow g e) r in
+    let called = receives_one packs value_of c.args.number p n s t c.args.self.now.first w c.load-found.ensures.0 (first_flow g d) r in
     let is = c.read_value.ensures.reading.0.0 in (
       subst packs (words_are g e) called.0,
       subst (λ (ws : List ℕ). CallsAtOnceIn shared_flow c.args.self.now.first (ring_token c.args.seat.now) (call.TakeNext c.args.number) (reply.Received (Value (value_of ws))) (ring_token t)) (words_are g e)

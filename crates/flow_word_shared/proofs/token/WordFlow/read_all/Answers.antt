@@ -89,5 +89,3 @@ returns-clause-within g c = λ some.
     ] in
     omega (arith, cap, less, c.saturating_sub.ensures, c.saturating_sub-passed.ensures, c.min-passed.ensures)
 
-pub unpack_all-requires-clause-count : goal.unpack_all-requires-clause-count
-unpack_all-requires-clause-count g c = ?

@@ -3,21 +3,16 @@ use Rattle.flow_word_shared.proofs.Cells.{before}
 use Rattle.flow_word_shared.proofs.Told.{saw_saw}
 use Rattle.flow_word_shared.proofs.token.WordFlow.read_cells.Goals as goal
 
-pub read_value-requires-clause-flow : goal.read_value-requires-clause-flow
-read_value-requires-clause-flow g c = c.loop-i.invariant.sees.0 ∙ c.requires.flow
-
-pub read_value-requires-clause-count : goal.read_value-requires-clause-count
-read_value-requires-clause-count g c = c.loop-i.invariant.count
-
-pub read_value-requires-clause-room : goal.read_value-requires-clause-room
-read_value-requires-clause-room g c =
-    let far = before g.T.Words.WIDTH c.loop-i.i c.args.count c.loop-i-test.true in let count = c.loop-i.invariant.count in let fits = c.requires.fits in omega (arith, far, count, fits)
-
-pub read_value-requires-clause-reading : goal.read_value-requires-clause-reading
-read_value-requires-clause-reading g c = c.loop-i.invariant.reading
-
-pub read_value-requires-clause-found : goal.read_value-requires-clause-found
-read_value-requires-clause-found g c = c.loop-i.invariant.found
+pub read_value-requires : goal.read_value-requires
+read_value-requires g c =
+    let inv = c.loop-i.invariant in let less = c.loop-i-test.true in let far = before g.T.Words.WIDTH c.loop-i.i c.args.count less in let count = inv.count in let fits = c.requires.fits in let there = c.requires.there in (
+      inv.sees.0 ∙ c.requires.flow,
+      inv.count,
+      omega (arith, far, count, fits),
+      inv.reading,
+      (omega (arith, there, less), fits.0),
+      inv.found,
+    )
 
 pub loop-i-preserved : goal.loop-i-preserved
 loop-i-preserved g c = let e = c.read_value.ensures in record {

@@ -22,3 +22,6 @@ returns-clause-taken g c =
       λ some. subst (λ (n : WordFlowNumbered g.row.T.Denot). NextsTaken (WordFlowNexts c.args.self.now.first) count n c.args.values.now.items c.read_all-taken.new.values.items (numbered_token (ring_token c.read_all-taken.new.seat) c.subscription.inside.number)) c.subscription.view_is
           (let saw = c.look.ensures.more (omega (arith, more)) in tried_takes c.args.self.now.first count _ _ _ _ _ (saw.0, (0, saw.1)) refl some (c.read_all-taken.ensures.taken some)),
     )
+
+pub read_all-taken-requires-clause-fits : goal.read_all-taken-requires-clause-fits
+read_all-taken-requires-clause-fits g c = ?
