@@ -90,10 +90,10 @@ impl<T: Words> WordFlow<T> {
 
     /// Returns the next value, or `Empty` if the subscriber has received all values.
     ///
-    /// A subscriber that is more than a buffer behind misses the oldest values. It waits for no other caller: it loads a
-    /// cell of the buffer and then the number of emitted values, and tries again if the value has left the buffer in
-    /// between. Each try reads twice as many cells as the one before, up to 64 or the whole buffer if that is less, and
-    /// fails only if at least as many values were emitted meanwhile.
+    /// A subscriber that is more than a buffer behind misses the oldest values. It waits for no other caller: it loads the
+    /// words of the value and then the number of emitted values, and tries again if the value has left the buffer in
+    /// between. Each try reads twice as many values as the one before, up to 64 words or the whole buffer if that is less,
+    /// and fails only if at least as many values were emitted meanwhile.
     ///
     /// # Source
     /// `SharedFlow.collect`: the next value that it emits.
