@@ -197,3 +197,7 @@ in_order a b width less = elim (cases_lt a b) as (λ _. a * width ≤ b * width)
 -- values whose words are at most 64 in all
 pub fit_ahead : (count width : ℕ) → count ≤ 64 / width → count * width ≤ 64
 fit_ahead count width less = let all = div-add-mod 64 width in let order = in_order count (64 / width) width less in let turned : width * (64 / width) ≡ 64 / width * width = omega arith in omega (arith, all, order, turned)
+
+-- the words of one of several values
+pub part_is : (i wide width : ℕ) (ws : List ℕ) → wide ≡ width → take width (drop (i * width) ws) ≡ take (i * wide + wide - i * wide) (drop (i * wide) ws)
+part_is i wide width ws is = let n : width ≡ i * wide + wide - i * wide = omega (arith, is) in λ j. take (n j) (drop (i * sym is j) ws)

@@ -1,5 +1,5 @@
 //! Emitting.
-ghost use Rattle.std.specs.Prelude.{◌≡◌, length, IfErr, Ok, true, false};
+ghost use Rattle.std.specs.Prelude.{◌≡◌, take, length, IfErr, Ok, true, false};
 ghost use Rattle.flow_law.specs.declared.fault.FlowFault.TheVariants.{Exhausted};
 ghost use Rattle.flow_law.specs.declared.call.SharedCall.TheVariants as call;
 ghost use Rattle.flow_law.specs.declared.call.SharedReply.TheVariants as reply;
@@ -19,6 +19,15 @@ use atomic_table::Seat;
 use flow_law::{FlowFault, Refused, Sequence, Words};
 use std::sync::Wait;
 use std::thread;
+
+/// Returns the words of a value, without those that mean nothing.
+#[inline(always)]
+fn kept<T: Words>(words: &[u64; 4]) -> &[u64]
+    ensures kept { result.now ≡ take T.WIDTH words.now }
+    ensures width { length result.now ≡ T.WIDTH }
+{
+    &words[..T::WIDTH]
+}
 
 impl<T: Words> WordFlow<T> {
     /// Stores the words of a value into the free cells, for a caller that holds the lock bit.
@@ -127,8 +136,8 @@ impl<T: Words> WordFlow<T> {
         ensures refused { IfErr result (λ refused. refused.fault ≡ Exhausted) }
         ensures handed_back { IfErr result (λ refused. refused.value ≡ value) }
     {
-        let words = value.words();
-        let words = &words[..T::WIDTH];
+        let all = value.words();
+        let words = kept::<T>(&all);
         if self.emission::<R, false>(rt, seat, words) {
             return Ok(());
         }
@@ -157,8 +166,8 @@ impl<T: Words> WordFlow<T> {
         ensures refused { IfErr result (λ refused. refused.fault ≡ Exhausted) }
         ensures handed_back { IfErr result (λ refused. refused.value ≡ value) }
     {
-        let words = value.words();
-        let words = &words[..T::WIDTH];
+        let all = value.words();
+        let words = kept::<T>(&all);
         if self.emission::<R, true>(rt, seat, words) {
             return Ok(true);
         }
@@ -175,8 +184,8 @@ impl<T: Words> WordFlow<T> {
         ensures handed_back { IfErr result (λ refused. refused.value ≡ value) }
     {
         self.look_up(seat);
-        let words = value.words();
-        let words = &words[..T::WIDTH];
+        let all = value.words();
+        let words = kept::<T>(&all);
         let fault = match self.emit_once::<false>(seat, words) {
             Ok(true) => return Ok(()),
             Ok(false) => FlowFault::Exhausted,

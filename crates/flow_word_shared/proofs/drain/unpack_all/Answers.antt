@@ -1,14 +1,10 @@
-use Rattle.std.proofs.Common.{◌≡◌, ◌+◌, ◌-◌, ◌*◌, ◌++◌, List, Some, map, length, sym, ap, subst, ◌∙◌, arith}
-use Rattle.std.specs.Prelude.{ℕ, take, drop}
+use Rattle.std.proofs.Common.{◌≡◌, ◌+◌, ◌++◌, Some, map, length, sym, ap, subst, ◌∙◌, arith}
+use Rattle.std.specs.Prelude.{take}
 use Rattle.std.proofs.lemmas.List.{take_all, length-map}
 use Rattle.flow_word_shared.specs.Steps.{values_of}
-use Rattle.flow_word_shared.proofs.Cells.{value_is, each_is, length_values_of}
+use Rattle.flow_word_shared.proofs.Cells.{value_is, each_is, part_is, length_values_of}
 use Rattle.flow_word_shared.proofs.LastState.{taken_more}
 use Rattle.flow_word_shared.proofs.drain.unpack_all.Goals as goal
-
--- the words in a part of the list
-part_is : (i wide width : ℕ) (ws : List ℕ) → wide ≡ width → take width (drop (i * width) ws) ≡ take (i * wide + wide - i * wide) (drop (i * wide) ws)
-part_is i wide width ws is = let n : width ≡ i * wide + wide - i * wide = omega (arith, is) in λ j. take (n j) (drop (i * sym is j) ws)
 
 pub of_words-requires : goal.of_words-requires
 of_words-requires g c =

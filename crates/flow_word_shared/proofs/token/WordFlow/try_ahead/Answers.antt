@@ -1,4 +1,4 @@
-use Rattle.std.proofs.Common.{sym, subst, arith}
+use Rattle.std.proofs.Common.{◌*◌, sym, ap, subst, arith}
 use Rattle.flow_law.specs.declared.call.SharedCall.TheVariants as call
 use Rattle.flow_law.specs.declared.call.SharedReply.TheVariants as reply
 use Rattle.flow_law.specs.declared.outcome.Next.TheVariants.{Value}
@@ -6,6 +6,7 @@ use Rattle.flow_law.specs.flow.SharedHistory.{shared_flow}
 use Rattle.flow_law.specs.history.Promise.{CallsAtOnceIn}
 use Rattle.flow_word_shared.specs.Answers.{IsOverrun}
 use Rattle.flow_word_shared.specs.Tokens.{WordFlowNumbered, ring_token}
+use Rattle.flow_word_shared.proofs.Cells.{fit_ahead}
 use Rattle.flow_word_shared.proofs.Told.{saw_then, saw_overrun}
 use Rattle.flow_word_shared.proofs.token.WordFlow.try_ahead.Goals as goal
 
@@ -20,3 +21,8 @@ returns-in-Err-clause-late g c = λ _.
     let more = c.if-seen-position.false in
     subst (λ (n : WordFlowNumbered g.row.T.Denot). IsOverrun n.token (ring_token c.read_ahead.new.seat)) c.subscription.view_is
     (saw_overrun _ _ _ (c.look.ensures.more (omega (arith, more))) c.in-Err.ensures.late.0)
+
+pub read_ahead-requires-clause-fits : goal.read_ahead-requires-clause-fits
+read_ahead-requires-clause-fits g c =
+    let fit = fit_ahead c.min-count.result c.WIDTH.result (omega (arith, c.min-count.ensures, c.min.ensures)) in let same = ap (λ w. c.min-count.result * w) (sym c.WIDTH.ensures) in
+    (c.look.ensures.small, omega (arith, fit, same))
