@@ -4,11 +4,9 @@ use Rattle.flow_law.specs.declared.call.SharedReply.{SharedReply}
 use Rattle.flow_law.specs.declared.states.SharedFlowState.{SharedFlowState}
 use Rattle.flow_law.specs.history.History.{IsHistory}
 use Rattle.flow_law.specs.history.Promise.{AddsOne, CallsAtOnceIn}
-use Rattle.flow_law.specs.declared.call.SharedReply.TheVariants as reply
-use Rattle.flow_law.specs.declared.fault.FlowFault.TheVariants.{Exhausted}
 use Rattle.flow_law.specs.flow.SharedHistory.{shared_flow}
 use Rattle.flow_law.specs.history.Tokens.{token}
-use Rattle.flow_word_shared.specs.Tokens.{word_flow_id, ring_token}
+use Rattle.flow_word_shared.specs.Tokens.{WordFlowToken, word_flow_id, ring_token}
 use Rattle.flow_word_shared.specs.declared.view.Hold.{Hold}
 use Rattle.flow_word_shared.specs.Steps.{MeOf}
 use Rattle.flow_word_shared.specs.View.{SharedKnowledge, began_as, only, holding, with_hold}
@@ -20,6 +18,10 @@ use Rattle.flow_word_shared.proofs.token.WordFlow.emit_once.Goals.{After-compare
 adds_at : {T : Type 0} {first first' : SharedFlowState T} {k k' after : SharedKnowledge T} {c : SharedCall T} {r : SharedReply T} → first ≡ first' → k ≡ k' → AddsOne (IsHistory shared_flow first) k c r after
     → AddsOne (IsHistory shared_flow first') k' c r after
 adds_at {T = T} {after = after} {c = c} {r = r} f e a = subst (λ (z : SharedFlowState T × SharedKnowledge T). AddsOne (IsHistory shared_flow z.0) z.1 c r after) (λ i. (f i, e i)) a
+
+-- the same call, of a token that is the same
+called_until : {T : Type 0} {first : SharedFlowState T} {a t u : WordFlowToken T} {c : SharedCall T} {r : SharedReply T} → t ≡ u → CallsAtOnceIn shared_flow first a c r t → CallsAtOnceIn shared_flow first a c r u
+called_until {first = first} {a = a} {c = c} {r = r} e called = subst (λ t. CallsAtOnceIn shared_flow first a c r t) e called
 
 pub compare_exchange-found-requires : goal.compare_exchange-found-requires
 compare_exchange-found-requires g c =
@@ -114,7 +116,7 @@ returns-then-made-length-clause-refused g c =
     let d = (goal.at.returns-then-made-length-clause-refused g c).After-fill in let n = c.seat.inside.expected / 2 in let made = c.load-made.result in let before = before_is g d in
     let refused = c.load.ensures.2 (holds n made c.args.words.now) (ap (λ m. (only m.0).hold) (filled_is g d)) in let released = c.store.ensures.2 in
     let after : ring_token c.store.new.seat ≡ ring_token c.load.new.seat = λ i. token (word_flow_id (c.store.ensures.0 i) (only (released i).0).start) (only (released i).0).knows in
-    λ _. subst (λ t. CallsAtOnceIn shared_flow c.args.self.now.first c.args.seat.now _ (reply.Refused Exhausted) t) (sym after) (
+    λ _. called_until (sym after) (
       (
         (λ i. word_flow_id (c.load.ensures.0 i) (refused.0.1 i)) ∙ ap (λ z. z.table_id) before,
         adds_at (first_is g d) (ap (λ z. z.knows) before) refused.0.0,

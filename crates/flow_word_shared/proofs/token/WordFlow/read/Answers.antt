@@ -17,16 +17,6 @@ use Rattle.flow_word_shared.proofs.Told.{saw_then, saw_overrun, receives_one, re
 use Rattle.flow_word_shared.proofs.token.WordFlow.read.Goals as goal
 use Rattle.flow_word_shared.proofs.token.WordFlow.read.Goals.{After-read_value, After-load-found}
 
-pub read_value-requires : goal.read_value-requires
-read_value-requires g c = let none = c.new-words.ensures in let most = g.met.T.Words.width_fits.1 in let there = c.requires.there in (
-  c.requires.flow,
-  ap length none ∙ (let z : 0 ≡ 0 * g.T.Words.WIDTH = omega arith in z),
-  omega (arith, ap length none, most),
-  c.requires.reading,
-  (omega (arith, there), there.1),
-  tt,
-)
-
 -- the words that were found
 abbrev words : (g : _) (c : After-read_value g) → List ℕ
 words g c = take g.T.Words.WIDTH c.read_value.new.words.items
