@@ -201,3 +201,10 @@ fit_ahead count width less = let all = div-add-mod 64 width in let order = in_or
 -- the words of one of several values
 pub part_is : (i wide width : ℕ) (ws : List ℕ) → wide ≡ width → take width (drop (i * width) ws) ≡ take (i * wide + wide - i * wide) (drop (i * wide) ws)
 part_is i wide width ws is = let n : width ≡ i * wide + wide - i * wide = omega (arith, is) in λ j. take (n j) (drop (i * sym is j) ws)
+
+spread : (d p width : ℕ) → (d + p) * width ≡ d * width + p * width
+spread d p width = omega arith
+
+-- the words of some values, and of those that are left
+pub left_of : (count passed width : ℕ) → passed ≤ count → (count - passed) * width + passed * width ≡ count * width
+left_of count passed width less = sym (spread (count - passed) passed width) ∙ ap (λ k. k * width) (let e : count - passed + passed ≡ count = omega (arith, less) in e)

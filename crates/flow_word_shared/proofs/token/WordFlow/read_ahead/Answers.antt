@@ -25,7 +25,7 @@ first_flow : (g : _) (c : After-load-length g) → began_as (only c.read_cells-w
 first_flow g c = ap (λ z. began_as z.start) (c.read_cells-words.ensures.sees.0 ∙ c.requires.flow) ∙ (ap (λ z. began_as z.table_id.start) (sym c.self.view_is) ∙ ap (λ z. z.first) c.self.view_is)
 
 -- the words of each value that was found
-found_values : (g : _) (c : After-read_cells-words g) → List (List ℕ)
+abbrev found_values : (g : _) (c : After-read_cells-words g) → List (List ℕ)
 found_values g c = values_of g.T.Words.WIDTH c.args.count c.read_cells-words.result.items
 
 found_words : (g : _) (c : After-read_cells-words g) →

@@ -1,4 +1,4 @@
-use Rattle.std.proofs.Common.{◌≡◌, ℕ, ◌+◌, ◌-◌, ◌*◌, ◌/◌, ◌<◌, inl, inr, List, [], ◌∷◌, ◌++◌, drop, length, map, sym, ap, subst, ◌∙◌, append-nil, arith}
+use Rattle.std.proofs.Common.{◌≡◌, ℕ, ◌+◌, ◌-◌, ◌*◌, ◌/◌, ◌<◌, ◌≤◌, inl, inr, List, [], ◌∷◌, ◌++◌, drop, length, map, sym, ap, subst, ◌∙◌, append-nil, arith}
 use Rattle.std.specs.Prelude.{max, min, take}
 use Rattle.std.proofs.lemmas.List.{length-map, length-drop, take_rest}
 use Rattle.std.proofs.lemmas.Bool.{cases_lt}
@@ -7,7 +7,7 @@ use Rattle.flow_word_shared.specs.Rule.{capacity_of}
 use Rattle.flow_word_shared.specs.Steps.{AreFound, Receives, still_kept, log_after, values_of}
 use Rattle.flow_word_shared.specs.Tokens.{IsReading}
 use Rattle.flow_word_shared.specs.View.{began_as, only, reading}
-use Rattle.flow_word_shared.proofs.Cells.{values_drop, length_values_of}
+use Rattle.flow_word_shared.proofs.Cells.{values_drop, left_of, length_values_of}
 use Rattle.flow_word_shared.proofs.ConfirmSteps.{confirming}
 use Rattle.flow_word_shared.proofs.Finding.{all_is, min_kept}
 use Rattle.flow_word_shared.proofs.Told.{all_given, none_given, reads_on}
@@ -28,23 +28,23 @@ load-length-requires g c =
     )
 
 -- the words of the values that the buffer still has
-abbrev kept : (width count passed : ℕ) → List ℕ → List (List ℕ)
-kept width count passed words = values_of width (count - passed) (take (length words - passed * width) (drop (passed * width) words))
+abbrev kept : (width wide count passed : ℕ) → List ℕ → List (List ℕ)
+kept width wide count passed words = values_of width (count - passed) (take (length words - passed * wide) (drop (passed * wide) words))
 
-kept_is : (width count passed : ℕ) (words : List ℕ) → passed ≤ count → drop passed (values_of width count words) ≡ kept width count passed words
-kept_is width count passed words less = values_drop width count passed words less ∙ ap (values_of width (count - passed)) (sym (take_rest words (passed * width)))
+kept_is : (width wide count passed : ℕ) (words : List ℕ) → wide ≡ width → passed ≤ count → drop passed (values_of width count words) ≡ kept width wide count passed words
+kept_is width wide count passed words is less = values_drop width count passed words less ∙ (λ i. values_of width (count - passed) (drop (passed * sym is i) words)) ∙ ap (values_of width (count - passed)) (sym (take_rest words (passed * wide)))
 
 -- what the load of word 0 told of them
 received : (g : _) (c : After-as_slice g) →
-    Receives g.T.Words.are_words g.T.Words.value_in c.args.number c.args.position (c.load-length.result / 2) (kept g.T.Words.WIDTH c.args.count c.min-passed.result c.as_slice.result.now) c.read_cells-words.new.seat.me c.load-length.new.seat.me
+    Receives g.T.Words.are_words g.T.Words.value_in c.args.number c.args.position (c.load-length.result / 2) (kept g.T.Words.WIDTH c.WIDTH-width.result c.args.count c.min-passed.result c.as_slice.result.now) c.read_cells-words.new.seat.me c.load-length.new.seat.me
 received g c =
     let cells = c.read_cells-words in let n = c.load-length.result / 2 in let d = (goal.at.After-as_slice g c).After-read_cells-words in let width = g.T.Words.WIDTH in let values = values_of width c.args.count cells.result.items in
     let count = length_values_of width c.args.count cells.result.items in
     let cap : capacity_of (only cells.new.seat.me.0).start ≡ c.self.inside.capacity = ap capacity_of (start_is g d) ∙ (ap (λ z. capacity_of z.table_id.start) (sym c.self.view_is) ∙ c.self.invariant.3) in
     let passed : c.min-passed.result ≡ min (n - capacity_of (only cells.new.seat.me.0).start - c.args.position) (length values) = omega (arith, cap, c.saturating_sub.ensures, c.saturating_sub-passed.ensures, c.min-passed.ensures, count) in
-    let is : still_kept (capacity_of (only cells.new.seat.me.0).start) n c.args.position values ≡ kept width c.args.count c.min-passed.result c.as_slice.result.now =
+    let is : still_kept (capacity_of (only cells.new.seat.me.0).start) n c.args.position values ≡ kept width c.WIDTH-width.result c.args.count c.min-passed.result c.as_slice.result.now =
     sym (min_kept values (n - capacity_of (only cells.new.seat.me.0).start - c.args.position) c.min-passed.result passed)
-    ∙ (kept_is width c.args.count c.min-passed.result cells.result.items (omega (arith, c.min-passed.ensures)) ∙ ap (kept width c.args.count c.min-passed.result) (sym c.as_slice.ensures.value)) in
+    ∙ (kept_is width c.WIDTH-width.result c.args.count c.min-passed.result cells.result.items c.WIDTH-width.ensures (omega (arith, c.min-passed.ensures)) ∙ ap (kept width c.WIDTH-width.result c.args.count c.min-passed.result) (sym c.as_slice.ensures.value)) in
     subst (λ l. Receives g.T.Words.are_words g.T.Words.value_in c.args.number c.args.position n l cells.new.seat.me c.load-length.new.seat.me) is
     (c.load-length.ensures.2 (reading c.args.number c.args.position values) cells.ensures.reading.1)
 
@@ -53,12 +53,12 @@ unpack_all-requires-clause-packed g c = (received g (goal.at.unpack_all-requires
 
 pub returns-clause-taken : goal.returns-clause-taken
 returns-clause-taken g c = λ some.
-    let r = received g (goal.at.returns-clause-taken g c).After-as_slice in let cells = c.read_cells-words in let ws = kept g.T.Words.WIDTH c.args.count c.min-passed.result c.as_slice.result.now in
+    let r = received g (goal.at.returns-clause-taken g c).After-as_slice in let cells = c.read_cells-words in let ws = kept g.T.Words.WIDTH c.WIDTH-width.result c.args.count c.min-passed.result c.as_slice.result.now in
     let began : began_as (only cells.new.seat.me.0).start ≡ c.args.self.now.first = ap (λ z. began_as z.start) (cells.ensures.sees.0 ∙ c.requires.flow) ∙ (ap (λ z. began_as z.table_id.start) (sym c.self.view_is) ∙ ap (λ z. z.first) c.self.view_is) in record {
       values = map g.T.Words.value_in ws;
       taken = all_given g.T.Words.are_words g.T.Words.value_in c.args.self.now.first c.args.number c.args.position (c.load-length.result / 2) c.args.seat.now cells.new.seat c.load-length.new.seat cells.ensures.sees c.load-length.ensures.0 began ws some r;
       appended = c.unpack_all.ensures.items;
-      counted = length-map ws g.T.Words.value_in ∙ length_values_of g.T.Words.WIDTH (c.args.count - c.min-passed.result) (take (length c.as_slice.result.now - c.min-passed.result * g.T.Words.WIDTH) (drop (c.min-passed.result * g.T.Words.WIDTH) c.as_slice.result.now));
+      counted = length-map ws g.T.Words.value_in ∙ length_values_of g.T.Words.WIDTH (c.args.count - c.min-passed.result) (take (length c.as_slice.result.now - c.min-passed.result * c.WIDTH-width.result) (drop (c.min-passed.result * c.WIDTH-width.result) c.as_slice.result.now));
     }
 
 -- a list of no words has no values
@@ -68,14 +68,14 @@ no_values f (w ∷ ws) list longer none is = absurd (omega (arith, none))
 
 pub returns-clause-late : goal.returns-clause-late
 returns-clause-late g c = λ none.
-    let r = received g (goal.at.returns-clause-late g c).After-as_slice in let cells = c.read_cells-words in let ws = kept g.T.Words.WIDTH c.args.count c.min-passed.result c.as_slice.result.now in (
+    let r = received g (goal.at.returns-clause-late g c).After-as_slice in let cells = c.read_cells-words in let ws = kept g.T.Words.WIDTH c.WIDTH-width.result c.args.count c.min-passed.result c.as_slice.result.now in (
       no_values g.T.Words.value_in ws c.args.values.now.items c.unpack_all.new.values.items none c.unpack_all.ensures.items,
       none_given g.T.Words.are_words g.T.Words.value_in c.args.self.now.first c.args.number c.args.position (c.load-length.result / 2) c.args.seat.now cells.new.seat c.load-length.new.seat cells.ensures.sees c.load-length.ensures.0 ws none r,
     )
 
 pub returns-clause-reading : goal.returns-clause-reading
 returns-clause-reading g c =
-    let r = received g (goal.at.returns-clause-reading g c).After-as_slice in let cells = c.read_cells-words in let n = c.load-length.result / 2 in let ws = kept g.T.Words.WIDTH c.args.count c.min-passed.result c.as_slice.result.now in
+    let r = received g (goal.at.returns-clause-reading g c).After-as_slice in let cells = c.read_cells-words in let n = c.load-length.result / 2 in let ws = kept g.T.Words.WIDTH c.WIDTH-width.result c.args.count c.min-passed.result c.as_slice.result.now in
     subst (λ k. IsReading c.load-length.new.seat c.args.number (max c.args.position (n - k) + length ws) [] n) (ap capacity_of (start_is g (goal.at.returns-clause-reading g c).After-read_cells-words))
     (reads_on g.T.Words.are_words g.T.Words.value_in c.args.number c.args.position n cells.new.seat c.load-length.new.seat ws cells.ensures.reading.0.0 r)
 
@@ -89,3 +89,10 @@ returns-clause-within g c = λ some.
     ] in
     omega (arith, cap, less, c.saturating_sub.ensures, c.saturating_sub-passed.ensures, c.min-passed.ensures)
 
+pub unpack_all-requires-clause-count : goal.unpack_all-requires-clause-count
+unpack_all-requires-clause-count g c =
+    let now = c.as_slice.result.now in let passed = c.min-passed.result in let width = g.T.Words.WIDTH in let k = passed * c.WIDTH-width.result in
+    let all : length now ≡ c.args.count * width = ap length c.as_slice.ensures.value ∙ c.read_cells-words.ensures.count in
+    let wide : k ≡ passed * width = ap (λ w. passed * w) c.WIDTH-width.ensures in
+    let total = left_of c.args.count passed width (omega (arith, c.min-passed.ensures)) in
+    ap length (take_rest now k) ∙ length-drop k now ∙ (let l : length now - k ≡ (c.args.count - passed) * width = omega (arith, all, wide, total) in l)
