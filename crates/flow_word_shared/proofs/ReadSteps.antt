@@ -222,7 +222,7 @@ module _ (T : Type 0) (packs : List ℕ → Type 0) (value_of : List ℕ → T) 
       part_now kept =
           let room = ap capacity_of (started T packs value_of start s r id v is at) in
           let before : IsBegun packs value_of (values st) q x.part = λ w has.
-              begun (omega (arith, kept, longer, room)) w (has.0, sym (slice_get_left (log_after (only v).start (only v).knows.seen) grown.0 q there) ∙ ap (λ l. slice_get l q) (sym grown.1) ∙ has.1) in
+          begun (omega (arith, kept, longer, room)) w (has.0, sym (slice_get_left (log_after (only v).start (only v).knows.seen) grown.0 q there) ∙ ap (λ l. slice_get l q) (sym grown.1) ∙ has.1) in
           subst (λ j. IsBegun packs value_of (values st) q (x.part ++ get_or s.words j 0 ∷ [])) (sym place) (begun_more packs value_of (values st) q start.width s.words (cell_at start q) once (here kept) x.part less before)
 
   -- a load of a cell of the position after those whose cells it has read, which is not its last one

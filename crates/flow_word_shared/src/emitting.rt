@@ -42,7 +42,9 @@ impl<T: Words> WordFlow<T> {
         let width = T::WIDTH;
         let first = HEAD + (position & self.mask) as usize * width;
         for place in 0..words.len() {
-            self.table.shared.store::<Fill>(seat, first + place, words[place]);
+            self.table
+                .shared
+                .store::<Fill>(seat, first + place, words[place]);
         }
     }
 

@@ -185,11 +185,26 @@ fn calls<T: Numbered, R: Wait + Abort>(rt: &R, alloc: Global, row: &str) {
         compare(rt, row, emitter.emit(rt, T::of_number(number)), Ok(()));
     }
     let cache = emitter.replay_cache(rt).expect(rt, "memory");
-    compare(rt, row, cache.as_slice(), &[T::of_number(4), T::of_number(5)]);
+    compare(
+        rt,
+        row,
+        cache.as_slice(),
+        &[T::of_number(4), T::of_number(5)],
+    );
     compare(rt, row, reader.next(rt), Some(T::of_number(3)));
     let mut values = Vec::new(alloc);
-    compare(rt, row, reader.drain(rt, 9, &mut values), Ok(Drained::Empty));
-    compare(rt, row, values.as_slice(), &[T::of_number(4), T::of_number(5)]);
+    compare(
+        rt,
+        row,
+        reader.drain(rt, 9, &mut values),
+        Ok(Drained::Empty),
+    );
+    compare(
+        rt,
+        row,
+        values.as_slice(),
+        &[T::of_number(4), T::of_number(5)],
+    );
     let second = emitter.subscribe(rt);
     compare(rt, row, second.is_ok(), true);
     drop(second);
@@ -206,7 +221,12 @@ fn calls<T: Numbered, R: Wait + Abort>(rt: &R, alloc: Global, row: &str) {
     let closed = flow.close(seat);
     compare(rt, row, closed.emitted(), 6);
     let cache = closed.replay_cache().expect(rt, "memory");
-    compare(rt, row, cache.as_slice(), &[T::of_number(5), T::of_number(6)]);
+    compare(
+        rt,
+        row,
+        cache.as_slice(),
+        &[T::of_number(5), T::of_number(6)],
+    );
 }
 
 #[test]

@@ -34,6 +34,9 @@ kept width wide count passed words = values_of width (count - passed) (take (len
 kept_is : (width wide count passed : ℕ) (words : List ℕ) → wide ≡ width → passed ≤ count → drop passed (values_of width count words) ≡ kept width wide count passed words
 kept_is width wide count passed words is less = values_drop width count passed words less ∙ (λ i. values_of width (count - passed) (drop (passed * sym is i) words)) ∙ ap (values_of width (count - passed)) (sym (take_rest words (passed * wide)))
 
+length_kept : (width wide count passed : ℕ) (words : List ℕ) → length (kept width wide count passed words) ≡ count - passed
+length_kept width wide count passed words = length_values_of width (count - passed) (take (length words - passed * wide) (drop (passed * wide) words))
+
 -- what the load of word 0 told of them
 received : (g : _) (c : After-as_slice g) →
     Receives g.T.Words.are_words g.T.Words.value_in c.args.number c.args.position (c.load-length.result / 2) (kept g.T.Words.WIDTH c.WIDTH-width.result c.args.count c.min-passed.result c.as_slice.result.now) c.read_cells-words.new.seat.me c.load-length.new.seat.me
@@ -56,9 +59,9 @@ returns-clause-taken g c = λ some.
     let r = received g (goal.at.returns-clause-taken g c).After-as_slice in let cells = c.read_cells-words in let ws = kept g.T.Words.WIDTH c.WIDTH-width.result c.args.count c.min-passed.result c.as_slice.result.now in
     let began : began_as (only cells.new.seat.me.0).start ≡ c.args.self.now.first = ap (λ z. began_as z.start) (cells.ensures.sees.0 ∙ c.requires.flow) ∙ (ap (λ z. began_as z.table_id.start) (sym c.self.view_is) ∙ ap (λ z. z.first) c.self.view_is) in record {
       values = map g.T.Words.value_in ws;
-      taken = all_given g.T.Words.are_words g.T.Words.value_in c.args.self.now.first c.args.number c.args.position (c.load-length.result / 2) c.args.seat.now cells.new.seat c.load-length.new.seat cells.ensures.sees c.load-length.ensures.0 began ws some r;
+      taken = all_given g.T.Words.are_words g.T.Words.value_in c.args.self.now.first c.args.number c.args.position (c.load-length.result / 2) c.args.seat.now cells.new.seat c.load-length.new.seat cells.ensures.sees c.load-length.ensures.0 began ws (λ e. some (sym (length_kept g.T.Words.WIDTH c.WIDTH-width.result c.args.count c.min-passed.result c.as_slice.result.now) ∙ e)) r;
       appended = c.unpack_all.ensures.items;
-      counted = length-map ws g.T.Words.value_in ∙ length_values_of g.T.Words.WIDTH (c.args.count - c.min-passed.result) (take (length c.as_slice.result.now - c.min-passed.result * c.WIDTH-width.result) (drop (c.min-passed.result * c.WIDTH-width.result) c.as_slice.result.now));
+      counted = length-map ws g.T.Words.value_in ∙ length_kept g.T.Words.WIDTH c.WIDTH-width.result c.args.count c.min-passed.result c.as_slice.result.now;
     }
 
 -- a list of no words has no values
@@ -69,14 +72,14 @@ no_values f (w ∷ ws) list longer none is = absurd (omega (arith, none))
 pub returns-clause-late : goal.returns-clause-late
 returns-clause-late g c = λ none.
     let r = received g (goal.at.returns-clause-late g c).After-as_slice in let cells = c.read_cells-words in let ws = kept g.T.Words.WIDTH c.WIDTH-width.result c.args.count c.min-passed.result c.as_slice.result.now in (
-      no_values g.T.Words.value_in ws c.args.values.now.items c.unpack_all.new.values.items none c.unpack_all.ensures.items,
-      none_given g.T.Words.are_words g.T.Words.value_in c.args.self.now.first c.args.number c.args.position (c.load-length.result / 2) c.args.seat.now cells.new.seat c.load-length.new.seat cells.ensures.sees c.load-length.ensures.0 ws none r,
+      no_values g.T.Words.value_in ws c.args.values.now.items c.unpack_all.new.values.items (length_kept g.T.Words.WIDTH c.WIDTH-width.result c.args.count c.min-passed.result c.as_slice.result.now ∙ none) c.unpack_all.ensures.items,
+      none_given g.T.Words.are_words g.T.Words.value_in c.args.self.now.first c.args.number c.args.position (c.load-length.result / 2) c.args.seat.now cells.new.seat c.load-length.new.seat cells.ensures.sees c.load-length.ensures.0 ws (length_kept g.T.Words.WIDTH c.WIDTH-width.result c.args.count c.min-passed.result c.as_slice.result.now ∙ none) r,
     )
 
 pub returns-clause-reading : goal.returns-clause-reading
 returns-clause-reading g c =
     let r = received g (goal.at.returns-clause-reading g c).After-as_slice in let cells = c.read_cells-words in let n = c.load-length.result / 2 in let ws = kept g.T.Words.WIDTH c.WIDTH-width.result c.args.count c.min-passed.result c.as_slice.result.now in
-    subst (λ k. IsReading c.load-length.new.seat c.args.number (max c.args.position (n - k) + length ws) [] n) (ap capacity_of (start_is g (goal.at.returns-clause-reading g c).After-read_cells-words))
+    subst (λ (z : ℕ × ℕ). IsReading c.load-length.new.seat c.args.number (max c.args.position (n - z.0) + z.1) [] n) (λ i. (ap capacity_of (start_is g (goal.at.returns-clause-reading g c).After-read_cells-words) i, (length_kept g.T.Words.WIDTH c.WIDTH-width.result c.args.count c.min-passed.result c.as_slice.result.now) i))
     (reads_on g.T.Words.are_words g.T.Words.value_in c.args.number c.args.position n cells.new.seat c.load-length.new.seat ws cells.ensures.reading.0.0 r)
 
 pub returns-clause-within : goal.returns-clause-within

@@ -13,7 +13,7 @@ use Rattle.flow_word_shared.proofs.token.WordFlow.try_ahead.Goals as goal
 pub returns-in-Ok-clause-called : goal.returns-in-Ok-clause-called
 returns-in-Ok-clause-called g c =
     let more = c.if-seen-position.false in
-    subst (λ (z : WordFlowNumbered g.row.T.Denot). CallsAtOnceIn shared_flow c.args.self.now.first z.token (call.TakeNext z.number) _ (ring_token c.read_ahead.new.seat)) c.subscription.view_is
+    subst (λ (z : WordFlowNumbered g.row.T.Denot). CallsAtOnceIn shared_flow c.args.self.now.first z.token (call.TakeNext z.number) (reply.Received (Value c.in-Ok.value)) (ring_token c.read_ahead.new.seat)) c.subscription.view_is
     (saw_then c.args.self.now.first _ _ _ _ _ (c.look.ensures.more (omega (arith, more))) c.in-Ok.ensures.fresh.0)
 
 pub returns-in-Err-clause-late : goal.returns-in-Err-clause-late
