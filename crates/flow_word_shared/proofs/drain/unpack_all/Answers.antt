@@ -1,5 +1,4 @@
-use Rattle.std.proofs.Common.{◌≡◌, ◌+◌, ◌++◌, Some, map, length, sym, ap, subst, ◌∙◌, arith}
-use Rattle.std.specs.Prelude.{take}
+use Rattle.std.proofs.Common.{◌++◌, Some, map, sym, ap, subst, ◌∙◌, arith}
 use Rattle.std.proofs.lemmas.List.{take_all, length-map}
 use Rattle.flow_word_shared.specs.Steps.{values_of}
 use Rattle.flow_word_shared.proofs.Cells.{value_is, each_is, part_is, length_values_of}

@@ -1,7 +1,6 @@
-use Rattle.std.proofs.Common.{◌≡◌, ◌+◌, ◌*◌, ◌<◌, [], ◌∷◌, ◌++◌, List, length, Some, sym, ap, subst, ◌∙◌, refl, length-append, arith}
-use Rattle.std.specs.Prelude.{ℕ}
+use Rattle.std.proofs.Common.{◌≡◌, ◌+◌, ◌*◌, [], ◌∷◌, ◌++◌, length, Some, sym, ap, subst, ◌∙◌, refl, length-append, arith}
 use Rattle.flow_word_shared.specs.declared.view.RingStart.{RingStart}
-use Rattle.flow_word_shared.specs.Rule.{capacity_of, cell_at, HasValue}
+use Rattle.flow_word_shared.specs.Rule.{capacity_of, HasValue}
 use Rattle.flow_word_shared.specs.Steps.{IsBegun, MeOf, log_after}
 use Rattle.flow_word_shared.specs.View.{only}
 use Rattle.flow_word_shared.proofs.CacheSteps.{reading_held}
