@@ -10,3 +10,4 @@ pub mod Covering
 pub mod Draining
 pub mod Values
 pub mod Packs
+pub mod Words

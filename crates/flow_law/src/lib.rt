@@ -44,4 +44,4 @@ pub use states::{
     Subscriber,
 };
 pub use touch::Touch;
-pub use value::{Boxed, FlowValue, Half, Items, Packed, Text};
+pub use value::{Boxed, FlowValue, Half, Items, OneWord, Packed, Text, Words};

@@ -9,12 +9,14 @@ mod owned;
 mod packed;
 mod packed_compound;
 mod truth;
+mod words;
 
 use crate::fault::FlowFault;
 pub use boxed::Boxed;
 pub use items::Items;
 pub use owned::Text;
 pub use packed::{Half, Packed};
+pub use words::{OneWord, Words};
 
 /// A value that a flow can keep, and give to several subscribers.
 ///

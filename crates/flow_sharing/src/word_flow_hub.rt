@@ -2,7 +2,7 @@
 ghost use Rattle.std.specs.Prelude.{◌≡◌, false};
 ghost use Rattle.flow_sharing.specs.SeatedHub.{seated, made_two};
 
-use flow_law::{FlowFault, Packed, Refused};
+use flow_law::{FlowFault, Refused, Words};
 use flow_turns::Hub;
 use flow_word_shared::{WordFlow, WordFlowSeat};
 use std::marker::Model;
@@ -13,13 +13,13 @@ use std::marker::Model;
 /// caller is faster, the call answers `Busy`, and the next turn makes it again. Nothing wakes a driver that sleeps, so a
 /// caller takes the turns. Dropping a hub loses its two seats.
 #[derive(Drop)]
-pub struct WordFlowHub<'a, T: Packed> {
+pub struct WordFlowHub<'a, T: Words> {
     flow: &'a WordFlow<T>,
     watching: WordFlowSeat<T>,
     sending: WordFlowSeat<T>,
 }
 
-impl<'a, T: Packed> Model for WordFlowHub<'a, T> {
+impl<'a, T: Words> Model for WordFlowHub<'a, T> {
     ghost use Rattle.std.specs.Prelude.{None};
     ghost use Rattle.flow_word_shared.specs.Tokens.{WordFlowId};
     ghost use Rattle.flow_sharing.specs.SharedFlowHub.{SharedSeats, shared_seats};
@@ -33,7 +33,7 @@ impl<'a, T: Packed> Model for WordFlowHub<'a, T> {
     ghost invariant = { λ h. IsOf h.watching h.flow.now × IsOf h.sending h.flow.now };
 }
 
-impl<'a, T: Packed> WordFlowHub<'a, T> {
+impl<'a, T: Words> WordFlowHub<'a, T> {
     /// Makes a hub that has emitted nothing. Its two seats are made through `seat`, which the caller keeps.
     pub fn new(flow: &'a WordFlow<T>, seat: &mut WordFlowSeat<T>) -> WordFlowHub<'a, T>
         requires { seat.old.table_id ≡ flow.now.table_id }
@@ -51,7 +51,7 @@ impl<'a, T: Packed> WordFlowHub<'a, T> {
     }
 }
 
-impl<'a, T: Packed> Hub for WordFlowHub<'a, T> {
+impl<'a, T: Words> Hub for WordFlowHub<'a, T> {
     type Item = T;
 
     ghost use Rattle.flow_sharing.specs.SeatedHub.{nothing_waits};

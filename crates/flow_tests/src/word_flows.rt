@@ -3,7 +3,9 @@ ghost use Rattle.std.specs.Prelude.{◌≡◌};
 
 mod asleep;
 mod calls;
+mod quote;
 mod races;
+mod wide;
 
 use flow_law::{Config, Overflow};
 use flow_word_shared::{WordEmitter, WordFlow, WordFlowReader, WordFlowSeat};

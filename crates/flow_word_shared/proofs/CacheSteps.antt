@@ -20,9 +20,10 @@ use Rattle.flow_law.proofs.HistoryLemmas.{after_all-snoc}
 use Rattle.flow_word_shared.specs.declared.view.RingKnown.{RingKnown}
 use Rattle.flow_word_shared.specs.declared.view.Hold.{Hold}
 use Rattle.flow_word_shared.specs.declared.view.RingStart.{RingStart}
-use Rattle.flow_word_shared.specs.Rule.{capacity_of, cell_at, HasValue, IsIfKnown, HoldFits, RingHolds}
-use Rattle.flow_word_shared.specs.Steps.{StepCalls, caches, refuses_cache, reads_held, log_after}
+use Rattle.flow_word_shared.specs.Rule.{capacity_of, cell_at, words_from, HasValue, IsIfKnown, HoldFits, RingHolds}
+use Rattle.flow_word_shared.specs.Steps.{IsBegun, StepCalls, caches, refuses_cache, reads_held, log_after}
 use Rattle.flow_word_shared.specs.View.{began_as, only}
+use Rattle.flow_word_shared.proofs.Cells.{Once, begun_more, begun_whole}
 use Rattle.flow_word_shared.proofs.Oldest.{usual_after}
 use Rattle.flow_word_shared.proofs.Keeps.{same_some, now, more_by, event_by, turned, started, hold_at, event_step, still, loaded}
 use Rattle.flow_word_shared.proofs.ReadSteps.{log_now}
@@ -48,7 +49,7 @@ given_out n [] less = absurd (omega arith)
 given_out zero (x ∷ xs) less = refl
 given_out (suc n) (x ∷ xs) less = given_out n xs (omega arith)
 
-module _ (T : Type 0) (packs : ℕ → Type 0) (value_of : ℕ → T) (start : RingStart) where
+module _ (T : Type 0) (packs : List ℕ → Type 0) (value_of : List ℕ → T) (start : RingStart) where
   abbrev V : Type 0
   V = List (RingKnown T)
 
@@ -138,20 +139,26 @@ module _ (T : Type 0) (packs : ℕ → Type 0) (value_of : ℕ → T) (start : R
       )
 
   -- a load of a cell of the buffer by the holder
-  pub reading_held : (slots id : ℕ) (me : Me Unit V) (h : Hold) (i : ℕ) → me.0 ≡ only me.0 ∷ [] → (only me.0).hold ≡ Some h → Allows Rule slots id me i (λ n. n) (reads_held packs value_of (step slots i 0 0 none) me)
-  reading_held slots id me h i is has s r n at small =
+  pub reading_held : Once packs value_of → (slots id : ℕ) (me : Me Unit V) (h : Hold) (i : ℕ) → me.0 ≡ only me.0 ∷ [] → (only me.0).hold ≡ Some h → Allows Rule slots id me i (λ n. n) (reads_held packs value_of (step slots i 0 0 none) me)
+  reading_held once slots id me h i is has s r n at small =
       let found : ℕ = get_or s.words i 0 in let x : RingKnown T = only me.0 in let st = current r.history in let f = hold_at T packs value_of start s r id me.0 h is at has in
       let began = started T packs value_of start s r id me.0 is at in let grown = log_now T packs value_of start s r id me.0 is at in (
         me.0,
         keeps,
         tt,
         still T packs value_of start s r i id me.0 at,
-        λ h2 k has2 place all less kept.
+        λ h2 k part has2 place less_part all less kept begun.
             let len : h2.length ≡ h.length = ap (λ (z : Hold). z.length) (sym (same_some h h2 (sym has ∙ has2))) in
             let room : capacity_of x.start ≡ capacity_of start = ap capacity_of began in
+            let width : x.start.width ≡ start.width = ap (λ (z : RingStart). z.width) began in
             let longer : length (values st) ≡ length (log_after x.start x.knows.seen) + length grown.0 = ap length grown.1 ∙ length-append _ grown.0 in
             let none_more : grown.0 ≡ [] = no_more grown.0 (omega (arith, longer, all, len, f.1, length_values st)) in
             let same : values st ≡ log_after x.start x.knows.seen = grown.1 ∙ ap (λ l. log_after x.start x.knows.seen ++ l) none_more ∙ append-nil _ in
-            let here : i ≡ cell_at start k = place ∙ ap (λ (z : RingStart). cell_at z k) began in
-            (refl, subst (λ (z : List T × ℕ). HasValue packs value_of z.0 k (get_or s.words z.1 0)) (λ j. (same j, sym here j)) (r.words.cells k (omega (arith, less, len, f.1)) (omega (arith, kept, len, f.1, room)))),
+            let here : i ≡ cell_at start k + length part = place ∙ ap (λ (z : RingStart). cell_at z k + length part) began in
+            let log = log_after x.start x.knows.seen in
+            let value : HasValue packs value_of log k (words_from start.width s.words (cell_at start k)) =
+            subst (λ (l : List T). HasValue packs value_of l k (words_from start.width s.words (cell_at start k))) same (r.words.cells k (omega (arith, less, len, f.1)) (omega (arith, kept, len, f.1, room))) in
+            let next : IsBegun packs value_of log k (part ++ found ∷ []) =
+            subst (λ j. IsBegun packs value_of log k (part ++ get_or s.words j 0 ∷ [])) (sym here) (begun_more packs value_of log k start.width s.words (cell_at start k) once value part (omega (arith, less_part, width)) begun) in
+            (refl, next, λ whole. begun_whole packs value_of log k start.width s.words (cell_at start k) value (part ++ found ∷ []) (length-append part (found ∷ []) ∙ whole ∙ width) next),
       )

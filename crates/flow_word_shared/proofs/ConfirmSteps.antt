@@ -37,7 +37,7 @@ module _ {A : Type 0} where
   there (x ∷ xs) zero a e = omega arith
   there (x ∷ xs) (suc i) a e = omega (arith, there xs i a e)
 
-module _ (T : Type 0) (packs : ℕ → Type 0) (value_of : ℕ → T) (start : RingStart) where
+module _ (T : Type 0) (packs : List ℕ → Type 0) (value_of : List ℕ → T) (start : RingStart) where
   abbrev V : Type 0
   V = List (RingKnown T)
 
@@ -50,11 +50,11 @@ module _ (T : Type 0) (packs : ℕ → Type 0) (value_of : ℕ → T) (start : R
   abbrev current : History T → SharedFlowState T
   current h = now T packs value_of start h
 
-  abbrev Pack : List T → ℕ → List ℕ → Type 0
+  abbrev Pack : List T → ℕ → List (List ℕ) → Type 0
   Pack = PackFrom packs value_of (capacity_of start)
 
   -- after the calls that gave the values of these words, from this position on, and with this many values emitted
-  pub record Given (s : St) (id : ℕ) (v : V) (cs : List (ℕ × Unit {0})) (number p count : ℕ) (ws : List ℕ) : Type 0 where
+  pub record Given (s : St) (id : ℕ) (v : V) (cs : List (ℕ × Unit {0})) (number p count : ℕ) (ws : List (List ℕ)) : Type 0 where
     pub last : V
     pub rule : Rule record { words = s.words; homes = s.homes; views = set s.views id last }
     pub gives : StepsGive packs value_of number (v, cs) ws (last, cs)
@@ -66,7 +66,7 @@ module _ (T : Type 0) (packs : ℕ → Type 0) (value_of : ℕ → T) (start : R
     pub counted : count ≡ length (log_after start (only last).knows.seen)
 
   -- all events of the step
-  gives_all : (ws : List ℕ) (s : St) (r : Rule s) (id : ℕ) (v : V) (cs : List (ℕ × Unit {0})) (number p : ℕ) → v ≡ only v ∷ [] → get_elem? s.views id ≡ some v
+  gives_all : (ws : List (List ℕ)) (s : St) (r : Rule s) (id : ℕ) (v : V) (cs : List (ℕ × Unit {0})) (number p : ℕ) → v ≡ only v ∷ [] → get_elem? s.views id ≡ some v
       → (only v).hold ≡ None → (only v).reads ≡ Some (reading number p []) → (only v).knows.seen ≡ r.history → IsAt start (only v).knows number p
       → length (current r.history).emitted ≤ p + capacity_of start → p + length ws ≤ length (current r.history).emitted → Pack (values (current r.history)) p ws
       → Given s id v cs number p (length (current r.history).emitted) ws
@@ -104,7 +104,7 @@ module _ (T : Type 0) (packs : ℕ → Type 0) (value_of : ℕ → T) (start : R
       }
 
   -- the token sees the whole history, and then come the events
-  sees_and_gives : (s : St) (r : Rule s) (id : ℕ) (v : V) (cs : List (ℕ × Unit {0})) (number q failed : ℕ) (ws : List ℕ) → v ≡ only v ∷ [] → get_elem? s.views id ≡ some v
+  sees_and_gives : (s : St) (r : Rule s) (id : ℕ) (v : V) (cs : List (ℕ × Unit {0})) (number q failed : ℕ) (ws : List (List ℕ)) → v ≡ only v ∷ [] → get_elem? s.views id ≡ some v
       → IsAt start (saw ((only v).knows.lost + failed) r.history (only v).knows) number q
       → length (current r.history).emitted ≤ q + capacity_of start → q + length ws ≤ length (current r.history).emitted → Pack (values (current r.history)) q ws
       → let k : RingKnown T = turned_by T packs value_of start ((only v).knows.lost + failed) (only v) r.history None (Some (reading number q [])) in
@@ -128,7 +128,7 @@ module _ (T : Type 0) (packs : ℕ → Type 0) (value_of : ℕ → T) (start : R
       }
 
   -- a load of word 0 by a subscriber that has read cells, and takes the first of the values that the buffer still has
-  pub confirming : (slots id : ℕ) (me : Me Unit V) (chosen : List ℕ → List ℕ) → ((l : List ℕ) → (rest : List ℕ) × (l ≡ chosen l ++ rest)) → (x : Reads) → me.0 ≡ only me.0 ∷ [] → (only me.0).reads ≡ Some x
+  pub confirming : (slots id : ℕ) (me : Me Unit V) (chosen : List (List ℕ) → List (List ℕ)) → ((l : List (List ℕ)) → (rest : List (List ℕ)) × (l ≡ chosen l ++ rest)) → (x : Reads) → me.0 ≡ only me.0 ∷ [] → (only me.0).reads ≡ Some x
       → IsAt (only me.0).start (only me.0).knows x.number x.position → AreFound packs value_of (capacity_of (only me.0).start) (log_after (only me.0).start (only me.0).knows.seen) x.position x.words
       → Allows Rule slots id me 0 (λ n. n) (confirms packs value_of chosen (step slots 0 0 0 none) me)
   confirming slots id me chosen first x is has old known s r n at small = (
@@ -172,10 +172,10 @@ module _ (T : Type 0) (packs : ℕ → Type 0) (value_of : ℕ → T) (start : R
       q : ℕ
       q = max x.position (found / 2 - capacity_of (only v).start)
 
-      kept : List ℕ
+      kept : List (List ℕ)
       kept = still_kept (capacity_of (only v).start) (found / 2) x.position x.words
 
-      ws : List ℕ
+      ws : List (List ℕ)
       ws = chosen kept
 
       here : IsAt start (saw ((only v).knows.lost + failed_by ws) r.history (only v).knows) x.number x.position

@@ -1,5 +1,5 @@
 -- The steps of emitters keep the rule of the table.
-use Rattle.std.proofs.Common.{◌≡◌, ◌≢◌, ◌⊎◌, ℕ, Bool, eqb, eq-eqb, ne_eqb, zero, suc, ◌+◌, ◌*◌, ◌/◌, ◌%◌, ◌<◌, ◌≤◌, List, [], ◌∷◌, ◌++◌, length, get_or, set, Option, Some, None, refl, sym, ap, ◌∙◌, subst, inl, inr, ⊎_elim, arith}
+use Rattle.std.proofs.Common.{◌≡◌, ◌≢◌, ◌⊎◌, ℕ, Bool, eqb, eq-eqb, ne_eqb, zero, suc, ◌+◌, ◌*◌, ◌/◌, ◌%◌, ◌<◌, ◌≤◌, List, [], ◌∷◌, ◌++◌, length, get_or, set, Option, Some, None, refl, sym, ap, ◌∙◌, subst, inl, inr, ⊎_elim, length-append, arith}
 use Rattle.std.specs.List.{slice_get}
 use Rattle.std.proofs.lemmas.Bool.{cases_lt}
 use Rattle.std.proofs.lemmas.List.{get_or-set_same, get_or-set_other, length-set, map-append, length_push}
@@ -22,11 +22,12 @@ use Rattle.flow_law.proofs.Boxes.{length_values}
 use Rattle.flow_word_shared.specs.declared.view.RingKnown.{RingKnown}
 use Rattle.flow_word_shared.specs.declared.view.Hold.{Hold}
 use Rattle.flow_word_shared.specs.declared.view.RingStart.{RingStart}
-use Rattle.flow_word_shared.specs.Rule.{head, capacity_of, cell_at, IsStart, bit, HasValue, WordsFit, IsIfKnown, HoldFits, RingHolds}
+use Rattle.flow_word_shared.specs.Rule.{head, capacity_of, cell_at, words_from, IsStart, bit, HasValue, WordsFit, IsIfKnown, HoldFits, RingHolds}
 use Rattle.flow_word_shared.specs.Steps.{emission_of, emission_done, StepCalls, takes, counts_issued, fills, refuses, releases, publishes}
 use Rattle.flow_word_shared.specs.View.{with_hold, holding, only}
+use Rattle.flow_word_shared.proofs.Cells.{cells_within, words_kept, words_more, head_kept}
 use Rattle.flow_word_shared.proofs.Oldest.{Usual, usual_after, Added, emission_is, emission_full, emission_replies, emission_after, emission_may}
-use Rattle.flow_word_shared.proofs.Keeps.{same_some, other_cell, cell_within, slice_get_left, slice_get_end, no_other, now, more_by, turned_by, turned, started, fits_at, hold_at, event_step, quiet_by, quiet_step, loaded, word0_set}
+use Rattle.flow_word_shared.proofs.Keeps.{same_some, other_cell, slice_get_left, slice_get_end, no_other, now, more_by, turned_by, turned, started, fits_at, hold_at, event_step, quiet_by, quiet_step, loaded, word0_set}
 
 -- an even word 0 says that no caller holds the lock bit
 free_if_even : (owner : Option (List ℕ)) (n found old : ℕ) → found ≡ n * 2 + bit owner → found ≡ old → old % 2 ≡ 0 → owner ≡ None
@@ -36,7 +37,7 @@ free_if_even (Some name) n found old is hit even = absurd (omega arith)
 half_free : (owner : Option (List ℕ)) (n found : ℕ) → found ≡ n * 2 + bit owner → owner ≡ None → found ≡ n * 2
 half_free owner n found is free = is ∙ ap (λ o. n * 2 + bit o) free ∙ (let z : n * 2 + 0 ≡ n * 2 = omega arith in z)
 
-module _ (T : Type 0) (packs : ℕ → Type 0) (value_of : ℕ → T) (start : RingStart) where
+module _ (T : Type 0) (packs : List ℕ → Type 0) (value_of : List ℕ → T) (start : RingStart) where
   abbrev V : Type 0
   V = List (RingKnown T)
 
@@ -61,7 +62,7 @@ module _ (T : Type 0) (packs : ℕ → Type 0) (value_of : ℕ → T) (start : R
       let rule : Rule (stepped s 0 new id me.1 (turned T packs value_of start x x.knows.seen (Some (holding (old / 2))) x.reads ∷ []) keeps) =
       quiet_step T packs value_of start s r id me.0 is at x.knows.seen (Some name) r.ahead (set s.words 0 new) (Some (holding (old / 2))) x.reads (fits_at T packs value_of start s r id me.0 is at)
       (word0_set T packs value_of start st r.owner (Some name) r.ahead s.words new r.words (omega arith) (λ e. absurd (cc)))
-      (refl, omega arith, sym (r.words.rested free), tt, tt, tt)
+      (refl, omega arith, sym (r.words.rested free), tt, tt, refl)
       (λ y ne f. no_other start st st r.owner (Some name) r.ahead r.ahead s.words (set s.words 0 new) name y.knows.name y.hold ne (inl free) f) in
       subst G (sym (ap (λ b. either b new found) (eq-eqb found old hit)))
       (turned T packs value_of start x x.knows.seen (Some (holding (old / 2))) x.reads ∷ [], keeps, tt, rule, ((λ _. refl), λ miss. absurd (miss hit))))
@@ -94,60 +95,63 @@ module _ (T : Type 0) (packs : ℕ → Type 0) (value_of : ℕ → T) (start : R
         ),
       )
 
-  -- the free cell changes
-  cell_set : (s : SharedFlowState T) (owner : Option (List ℕ)) (ahead : ℕ) (words : List ℕ) (i w : ℕ) → IsStart start → i ≡ cell_at start (length s.emitted)
+  -- one of the free cells changes
+  cell_set : (s : SharedFlowState T) (owner : Option (List ℕ)) (ahead : ℕ) (words : List ℕ) (i w j : ℕ) → IsStart start → i ≡ cell_at start (length s.emitted) + j → j < start.width
       → WordsFit packs value_of start s owner ahead words → WordsFit packs value_of start s owner ahead (set words i w)
-  cell_set s owner ahead words i w ok is f = record {
+  cell_set s owner ahead words i w j ok is there f = record {
     count = length-set words i w ∙ f.count;
     word0 = get_or-set_other words i 0 w 0 (λ e. absurd (omega arith)) ∙ f.word0;
     few = f.few;
     made = subst (λ n. n + length s.emitted ≡ s.issued + ahead) (sym (get_or-set_other words i 1 w 0 (λ e. absurd (omega arith)))) f.made;
     live = get_or-set_other words i 2 w 0 (λ e. absurd (omega arith)) ∙ f.live;
     mark = get_or-set_other words i 3 w 0 (λ e. absurd (omega arith)) ∙ f.mark;
-    cells = λ k a b. subst (HasValue packs value_of (values s) k) (sym (get_or-set_other words i (cell_at start k) w 0 (λ e. other_cell start ok k (length s.emitted) a b (e ∙ is)))) (f.cells k a b);
+    cells = λ k a b. subst (HasValue packs value_of (values s) k)
+        (sym (words_kept start.width words i w (cell_at start k) (λ q from less e. other_cell start ok k (length s.emitted) j a b there q from less (sym is ∙ e)))) (f.cells k a b);
     rested = f.rested;
   }
 
-  -- what the holder then knows of the cell
-  cell_holds : (words : List ℕ) (i w n : ℕ) → IsStart start → length words ≡ head + start.room → i ≡ cell_at start n → w ≡ get_or (set words i w) (cell_at start n) 0
-  cell_holds words i w n ok count is = let l = cell_within start ok n in
-      sym (ap (λ j. get_or (set words i w) j 0) (sym is) ∙ get_or-set_same words i w 0 (omega arith))
+  -- what the holder then knows of the cells
+  cell_holds : (words cells : List ℕ) (i w n : ℕ) → IsStart start → length words ≡ head + start.room * start.width → i ≡ cell_at start n + length cells → length cells < start.width
+      → cells ≡ words_from (length cells) words (cell_at start n) → cells ++ w ∷ [] ≡ words_from (length (cells ++ w ∷ [])) (set words i w) (cell_at start n)
+  cell_holds words cells i w n ok count is less old =
+      let p = cell_at start n in let within = cells_within start ok n in
+      let stays : words_from (length cells) (set words i w) p ≡ cells = words_kept (length cells) words i w p (λ q from there e. absurd (omega (arith, is, from, there, e))) ∙ sym old in
+      let last : get_or (set words i w) (p + length cells) 0 ≡ w = ap (λ q. get_or (set words i w) q 0) (sym is) ∙ get_or-set_same words i w 0 (omega (arith, is, less, within, count)) in
+      (λ k. sym stays k ++ sym last k ∷ []) ∙ sym (words_more (length cells) (set words i w) p) ∙ ap (λ k. words_from k (set words i w) p) (sym (length-append cells (w ∷ [])))
 
-  -- a store into the free cell by the holder
-  pub filling : (slots id : ℕ) (me : Me Unit V) (h : Hold) (i w : ℕ) → me.0 ≡ only me.0 ∷ [] → (only me.0).hold ≡ Some h → i ≡ cell_at start h.length
+  -- a store into the next free cell by the holder
+  pub filling : (slots id : ℕ) (me : Me Unit V) (h : Hold) (i w : ℕ) → me.0 ≡ only me.0 ∷ [] → (only me.0).hold ≡ Some h → i ≡ cell_at start h.length + length h.cells → length h.cells < start.width
       → Allows Rule slots id me i (λ _. w) (λ _. fills (step slots i w 0 none) me w)
-  filling slots id me h i w is has place s r n at small =
+  filling slots id me h i w is has place less s r n at small =
       let x : RingKnown T = only me.0 in let st = current r.history in let f = hold_at T packs value_of start s r id me.0 h is at has in let name : List ℕ = x.knows.name in
-      let h' : Hold = record h { cell = Some w } in (
+      let h' : Hold = record h { cells = h.cells ++ w ∷ [] } in (
         turned T packs value_of start x x.knows.seen (Some h') x.reads ∷ [],
         keeps,
         tt,
         quiet_step T packs value_of start s r id me.0 is at x.knows.seen r.owner r.ahead (set s.words i w) (Some h') x.reads (fits_at T packs value_of start s r id me.0 is at)
-            (cell_set st r.owner r.ahead s.words i w r.starts (place ∙ ap (cell_at start) f.1) r.words)
-            (f.0, f.1, f.2, f.3, f.4, cell_holds s.words i w h.length r.starts r.words.count place)
+            (cell_set st r.owner r.ahead s.words i w (length h.cells) r.starts (place ∙ ap (λ k. cell_at start k + length h.cells) f.1) less r.words)
+            (f.0, f.1, f.2, f.3, f.4, cell_holds s.words h.cells i w h.length r.starts r.words.count place less f.5)
             (λ y ne g. no_other start st st r.owner r.owner r.ahead r.ahead s.words (set s.words i w) name y.knows.name y.hold ne (inr f.0) g),
-        λ h2 has2. ap (λ (z : Hold). (with_hold (Some (record z { cell = Some w })) x ∷ [], me.1)) (same_some h h2 (sym has ∙ has2)),
+        λ h2 has2. ap (λ (z : Hold). (with_hold (Some (record z { cells = z.cells ++ w ∷ [] })) x ∷ [], me.1)) (same_some h h2 (sym has ∙ has2)),
       )
 
-  -- the same, if no number is left: a refused emission
-  pub refusing : (slots id : ℕ) (me : Me Unit V) (tries : Bool) (h : Hold) (i w m : ℕ) → me.0 ≡ only me.0 ∷ [] → (only me.0).hold ≡ Some h → i ≡ cell_at start h.length → h.issued ≡ Some m → start.config.limit ≤ m
-      → Allows Rule slots id me i (λ _. w) (λ _. refuses value_of tries (step slots i w 0 none) me w)
-  refusing slots id me tries h i w m is has place counted full s r n at small =
+  -- a load of word 1 by the holder that has filled the free cells, if no number is left: a refused emission
+  pub refusing : (slots id : ℕ) (me : Me Unit V) (tries : Bool) (h : Hold) (m : ℕ) → me.0 ≡ only me.0 ∷ [] → (only me.0).hold ≡ Some h → h.issued ≡ Some m → start.config.limit ≤ m
+      → Allows Rule slots id me 1 (λ n. n) (refuses value_of tries (step slots 1 0 0 none) me)
+  refusing slots id me tries h m is has counted full s r n at small =
       let x : RingKnown T = only me.0 in let st = current r.history in let f = hold_at T packs value_of start s r id me.0 h is at has in let name : List ℕ = x.knows.name in
-      let h' : Hold = record h { cell = Some w } in let c : SharedCall T = emission_of tries (value_of w) in let y : SharedReply T = reply.Refused Exhausted in
+      let v : T = value_of h.cells in let c : SharedCall T = emission_of tries v in let y : SharedReply T = reply.Refused Exhausted in
       let usual : Usual T start.config r.starts.oldest r.starts.buffer st = usual_after T start.config r.starts.oldest r.starts.buffer r.history in
       let issued : m ≡ st.issued = subst (λ o. IsIfKnown o st.issued) counted f.3 in let few = r.words.few in
       let limit : st.config.limit ≡ start.config.limit = ap (λ (g : Config). g.limit) usual.config_is in
-      let replies : Replies st c y = sym (emission_full T start.config r.starts.oldest r.starts.buffer tries st (value_of w) usual (omega arith)) in
-      let done = event_step T packs value_of start s r id me.0 me.1 c y is at r.owner r.ahead (set s.words i w) (Some h') x.reads replies (emission_may T start.config r.starts.oldest r.starts.buffer tries (value_of w) name r.history)
-      (cell_set st r.owner r.ahead s.words i w r.starts (place ∙ ap (cell_at start) f.1) r.words)
-      (f.0, f.1, f.2, f.3, f.4, cell_holds s.words i w h.length r.starts r.words.count place)
-      (λ z ne g. no_other start st st r.owner r.owner r.ahead r.ahead s.words (set s.words i w) name z.knows.name z.hold ne (inr f.0) g) in (
-        turned T packs value_of start x (more_by T packs value_of start x r.history c y) (Some h') x.reads ∷ [],
+      let replies : Replies st c y = sym (emission_full T start.config r.starts.oldest r.starts.buffer tries st v usual (omega arith)) in
+      let done = event_step T packs value_of start s r id me.0 me.1 c y is at r.owner r.ahead s.words (Some h) x.reads replies (emission_may T start.config r.starts.oldest r.starts.buffer tries v name r.history) r.words f (λ z ne g. g) in (
+        turned T packs value_of start x (more_by T packs value_of start x r.history c y) (Some h) x.reads ∷ [],
         keeps,
         tt,
-        done.0,
-        λ h2 has2. (done.1, ap (λ (z : Hold). Some (record z { cell = Some w })) (same_some h h2 (sym has ∙ has2))),
+        loaded T packs value_of start s 1 _ done.0,
+        λ h2 has2. subst (λ (z : Hold). StepCalls me (emission_of tries (value_of z.cells)) y (turned T packs value_of start x (more_by T packs value_of start x r.history c y) (Some h) x.reads ∷ [], me.1) × (◌≡◌ {A = Option Hold} (Some h) (Some z)))
+            (same_some h h2 (sym has ∙ has2)) (done.1, refl),
       )
 
   -- a store of word 0 by the holder, without an event
@@ -165,19 +169,21 @@ module _ (T : Type 0) (packs : ℕ → Type 0) (value_of : ℕ → T) (start : R
         refl,
       )
 
-  -- a store of word 0 by the holder, which emits the value in the free cell
-  pub publishing : (slots id : ℕ) (me : Me Unit V) (tries : Bool) (h : Hold) (w m new : ℕ) → me.0 ≡ only me.0 ∷ [] → (only me.0).hold ≡ Some h → h.ahead ≡ 0 → h.cell ≡ Some w → h.issued ≡ Some m → m < start.config.limit
-      → packs w → new ≡ h.length * 2 + 2 → Allows Rule slots id me 0 (λ _. new) (λ _. publishes value_of tries (step slots 0 new 0 none) me new)
-  publishing slots id me tries h w m new is has none_ahead stored counted room packed word s r n at small = (
+  -- a store of word 0 by the holder, which emits the value in the free cells
+  pub publishing : (slots id : ℕ) (me : Me Unit V) (tries : Bool) (h : Hold) (m new : ℕ) → me.0 ≡ only me.0 ∷ [] → (only me.0).hold ≡ Some h → h.ahead ≡ 0 → h.issued ≡ Some m → m < start.config.limit
+      → packs h.cells → length h.cells ≡ start.width → new ≡ h.length * 2 + 2 → Allows Rule slots id me 0 (λ _. new) (λ _. publishes value_of tries (step slots 0 new 0 none) me new)
+  publishing slots id me tries h m new is has none_ahead counted room packed whole word s r n at small = (
     turned T packs value_of start x (more_by T packs value_of start x r.history c y) None x.reads ∷ [],
     keeps,
     tt,
     done.0,
-    λ h2 w2 has2 stored2. let same : h ≡ h2 = same_some h h2 (sym has ∙ has2) in
-        let value : w ≡ w2 = same_some w w2 (sym stored ∙ ap (λ (z : Hold). z.cell) same ∙ stored2) in
-        (subst (λ k. StepCalls me (emission_of tries (value_of k)) y (turned T packs value_of start x (more_by T packs value_of start x r.history c y) None x.reads ∷ [], me.1)) value done.1, refl, refl),
+    λ h2 has2. let same : h.cells ≡ h2.cells = ap (λ (z : Hold). z.cells) (same_some h h2 (sym has ∙ has2)) in
+        (subst (λ k. StepCalls me (emission_of tries (value_of k)) y (turned T packs value_of start x (more_by T packs value_of start x r.history c y) None x.reads ∷ [], me.1)) same done.1, refl, refl),
   )
     where
+      w : List ℕ
+      w = h.cells
+
       x : RingKnown T
       x = only me.0
 
@@ -226,16 +232,16 @@ module _ (T : Type 0) (packs : ℕ → Type 0) (value_of : ℕ → T) (start : R
       log : values t ≡ values st ++ value_of w ∷ []
       log = ap (λ l. Rattle.std.proofs.Common.map (λ (e : Numbered T). e.value) l) does.emitted ∙ map-append (λ (e : Numbered T). e.value) st.emitted (numbered (value_of w) st ∷ [])
 
-      -- the cell of the new value has its pack
-      has_word : w ≡ get_or s.words (cell_at start (length st.emitted)) 0
-      has_word = subst (λ o. IsIfKnown o (get_or s.words (cell_at start h.length) 0)) stored f.5 ∙ ap (λ k. get_or s.words (cell_at start k) 0) f.1
+      -- the cells of the new value have its words
+      has_words : w ≡ words_from start.width s.words (cell_at start (length st.emitted))
+      has_words = f.5 ∙ (λ i. words_from (whole i) s.words (cell_at start (f.1 i)))
 
-      at_cell : (k : ℕ) → k < length t.emitted → length t.emitted ≤ k + capacity_of start → HasValue packs value_of (values t) k (get_or (set s.words 0 new) (cell_at start k) 0)
-      at_cell k a b = subst (HasValue packs value_of (values t) k) (sym (get_or-set_other s.words 0 (cell_at start k) new 0 (λ e. absurd (omega arith)))) (elim (cases_lt k (length st.emitted)) as (λ _. HasValue packs value_of (values t) k (get_or s.words (cell_at start k) 0)) [
+      at_cell : (k : ℕ) → k < length t.emitted → length t.emitted ≤ k + capacity_of start → HasValue packs value_of (values t) k (words_from start.width (set s.words 0 new) (cell_at start k))
+      at_cell k a b = subst (HasValue packs value_of (values t) k) (sym (head_kept start.width start s.words 0 new k (omega arith))) (elim (cases_lt k (length st.emitted)) as (λ _. HasValue packs value_of (values t) k (words_from start.width s.words (cell_at start k))) [
         | inl old ↦ let v = r.words.cells k old (omega (arith, b, more)) in let count = length_values st in
             (v.0, ap (λ l. slice_get l k) log ∙ slice_get_left (values st) (value_of w ∷ []) k (omega (arith, old, count)) ∙ v.1)
         | inr new_one ↦ let last : k ≡ length st.emitted = omega (arith, a, more, new_one) in let count = length_values st in
-            let here : w ≡ get_or s.words (cell_at start k) 0 = has_word ∙ ap (λ j. get_or s.words (cell_at start j) 0) (sym last) in
+            let here : w ≡ words_from start.width s.words (cell_at start k) = has_words ∙ ap (λ j. words_from start.width s.words (cell_at start j)) (sym last) in
             subst (HasValue packs value_of (values t) k) here (packed, ap (λ l. slice_get l k) log ∙ slice_get_end (values st) (value_of w) k (omega (arith, last, count)))
       ])
 

@@ -1,5 +1,5 @@
 -- What keeps the rule of the table. Begin with `event_step` (a step that is the one event of a call) and `quiet_step` (a step of no event).
-use Rattle.std.proofs.Common.{◌≡◌, ◌≢◌, ◌⊎◌, ℕ, zero, suc, ◌+◌, ◌*◌, ◌%◌, ◌<◌, ◌≤◌, List, [], ◌∷◌, ◌++◌, map, length, get_or, set, Option, Some, None, refl, sym, ap, ◌∙◌, subst, inl, ⊎_elim, le_refl, arith}
+use Rattle.std.proofs.Common.{◌≡◌, ◌≢◌, ◌⊎◌, ℕ, zero, suc, ◌+◌, ◌-◌, ◌*◌, ◌%◌, ◌<◌, ◌≤◌, List, [], ◌∷◌, ◌++◌, map, length, get_or, set, Option, Some, None, refl, sym, ap, ◌∙◌, subst, inl, ⊎_elim, le_refl, arith}
 use Rattle.std.specs.List.{slice_get}
 use Rattle.std.proofs.Math.Nat.{mod-lt}
 use Rattle.std.proofs.lemmas.List.{get_or-set_same, get_or-set_other, length-set}
@@ -31,19 +31,21 @@ use Rattle.flow_word_shared.specs.declared.view.RingStart.{RingStart}
 use Rattle.flow_word_shared.specs.Rule.{head, capacity_of, cell_at, IsStart, bit, HasValue, WordsFit, IsIfKnown, HoldFits, IsFine, RingHolds}
 use Rattle.flow_word_shared.specs.Steps.{StepCalls, StepSees}
 use Rattle.flow_word_shared.specs.View.{began_as, ring_known, only, saw}
+use Rattle.flow_word_shared.proofs.Cells.{apart, words_same, head_kept}
 
 pub same_some : {A : Type 0} (a b : A) → Some a ≡ Some b → a ≡ b
 same_some a b e = cc
 
 -- ---- cells
 
--- the cell of another position of the window, and of the next one
-pub other_cell : (start : RingStart) → IsStart start → (k n : ℕ) → k < n → n ≤ k + capacity_of start → cell_at start k ≢ cell_at start n
-other_cell start is k n less kept e = let room = is.room in let same : k % start.room ≡ n % start.room = omega arith in
-    let one = one_turn k n start.room (omega arith) (omega arith) same in absurd (omega arith)
+-- another position of the window, and the next one
+other_place : (start : RingStart) → IsStart start → (k n : ℕ) → k < n → n ≤ k + capacity_of start → k % start.room ≢ n % start.room
+other_place start is k n less kept same = let room = is.room in let one = one_turn k n start.room (omega arith) (omega arith) same in absurd (omega arith)
 
-pub cell_within : (start : RingStart) → IsStart start → (k : ℕ) → cell_at start k < head + start.room
-cell_within start is k = let room = is.room in let l = mod-lt k {m = start.room} (omega arith) in omega arith
+-- the cells of another position of the window, and those of the next one
+pub other_cell : (start : RingStart) → IsStart start → (k n j : ℕ) → k < n → n ≤ k + capacity_of start → j < start.width → (i : ℕ) → cell_at start k ≤ i → i < cell_at start k + start.width → cell_at start n + j ≢ i
+other_cell start is k n j less kept there i from within e =
+    apart start.width (k % start.room) (n % start.room) (i - cell_at start k) j (other_place start is k n less kept) (omega (arith, from, within)) there (omega (arith, from, e))
 
 module _ {A : Type 0} where
   pub slice_get_left : (xs ys : List A) (k : ℕ) → k < length xs → slice_get (xs ++ ys) k ≡ slice_get xs k
@@ -69,7 +71,7 @@ module _ {T : Type 0} (start : RingStart) where
 
   -- the state and the cells show the same
   pub same_hold : (s t : SharedFlowState T) (owner : Option (List ℕ)) (ahead : ℕ) (words words' name : List ℕ) (hold : Option Hold) → length t.emitted ≡ length s.emitted → t.issued ≡ s.issued → t.reset_mark ≡ s.reset_mark
-      → ((n : ℕ) → get_or words' (cell_at start n) 0 ≡ get_or words (cell_at start n) 0) → HoldFits start s owner ahead words name hold → HoldFits start t owner ahead words' name hold
+      → ((i : ℕ) → head ≤ i → get_or words' i 0 ≡ get_or words i 0) → HoldFits start s owner ahead words name hold → HoldFits start t owner ahead words' name hold
   same_hold s t owner ahead words words' name None count issued mark cells f = tt
   same_hold s t owner ahead words words' name (Some h) count issued mark cells f = (
     f.0,
@@ -77,10 +79,10 @@ module _ {T : Type 0} (start : RingStart) where
     f.2,
     subst (IsIfKnown h.issued) (sym issued) f.3,
     subst (IsIfKnown h.mark) (sym mark) f.4,
-    subst (IsIfKnown h.cell) (sym (cells h.length)) f.5,
+    f.5 ∙ sym (words_same (length h.cells) words words' (cell_at start h.length) (λ i from less. cells i (omega (arith, from)))),
   )
 
-module _ (T : Type 0) (packs : ℕ → Type 0) (value_of : ℕ → T) (start : RingStart) where
+module _ (T : Type 0) (packs : List ℕ → Type 0) (value_of : List ℕ → T) (start : RingStart) where
   abbrev V : Type 0
   V = List (RingKnown T)
 
@@ -267,6 +269,6 @@ module _ (T : Type 0) (packs : ℕ → Type 0) (value_of : ℕ → T) (start : R
     made = subst (λ n. n + length s.emitted ≡ s.issued + ahead) (sym (get_or-set_other words 0 1 new 0 (λ e. absurd (omega arith)))) w.made;
     live = get_or-set_other words 0 2 new 0 (λ e. absurd (omega arith)) ∙ w.live;
     mark = get_or-set_other words 0 3 new 0 (λ e. absurd (omega arith)) ∙ w.mark;
-    cells = λ k a b. subst (HasValue packs value_of (values s) k) (sym (get_or-set_other words 0 (cell_at start k) new 0 (λ e. absurd (omega arith)))) (w.cells k a b);
+    cells = λ k a b. subst (HasValue packs value_of (values s) k) (sym (head_kept start.width start words 0 new k (omega arith))) (w.cells k a b);
     rested = rest;
   }

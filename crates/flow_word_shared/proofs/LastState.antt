@@ -18,7 +18,7 @@ use Rattle.flow_law.proofs.MailboxSteps.{drop_here}
 use Rattle.flow_word_shared.specs.declared.view.RingKnown.{RingKnown}
 use Rattle.flow_word_shared.specs.declared.view.RingStart.{RingStart}
 use Rattle.flow_word_shared.specs.Closing.{StandsAsClosed, in_cells, closed_flow}
-use Rattle.flow_word_shared.specs.Rule.{head, cell_at, bit, HasValue, RingHolds}
+use Rattle.flow_word_shared.specs.Rule.{head, cell_at, words_from, bit, HasValue, RingHolds}
 use Rattle.flow_word_shared.specs.View.{SharedKnowledge, began_as, only}
 use Rattle.flow_word_shared.proofs.Keeps.{fits_at}
 use Rattle.flow_word_shared.proofs.Oldest.{Usual, usual_after}
@@ -35,16 +35,16 @@ halved n word None e = omega (arith, e)
 halved n word (Some name) e = omega (arith, e)
 
 -- the values of some cells, one by one
-pub length_cells : {T : Type 0} (value_of : ℕ → T) (room : ℕ) (words : List ℕ) (count position : ℕ) → length (in_cells value_of room words count position) ≡ count
-length_cells value_of room words zero position = refl
-length_cells value_of room words (suc count) position = ap suc (length_cells value_of room words count (position + 1))
+pub length_cells : {T : Type 0} (value_of : List ℕ → T) (width room : ℕ) (words : List ℕ) (count position : ℕ) → length (in_cells value_of width room words count position) ≡ count
+length_cells value_of width room words zero position = refl
+length_cells value_of width room words (suc count) position = ap suc (length_cells value_of width room words count (position + 1))
 
-pub cell_is : {T : Type 0} (value_of : ℕ → T) (room : ℕ) (words : List ℕ) (count position i : ℕ) → i < count
-    → slice_get (in_cells value_of room words count position) i ≡ Some (value_of (get_or words (head + (position + i) % room) 0))
-cell_is value_of room words zero position i less = absurd (omega arith)
-cell_is value_of room words (suc count) position zero less = ap (λ p. Some (value_of (get_or words (head + p % room) 0))) (let e : position ≡ position + 0 = omega arith in e)
-cell_is value_of room words (suc count) position (suc i) less =
-    cell_is value_of room words count (position + 1) i (omega arith) ∙ ap (λ p. Some (value_of (get_or words (head + p % room) 0))) (let e : position + 1 + i ≡ position + suc i = omega arith in e)
+pub cell_is : {T : Type 0} (value_of : List ℕ → T) (width room : ℕ) (words : List ℕ) (count position i : ℕ) → i < count
+    → slice_get (in_cells value_of width room words count position) i ≡ Some (value_of (words_from width words (head + (position + i) % room * width)))
+cell_is value_of width room words zero position i less = absurd (omega arith)
+cell_is value_of width room words (suc count) position zero less = ap (λ p. Some (value_of (words_from width words (head + p % room * width)))) (let e : position ≡ position + 0 = omega arith in e)
+cell_is value_of width room words (suc count) position (suc i) less =
+    cell_is value_of width room words count (position + 1) i (omega arith) ∙ ap (λ p. Some (value_of (words_from width words (head + p % room * width)))) (let e : position + 1 + i ≡ position + suc i = omega arith in e)
 
 -- one more value of a list, behind another one
 pub taken_more : {A : Type 0} (xs : List A) (n : ℕ) (v : A) (old list longer : List A) → slice_get xs n ≡ Some v → list ≡ old ++ take n xs → longer ≡ list ++ v ∷ [] → longer ≡ old ++ take (n + 1) xs
@@ -52,25 +52,25 @@ taken_more xs n v old list longer here is more =
     more ∙ ap (λ l. l ++ v ∷ []) is ∙ append_assoc old (take n xs) (v ∷ [])
     ∙ ap (λ x. old ++ (take n xs ++ x ∷ [])) (sym (get_or_from_slice_get xs n v v here)) ∙ ap (λ l. old ++ l) (sym (take_more xs n v (slice_get_within xs n v here)))
 
-module _ (T : Type 0) (packs : ℕ → Type 0) (value_of : ℕ → T) (start : RingStart) where
+module _ (T : Type 0) (packs : List ℕ → Type 0) (value_of : List ℕ → T) (start : RingStart) where
   abbrev V : Type 0
   V = List (RingKnown T)
 
   -- the cells of the last positions have the last values
   cells_are : (words : List ℕ) (log : List T) (count k : ℕ) → k + count ≡ length log
-      → ((j : ℕ) → k ≤ j → j < length log → HasValue packs value_of log j (get_or words (cell_at start j) 0)) → in_cells value_of start.room words count k ≡ drop k log
+      → ((j : ℕ) → k ≤ j → j < length log → HasValue packs value_of log j (words_from start.width words (cell_at start j))) → in_cells value_of start.width start.room words count k ≡ drop k log
   cells_are words log zero k sum has = sym (drop_all k log (omega (arith, sum)))
   cells_are words log (suc count) k sum has =
-      ap (λ l. value_of (get_or words (cell_at start k) 0) ∷ l) (cells_are words log count (k + 1) (omega (arith, sum)) (λ j from less. has j (omega (arith, from)) less))
-      ∙ sym (drop_here k log (value_of (get_or words (cell_at start k) 0)) (has k (omega arith) (omega (arith, sum))).1)
+      ap (λ l. value_of (words_from start.width words (cell_at start k)) ∷ l) (cells_are words log count (k + 1) (omega (arith, sum)) (λ j from less. has j (omega (arith, from)) less))
+      ∙ sym (drop_here k log (value_of (words_from start.width words (cell_at start k))) (has k (omega arith) (omega (arith, sum))).1)
 
   -- a flow that was closed
   pub record Ended (k : SharedKnowledge T) (words : List ℕ) (emitted subscribers first : ℕ) : Type 0 where
     pub history : History T
-    pub stands : StandsForHistory shared_flow StandsAsClosed (began_as start) (closed_flow value_of start.room words emitted subscribers first) history
+    pub stands : StandsForHistory shared_flow StandsAsClosed (began_as start) (closed_flow value_of start.width start.room words emitted subscribers first) history
     pub fits : Fits history k
     pub within : first ≤ emitted
-    pub packed : (j : ℕ) → first ≤ j → j < emitted → packs (get_or words (head + j % start.room) 0)
+    pub packed : (j : ℕ) → first ≤ j → j < emitted → packs (words_from start.width words (cell_at start j))
 
   pub ends : (id : ℕ) (v : V) (ws : List ℕ) (xs : List Unit) → v ≡ only v ∷ [] → Final (Seen (RingHolds packs value_of start) id v) ws xs
       → (word subscribers mark emitted first : ℕ) → get_elem? ws 0 ≡ some word → get_elem? ws 2 ≡ some subscribers → get_elem? ws 3 ≡ some mark
@@ -123,6 +123,6 @@ module _ (T : Type 0) (packs : ℕ → Type 0) (value_of : ℕ → T) (start : R
       within : first ≤ emitted
       within = omega (arith, from, count, mark_is, usual.sound.placed.reset_mark)
 
-      has : (j : ℕ) → first ≤ j → j < length (values st) → HasValue packs value_of (values st) j (get_or ws (cell_at start j) 0)
-      has j a b = subst (λ l. HasValue packs value_of (values st) j (get_or l (cell_at start j) 0)) same
+      has : (j : ℕ) → first ≤ j → j < length (values st) → HasValue packs value_of (values st) j (words_from start.width ws (cell_at start j))
+      has j a b = subst (λ l. HasValue packs value_of (values st) j (words_from start.width l (cell_at start j))) same
           (r.words.cells j (omega (arith, b, length_values st)) (omega (arith, a, from, count)))

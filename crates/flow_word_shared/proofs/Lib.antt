@@ -1,10 +1,12 @@
 pub mod CacheSteps
+pub mod Cells
 pub mod Chains
 pub mod ConfirmSteps
 pub mod EmitSteps
 pub mod Keeps
 pub mod Masks
 pub mod Oldest
+pub mod Parts
 pub mod ReadSteps
 pub mod SeatSteps
 pub mod SubscribeSteps

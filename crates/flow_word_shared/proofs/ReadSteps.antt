@@ -31,11 +31,12 @@ use Rattle.flow_word_shared.specs.declared.view.RingKnown.{RingKnown}
 use Rattle.flow_word_shared.specs.declared.view.Hold.{Hold}
 use Rattle.flow_word_shared.specs.declared.view.Reads.{Reads}
 use Rattle.flow_word_shared.specs.declared.view.RingStart.{RingStart}
-use Rattle.flow_word_shared.specs.Rule.{capacity_of, cell_at, bit, HasValue, WordsFit, HoldFits, RingHolds}
-use Rattle.flow_word_shared.specs.Steps.{Stands, IsAt, IsFound, AreFound, log_after, StepCalls, StepSees, looks, reads_cell}
-use Rattle.flow_word_shared.specs.View.{SharedKnowledge, began_as, only, saw, reading}
+use Rattle.flow_word_shared.specs.Rule.{capacity_of, cell_at, words_from, bit, HasValue, WordsFit, HoldFits, RingHolds}
+use Rattle.flow_word_shared.specs.Steps.{Stands, IsAt, IsBegun, IsFound, AreFound, IsFoundPart, log_after, StepCalls, StepSees, looks, reads_part, reads_cell}
+use Rattle.flow_word_shared.specs.View.{SharedKnowledge, began_as, only, saw, reading, reading_part}
+use Rattle.flow_word_shared.proofs.Cells.{Once, begun_more, begun_whole}
 use Rattle.flow_word_shared.proofs.Oldest.{Usual, usual_after, length-move_to, stands_in_silence, next_empty, next_value, stands_next}
-use Rattle.flow_word_shared.proofs.Keeps.{same_some, same_hold, now, more_by, event_by, turned_by, turned, started, fits_at, event_step, quiet_by, sees_all, loaded}
+use Rattle.flow_word_shared.proofs.Keeps.{slice_get_left, same_some, same_hold, now, more_by, event_by, turned_by, turned, started, fits_at, event_step, quiet_by, sees_all, loaded}
 use Rattle.flow_word_shared.proofs.Finding.{found_grows, found_more}
 
 -- the list of a later history begins with that of an earlier one
@@ -57,7 +58,7 @@ at_grows {T} start oldest buffer lost k h number position is fits mine = record 
       (stands_in_silence T start.config oldest buffer number position k.name k.seen fits.0.0 (subst (IsSharedHistory start.config) fits.0.1 is) fits.0.2 mine.given mine.stands);
 }
 
-module _ (T : Type 0) (packs : ℕ → Type 0) (value_of : ℕ → T) (start : RingStart) where
+module _ (T : Type 0) (packs : List ℕ → Type 0) (value_of : List ℕ → T) (start : RingStart) where
   abbrev V : Type 0
   V = List (RingKnown T)
 
@@ -89,7 +90,7 @@ module _ (T : Type 0) (packs : ℕ → Type 0) (value_of : ℕ → T) (start : R
       (g.0, ap (log_after start) fits.0.1 ∙ g.1 ∙ ap (λ (z : RingStart). log_after z (only v).knows.seen ++ g.0) (sym (started T packs value_of start s r id v is at)))
 
   -- what was found in the cells, in the history of the rule
-  pub found_now : (s : St) (r : Rule s) (id : ℕ) (v : V) (p : ℕ) (ws : List ℕ) → v ≡ only v ∷ [] → get_elem? s.views id ≡ some v
+  pub found_now : (s : St) (r : Rule s) (id : ℕ) (v : V) (p : ℕ) (ws : List (List ℕ)) → v ≡ only v ∷ [] → get_elem? s.views id ≡ some v
       → AreFound packs value_of (capacity_of (only v).start) (log_after (only v).start (only v).knows.seen) p ws → AreFound packs value_of (capacity_of start) (log_after start r.history) p ws
   found_now s r id v p ws is at f = let grown = log_now s r id v is at in
       subst (λ (l : List T). AreFound packs value_of (capacity_of start) l p ws) (sym grown.1)
@@ -99,7 +100,7 @@ module _ (T : Type 0) (packs : ℕ → Type 0) (value_of : ℕ → T) (start : R
   -- a reader holds no lock bit
   pub holds_none : (s t : SharedFlowState T) (owner : Option (List ℕ)) (ahead : ℕ) (words : List ℕ) → length t.emitted ≡ length s.emitted → t.issued ≡ s.issued → t.reset_mark ≡ s.reset_mark
       → (y : RingKnown T) → HoldFits start s owner ahead words y.knows.name y.hold → HoldFits start t owner ahead words y.knows.name y.hold
-  holds_none s t owner ahead words count issued mark y f = same_hold start s t owner ahead words words y.knows.name y.hold count issued mark (λ _. refl) f
+  holds_none s t owner ahead words count issued mark y f = same_hold start s t owner ahead words words y.knows.name y.hold count issued mark (λ i from. refl) f
 
   -- a call of `next` that finds nothing
   looks_empty : (s : St) (r : Rule s) (id : ℕ) (me : Me Unit V) (x : Reads) → me.0 ≡ only me.0 ∷ [] → get_elem? s.views id ≡ some me.0 → IsAt start (saw (only me.0).knows.lost r.history (only me.0).knows) x.number x.position
@@ -171,12 +172,66 @@ module _ (T : Type 0) (packs : ℕ → Type 0) (value_of : ℕ → T) (start : R
           × ((only after.0).hold ≡ None) × ((only after.0).reads ≡ Some x) × (found / 2 ≡ length (log_after (only after.0).start (only after.0).knows.seen))
           × IsAt (only after.0).start (only after.0).knows x.number x.position
 
-  -- a load of the cell of the position after those whose cells it has read
-  pub reading_cell : (slots id : ℕ) (me : Me Unit V) (x : Reads) (i : ℕ) → me.0 ≡ only me.0 ∷ [] → (only me.0).reads ≡ Some x → IsAt (only me.0).start (only me.0).knows x.number x.position
+  -- what a load of a cell finds: the word of the value whose cells it reads
+  pub record Loaded (s : St) (r : Rule s) (id : ℕ) (me : Me Unit V) (x : Reads) (found : ℕ) : Type 0 where
+    pub at : IsAt start (saw ((only me.0).knows.lost + 0) r.history (only me.0).knows) x.number x.position
+    pub words : AreFound packs value_of (capacity_of start) (values (current r.history)) x.position x.words
+    pub there : x.position + length x.words < length (values (current r.history))
+    pub part : IsFoundPart packs value_of (capacity_of start) (values (current r.history)) (x.position + length x.words) (x.part ++ found ∷ [])
+    pub whole : length x.part + 1 ≡ start.width → length (values (current r.history)) ≤ x.position + length x.words + capacity_of start
+        → HasValue packs value_of (values (current r.history)) (x.position + length x.words) (x.part ++ found ∷ [])
+
+  load_finds : Once packs value_of → (s : St) (r : Rule s) (id : ℕ) (me : Me Unit V) (x : Reads) (i : ℕ) → me.0 ≡ only me.0 ∷ [] → get_elem? s.views id ≡ some me.0 → IsAt (only me.0).start (only me.0).knows x.number x.position
       → AreFound packs value_of (capacity_of (only me.0).start) (log_after (only me.0).start (only me.0).knows.seen) x.position x.words
-      → i ≡ cell_at start (x.position + length x.words) → x.position + length x.words < length (log_after (only me.0).start (only me.0).knows.seen)
-      → Allows Rule slots id me i (λ n. n) (reads_cell packs value_of (step slots i 0 0 none) me)
-  reading_cell slots id me x i is has old known place there s r n at small = (
+      → IsFoundPart packs value_of (capacity_of (only me.0).start) (log_after (only me.0).start (only me.0).knows.seen) (x.position + length x.words) x.part
+      → i ≡ cell_at start (x.position + length x.words) + length x.part → length x.part < start.width → x.position + length x.words < length (log_after (only me.0).start (only me.0).knows.seen)
+      → Loaded s r id me x (get_or s.words i 0)
+  load_finds once s r id me x i is at old known begun place less there = record {
+    at = is_now s r id v ((only v).knows.lost + 0) x.number x.position is at old;
+    words = found_now s r id v x.position x.words is at known;
+    there = there_now;
+    part = part_now;
+    whole = λ all kept. begun_whole packs value_of (values st) q start.width s.words (cell_at start q) (here kept) (x.part ++ found ∷ []) (length-append x.part (found ∷ []) ∙ all) (part_now kept);
+  }
+    where
+      found : ℕ
+      found = get_or s.words i 0
+
+      v : V
+      v = me.0
+
+      q : ℕ
+      q = x.position + length x.words
+
+      st : SharedFlowState T
+      st = current r.history
+
+      grown : (more : List T) × (log_after start r.history ≡ log_after (only v).start (only v).knows.seen ++ more)
+      grown = log_now s r id v is at
+
+      longer : length (values st) ≡ length (log_after (only v).start (only v).knows.seen) + length grown.0
+      longer = ap length grown.1 ∙ length-append (log_after (only v).start (only v).knows.seen) grown.0
+
+      there_now : q < length (values st)
+      there_now = omega (arith, there, longer)
+
+      here : length (values st) ≤ q + capacity_of start → HasValue packs value_of (values st) q (words_from start.width s.words (cell_at start q))
+      here kept = let count = length_values st in r.words.cells q (omega (arith, there_now, count)) (omega (arith, kept, count))
+
+      part_now : IsFoundPart packs value_of (capacity_of start) (values st) q (x.part ++ found ∷ [])
+      part_now kept =
+          let room = ap capacity_of (started T packs value_of start s r id v is at) in
+          let before : IsBegun packs value_of (values st) q x.part = λ w has.
+          begun (omega (arith, kept, longer, room)) w (has.0, sym (slice_get_left (log_after (only v).start (only v).knows.seen) grown.0 q there) ∙ ap (λ l. slice_get l q) (sym grown.1) ∙ has.1) in
+          subst (λ j. IsBegun packs value_of (values st) q (x.part ++ get_or s.words j 0 ∷ [])) (sym place) (begun_more packs value_of (values st) q start.width s.words (cell_at start q) once (here kept) x.part less before)
+
+  -- a load of a cell of the position after those whose cells it has read, which is not its last one
+  pub reading_part_of : Once packs value_of → (slots id : ℕ) (me : Me Unit V) (x : Reads) (i : ℕ) → me.0 ≡ only me.0 ∷ [] → (only me.0).reads ≡ Some x → IsAt (only me.0).start (only me.0).knows x.number x.position
+      → AreFound packs value_of (capacity_of (only me.0).start) (log_after (only me.0).start (only me.0).knows.seen) x.position x.words
+      → IsFoundPart packs value_of (capacity_of (only me.0).start) (log_after (only me.0).start (only me.0).knows.seen) (x.position + length x.words) x.part
+      → i ≡ cell_at start (x.position + length x.words) + length x.part → length x.part < start.width → x.position + length x.words < length (log_after (only me.0).start (only me.0).knows.seen)
+      → Allows Rule slots id me i (λ n. n) (reads_part packs value_of (step slots i 0 0 none) me)
+  reading_part_of once slots id me x i is has old known begun place less there s r n at small = (
     k ∷ [],
     keeps,
     tt,
@@ -185,9 +240,9 @@ module _ (T : Type 0) (packs : ℕ → Type 0) (value_of : ℕ → T) (start : R
       seen.1,
       refl,
       refl,
-      as_started s r id v (λ z. IsAt z k.knows x.number x.position) is at (is_now s r id v ((only v).knows.lost + 0) x.number x.position is at old),
-      as_started s r id v (λ z. AreFound packs value_of (capacity_of z) (log_after z r.history) x.position (x.words ++ found ∷ [])) is at
-          (found_more packs value_of (capacity_of start) (values st) x.position x.words found (found_now s r id v x.position x.words is at known) one),
+      as_started s r id v (λ z. IsAt z k.knows x.number x.position) is at all.at,
+      as_started s r id v (λ z. AreFound packs value_of (capacity_of z) (log_after z r.history) x.position x.words) is at all.words,
+      as_started s r id v (λ z. IsFoundPart packs value_of (capacity_of z) (log_after z r.history) (x.position + length x.words) (x.part ++ found ∷ [])) is at all.part,
     ),
   )
     where
@@ -197,11 +252,8 @@ module _ (T : Type 0) (packs : ℕ → Type 0) (value_of : ℕ → T) (start : R
       v : V
       v = me.0
 
-      st : SharedFlowState T
-      st = current r.history
-
       got : Reads
-      got = reading x.number x.position (x.words ++ found ∷ [])
+      got = reading_part x.number x.position x.words (x.part ++ found ∷ [])
 
       k : RingKnown T
       k = turned_by T packs value_of start ((only v).knows.lost + 0) (only v) r.history None (Some got)
@@ -209,19 +261,59 @@ module _ (T : Type 0) (packs : ℕ → Type 0) (value_of : ℕ → T) (start : R
       seen : Fits r.history (saw ((only v).knows.lost + 0) r.history (only v).knows) × StepSees 0 me (k ∷ [], me.1)
       seen = sees_all T packs value_of start s r id v me.1 0 None (Some got) is at
 
-      one : IsFound packs value_of (capacity_of start) (values st) (x.position + length x.words) found
-      one = let grown = log_now s r id v is at in let more = ap length grown.1 ∙ length-append (log_after (only v).start (only v).knows.seen) grown.0 in let count = length_values st in record {
-        there = omega (arith, there, more);
-        value = λ kept. subst (λ j. HasValue packs value_of (values st) (x.position + length x.words) (get_or s.words j 0)) (sym place)
-            (r.words.cells (x.position + length x.words) (omega (arith, there, more, count)) (omega (arith, kept, count)));
-      }
+      all : Loaded s r id me x found
+      all = load_finds once s r id me x i is at old known begun place less there
 
       Tells : Reads → Type 0
-      Tells z = StepSees 0 me (k ∷ [], me.1) × ◌≡◌ {A = Option Hold} None None × ◌≡◌ {A = Option Reads} (Some got) (Some (reading z.number z.position (z.words ++ found ∷ [])))
-          × IsAt (only v).start k.knows z.number z.position × AreFound packs value_of (capacity_of (only v).start) (log_after (only v).start r.history) z.position (z.words ++ found ∷ [])
+      Tells z = StepSees 0 me (k ∷ [], me.1) × ◌≡◌ {A = Option Hold} None None × ◌≡◌ {A = Option Reads} (Some got) (Some (reading_part z.number z.position z.words (z.part ++ found ∷ [])))
+          × IsAt (only v).start k.knows z.number z.position × AreFound packs value_of (capacity_of (only v).start) (log_after (only v).start r.history) z.position z.words
+          × IsFoundPart packs value_of (capacity_of (only v).start) (log_after (only v).start r.history) (z.position + length z.words) (z.part ++ found ∷ [])
+
+  -- a load of the last cell of that position
+  pub reading_cell : Once packs value_of → (slots id : ℕ) (me : Me Unit V) (x : Reads) (i : ℕ) → me.0 ≡ only me.0 ∷ [] → (only me.0).reads ≡ Some x → IsAt (only me.0).start (only me.0).knows x.number x.position
+      → AreFound packs value_of (capacity_of (only me.0).start) (log_after (only me.0).start (only me.0).knows.seen) x.position x.words
+      → IsFoundPart packs value_of (capacity_of (only me.0).start) (log_after (only me.0).start (only me.0).knows.seen) (x.position + length x.words) x.part
+      → i ≡ cell_at start (x.position + length x.words) + length x.part → length x.part + 1 ≡ start.width → x.position + length x.words < length (log_after (only me.0).start (only me.0).knows.seen)
+      → Allows Rule slots id me i (λ n. n) (reads_cell packs value_of (step slots i 0 0 none) me)
+  reading_cell once slots id me x i is has old known begun place whole there s r n at small = (
+    k ∷ [],
+    keeps,
+    tt,
+    loaded T packs value_of start s i _ (quiet_by T packs value_of start s r id v is at ((only v).knows.lost + 0) r.history r.owner r.ahead s.words None (Some got) seen.0 r.words tt (λ y ne g. g)),
+    λ x2 has2. subst (λ (z : Reads). Tells z) (same_some x x2 (sym has ∙ has2)) (
+      seen.1,
+      refl,
+      refl,
+      as_started s r id v (λ z. IsAt z k.knows x.number x.position) is at all.at,
+      as_started s r id v (λ z. AreFound packs value_of (capacity_of z) (log_after z r.history) x.position (x.words ++ (x.part ++ found ∷ []) ∷ [])) is at
+          (found_more packs value_of (capacity_of start) (log_after start r.history) x.position x.words (x.part ++ found ∷ []) all.words (record { there = all.there; value = all.whole whole })),
+    ),
+  )
+    where
+      found : ℕ
+      found = get_or s.words i 0
+
+      v : V
+      v = me.0
+
+      got : Reads
+      got = reading x.number x.position (x.words ++ (x.part ++ found ∷ []) ∷ [])
+
+      k : RingKnown T
+      k = turned_by T packs value_of start ((only v).knows.lost + 0) (only v) r.history None (Some got)
+
+      seen : Fits r.history (saw ((only v).knows.lost + 0) r.history (only v).knows) × StepSees 0 me (k ∷ [], me.1)
+      seen = sees_all T packs value_of start s r id v me.1 0 None (Some got) is at
+
+      all : Loaded s r id me x found
+      all = load_finds once s r id me x i is at old known begun place (omega (arith, whole)) there
+
+      Tells : Reads → Type 0
+      Tells z = StepSees 0 me (k ∷ [], me.1) × ◌≡◌ {A = Option Hold} None None × ◌≡◌ {A = Option Reads} (Some got) (Some (reading z.number z.position (z.words ++ (z.part ++ found ∷ []) ∷ [])))
+          × IsAt (only v).start k.knows z.number z.position × AreFound packs value_of (capacity_of (only v).start) (log_after (only v).start r.history) z.position (z.words ++ (z.part ++ found ∷ []) ∷ [])
 
   -- a call of `next` that gives the value that was found
-  unfoldable pub confirms_value : (s : St) (r : Rule s) (id : ℕ) (me : Me Unit V) (x : Reads) (word : ℕ) → me.0 ≡ only me.0 ∷ [] → get_elem? s.views id ≡ some me.0 → IsAt start (saw (only me.0).knows.lost r.history (only me.0).knows) x.number x.position
+  unfoldable pub confirms_value : (s : St) (r : Rule s) (id : ℕ) (me : Me Unit V) (x : Reads) (word : List ℕ) → me.0 ≡ only me.0 ∷ [] → get_elem? s.views id ≡ some me.0 → IsAt start (saw (only me.0).knows.lost r.history (only me.0).knows) x.number x.position
       → x.position < length (current r.history).emitted → length (current r.history).emitted ≤ x.position + capacity_of start → slice_get (values (current r.history)) x.position ≡ Some (value_of word)
       → let c : SharedCall T = call.TakeNext x.number in let y : SharedReply T = reply.Received (Value (value_of word)) in let k : RingKnown T = turned T packs value_of start (only me.0) (more_by T packs value_of start (only me.0) r.history c y) None (Some (reading x.number (x.position + 1) [])) in
       (Rule record { words = s.words; homes = s.homes; views = set s.views id (k ∷ []) } × StepCalls me c y (k ∷ [], me.1)) × ((current (more_by T packs value_of start (only me.0) r.history c y)).emitted ≡ (current r.history).emitted) × IsAt start k.knows x.number (x.position + 1)

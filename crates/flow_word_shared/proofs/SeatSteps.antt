@@ -1,6 +1,6 @@
 -- Steps without an event keep the rule of the table: the start, making a token through another one, and joining two tokens in one view and
 -- splitting it again.
-use Rattle.std.proofs.Common.{◌≡◌, ℕ, zero, suc, ◌+◌, List, [], ◌∷◌, ◌++◌, map, length, get_or, set, replicate, None, refl, sym, ap, ◌∙◌, subst, ⊎_elim, le_refl, arith}
+use Rattle.std.proofs.Common.{◌≡◌, ℕ, zero, suc, ◌+◌, ◌*◌, List, [], ◌∷◌, ◌++◌, map, length, get_or, set, replicate, None, refl, sym, ap, ◌∙◌, subst, ⊎_elim, le_refl, arith}
 use Rattle.std.specs.List.{AllByRecursion}
 use mathlib.Core.Option.{none, some}
 use lib.ListN.{get_elem?}
@@ -30,7 +30,7 @@ length_same : (z n : ℕ) → length (replicate n z) ≡ n
 length_same z zero = refl
 length_same z (suc n) = ap suc (length_same z n)
 
-module _ (T : Type 0) (packs : ℕ → Type 0) (value_of : ℕ → T) (start : RingStart) where
+module _ (T : Type 0) (packs : List ℕ → Type 0) (value_of : List ℕ → T) (start : RingStart) where
   abbrev V : Type 0
   V = List (RingKnown T)
 
@@ -40,7 +40,7 @@ module _ (T : Type 0) (packs : ℕ → Type 0) (value_of : ℕ → T) (start : R
   abbrev Rule : St → Type 0
   Rule = RingHolds packs value_of start
 
-  pub opens : (words : List ℕ) → IsStart start → config_fault start.config ≡ None → words ≡ replicate (head + start.room) 0 → Rule (opening words [] (first_ring_view start))
+  pub opens : (words : List ℕ) → IsStart start → config_fault start.config ≡ None → words ≡ replicate (head + start.room * start.width) 0 → Rule (opening words [] (first_ring_view start))
   opens words ok good zeros = record {
     starts = ok;
     history = [];
@@ -49,7 +49,7 @@ module _ (T : Type 0) (packs : ℕ → Type 0) (value_of : ℕ → T) (start : R
     owner = None;
     ahead = 0;
     words = record {
-      count = ap length zeros ∙ length_same 0 (head + start.room);
+      count = ap length zeros ∙ length_same 0 (head + start.room * start.width);
       word0 = at 0;
       few = omega arith;
       made = ap (λ n. n + 0) (at 1);
@@ -65,7 +65,7 @@ module _ (T : Type 0) (packs : ℕ → Type 0) (value_of : ℕ → T) (start : R
   }
     where
       at : (i : ℕ) → get_or words i 0 ≡ 0
-      at i = ap (λ l. get_or l i 0) zeros ∙ same_there 0 (head + start.room) i
+      at i = ap (λ l. get_or l i 0) zeros ∙ same_there 0 (head + start.room * start.width) i
 
       first : (i a : ℕ) (x : RingKnown T) → SeatAt (λ (v : V). v) (first_ring_view start ∷ []) i a x → (i ≡ 0) × (a ≡ 0) × (only {T = T} (first_ring_view start) ≡ x)
       first i a x p = let v = at_only (first_ring_view start) p.0 i p.1 in let one = at_only (only {T = T} (first_ring_view start)) x a (subst (λ (l : V). get_elem? l a ≡ some x) (sym v.1) p.2) in (v.0, one.0, one.1)

@@ -34,6 +34,7 @@ use Rattle.flow_word_shared.specs.Rule.{capacity_of, cell_at, HasValue, WordsFit
 use Rattle.flow_word_shared.specs.Steps.{Stands, IsAt, log_after, StepCalls, counts_mark, refuses_subscriber, runs_ahead, enrolls, resets, counts_live, leaves}
 use Rattle.flow_word_shared.specs.View.{began_as, with_hold, holding, reading, only, saw}
 use Rattle.flow_word_shared.proofs.Oldest.{Usual, usual_after, not_offering, no_queue, settle_still}
+use Rattle.flow_word_shared.proofs.Cells.{head_kept}
 use Rattle.flow_word_shared.proofs.Keeps.{same_some, no_other, same_hold, now, more_by, event_by, turned, started, fits_at, hold_at, event_step, quiet_step, loaded}
 use Rattle.flow_word_shared.proofs.ReadSteps.{is_now}
 
@@ -61,7 +62,7 @@ module _ {T : Type 0} where
   live_few config h = let st = shared_after_all (Rattle.flow_law.specs.flow.SharedFlow.first_state config) h in
       omega (arith, rises_few 0 st.issued (numbers_of st.subscribers) (always_in_order config h), length-map st.subscribers (λ (u : Subscriber T). u.number))
 
-module _ (T : Type 0) (packs : ℕ → Type 0) (value_of : ℕ → T) (start : RingStart) where
+module _ (T : Type 0) (packs : List ℕ → Type 0) (value_of : List ℕ → T) (start : RingStart) where
   abbrev V : Type 0
   V = List (RingKnown T)
 
@@ -107,13 +108,13 @@ module _ (T : Type 0) (packs : ℕ → Type 0) (value_of : ℕ → T) (start : R
         made = subst (λ m. m + length st.emitted ≡ st.issued + r.ahead) (sym (get_or-set_other s.words 2 1 new 0 (λ e. absurd (omega arith)))) w.made;
         live = get_or-set_same s.words 2 new 0 (omega arith) ∙ now_is;
         mark = get_or-set_other s.words 2 3 new 0 (λ e. absurd (omega arith)) ∙ w.mark;
-        cells = λ k a b. subst (HasValue packs value_of (Rattle.flow_law.specs.flow.SharedFlow.values st) k) (sym (get_or-set_other s.words 2 (cell_at start k) new 0 (λ e. absurd (omega arith)))) (w.cells k a b);
+        cells = λ k a b. subst (HasValue packs value_of (Rattle.flow_law.specs.flow.SharedFlow.values st) k) (sym (head_kept start.width start s.words 2 new k (omega arith))) (w.cells k a b);
         rested = w.rested;
       } in
       let done = event_step T packs value_of start s r id me.0 me.1 c y is at r.owner r.ahead (set s.words 2 new) None (Some x) replies here.given
       (subst (λ t. WordsFit packs value_of start t r.owner r.ahead (set s.words 2 new)) (sym then_is) fit) tt
       (λ z ne g. subst (λ t. HoldFits start t r.owner r.ahead (set s.words 2 new) z.knows.name z.hold) (sym then_is)
-      (same_hold start st (record (leave u st) { queue = [] }) r.owner r.ahead s.words (set s.words 2 new) z.knows.name z.hold refl refl refl (λ k. get_or-set_other s.words 2 (cell_at start k) new 0 (λ e. absurd (omega arith))) g)) in (
+      (same_hold start st (record (leave u st) { queue = [] }) r.owner r.ahead s.words (set s.words 2 new) z.knows.name z.hold refl refl refl (λ i from. get_or-set_other s.words 2 i new 0 (λ e. absurd (omega (arith, from, e)))) g)) in (
         turned T packs value_of start (only v) (more_by T packs value_of start (only v) r.history c y) None (Some x) ∷ [],
         keeps,
         tt,
@@ -164,14 +165,14 @@ module _ (T : Type 0) (packs : ℕ → Type 0) (value_of : ℕ → T) (start : R
         made = omega (arith, get_or-set_same s.words 1 new 0 (omega arith), issued, more, len);
         live = get_or-set_other s.words 1 2 new 0 (λ e. absurd (omega arith)) ∙ w.live;
         mark = get_or-set_other s.words 1 3 new 0 (λ e. absurd (omega arith)) ∙ w.mark;
-        cells = λ k a b. subst (HasValue packs value_of (Rattle.flow_law.specs.flow.SharedFlow.values st) k) (sym (get_or-set_other s.words 1 (cell_at start k) new 0 (λ e. absurd (omega arith)))) (w.cells k a b);
+        cells = λ k a b. subst (HasValue packs value_of (Rattle.flow_law.specs.flow.SharedFlow.values st) k) (sym (head_kept start.width start s.words 1 new k (omega arith))) (w.cells k a b);
         rested = λ free. let no : None ≡ Some name = sym free ∙ f.0 in absurd (cc);
       } in (
         turned T packs value_of start x x.knows.seen (Some h') x.reads ∷ [],
         keeps,
         tt,
         quiet_step T packs value_of start s r id me.0 is at x.knows.seen r.owner 1 (set s.words 1 new) (Some h') x.reads (fits_at T packs value_of start s r id me.0 is at) fit
-            (f.0, f.1, refl, f.3, f.4, subst (IsIfKnown h.cell) (sym (get_or-set_other s.words 1 (cell_at start h.length) new 0 (λ e. absurd (omega arith)))) f.5)
+            (f.0, f.1, refl, f.3, f.4, f.5 ∙ sym (head_kept (length h.cells) start s.words 1 new h.length (omega arith)))
             (λ y ne g. no_other start st st r.owner r.owner r.ahead 1 s.words (set s.words 1 new) name y.knows.name y.hold ne (inr f.0) g),
         λ h2 has2. ap (λ (z : Hold). (with_hold (Some (record z { ahead = 1 })) x ∷ [], me.1)) (same_some h h2 (sym has ∙ has2)),
       )
@@ -302,7 +303,7 @@ module _ (T : Type 0) (packs : ℕ → Type 0) (value_of : ℕ → T) (start : R
         made = omega (arith, get_or-set_other s.words 2 1 new 0 (λ e. absurd (omega arith)), made, ahead_is, ahead);
         live = get_or-set_same s.words 2 new 0 (omega arith) ∙ now_is;
         mark = get_or-set_other s.words 2 3 new 0 (λ e. absurd (omega arith)) ∙ w.mark;
-        cells = λ j a b. subst (HasValue packs value_of (Rattle.flow_law.specs.flow.SharedFlow.values st) j) (sym (get_or-set_other s.words 2 (cell_at start j) new 0 (λ e. absurd (omega arith)))) (w.cells j a b);
+        cells = λ j a b. subst (HasValue packs value_of (Rattle.flow_law.specs.flow.SharedFlow.values st) j) (sym (head_kept start.width start s.words 2 new j (omega arith))) (w.cells j a b);
         rested = λ _. refl;
       }
 
@@ -310,7 +311,7 @@ module _ (T : Type 0) (packs : ℕ → Type 0) (value_of : ℕ → T) (start : R
           × StepCalls (me.0, me.1) c y (turned T packs value_of start x h' (Some (holding h.length)) (Some got) ∷ [], me.1)
       done = event_step T packs value_of start s r id me.0 me.1 c y is at r.owner 0 (set s.words 2 new) (Some (holding h.length)) (Some got) replies tt
           (subst (λ t. WordsFit packs value_of start t r.owner 0 (set s.words 2 new)) (sym then_is) fit)
-          (subst (λ t. HoldFits start t r.owner 0 (set s.words 2 new) name (Some (holding h.length))) (sym then_is) (f.0, f.1, refl, tt, tt, tt))
+          (subst (λ t. HoldFits start t r.owner 0 (set s.words 2 new) name (Some (holding h.length))) (sym then_is) (f.0, f.1, refl, tt, tt, refl))
           (λ z ne g. no_other start st (after st c y) r.owner r.owner r.ahead 0 s.words (set s.words 2 new) name z.knows.name z.hold ne (inr f.0) g)
 
       -- what the play says, of a holder with this hold and these numbers
@@ -334,11 +335,11 @@ module _ (T : Type 0) (packs : ℕ → Type 0) (value_of : ℕ → T) (start : R
         made = subst (λ m. m + length st.emitted ≡ st.issued + r.ahead) (sym (get_or-set_other s.words 3 1 new 0 (λ e. absurd (omega arith)))) w.made;
         live = get_or-set_other s.words 3 2 new 0 (λ e. absurd (omega arith)) ∙ w.live;
         mark = get_or-set_same s.words 3 new 0 (omega arith) ∙ at_end ∙ f.1;
-        cells = λ j a b. subst (HasValue packs value_of (Rattle.flow_law.specs.flow.SharedFlow.values st) j) (sym (get_or-set_other s.words 3 (cell_at start j) new 0 (λ e. absurd (omega arith)))) (w.cells j a b);
+        cells = λ j a b. subst (HasValue packs value_of (Rattle.flow_law.specs.flow.SharedFlow.values st) j) (sym (head_kept start.width start s.words 3 new j (omega arith))) (w.cells j a b);
         rested = w.rested;
       } in
       let done = event_step T packs value_of start s r id me.0 me.1 c y is at r.owner r.ahead (set s.words 3 new) (Some (holding h.length)) x.reads refl tt fit
-      (f.0, f.1, sym none_ahead ∙ f.2, tt, tt, tt)
+      (f.0, f.1, sym none_ahead ∙ f.2, tt, tt, refl)
       (λ z ne g. no_other start st (forget st) r.owner r.owner r.ahead r.ahead s.words (set s.words 3 new) name z.knows.name z.hold ne (inr f.0) g) in (
         turned T packs value_of start x (more_by T packs value_of start x r.history c y) (Some (holding h.length)) x.reads ∷ [],
         keeps,

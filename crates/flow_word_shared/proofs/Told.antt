@@ -71,9 +71,9 @@ module _ {T : Type 0} where
   pub saw_overrun : (a b c : WordFlowToken T) → Saw 0 a b → IsOverrun b c → IsOverrun a c
   saw_overrun a b c one two = (two.0 ∙ one.0, sees_sees 0 1 a.knows b.knows c.knows one.1 two.1)
 
-  module _ (packs : ℕ → Type 0) (value_of : ℕ → T) (number p count : ℕ) (s t : Place T) where
+  module _ (packs : List ℕ → Type 0) (value_of : List ℕ → T) (number p count : ℕ) (s t : Place T) where
     -- one value
-    pub receives_one : (first : SharedFlowState T) (w : ℕ) → t.table_id ≡ s.table_id → began_as (only s.me.0).start ≡ first → Receives packs value_of number p count (w ∷ []) s.me t.me
+    pub receives_one : (first : SharedFlowState T) (w : List ℕ) → t.table_id ≡ s.table_id → began_as (only s.me.0).start ≡ first → Receives packs value_of number p count (w ∷ []) s.me t.me
         → packs w × CallsAtOnceIn shared_flow first (ring_token s) (call.TakeNext number) (reply.Received (Value (value_of w))) (ring_token t)
     receives_one first w table began r =
         let told = subst (λ (m : MeOf T). StepCalls r.between (call.TakeNext number) (reply.Received (Value (value_of w))) m) r.gives.2 r.gives.1 in (
@@ -93,17 +93,17 @@ module _ {T : Type 0} where
     receives_none table r = ((λ i. word_flow_id (table i) (r.start i)), subst (λ (m : MeOf T). SeesMore 1 (only s.me.0).knows (only m.0).knows) r.gives r.sees.0)
 
     -- where the subscriber then is
-    pub reads_on : (ws : List ℕ) → s.me ≡ (only s.me.0 ∷ [], []) → Receives packs value_of number p count ws s.me t.me
+    pub reads_on : (ws : List (List ℕ)) → s.me ≡ (only s.me.0 ∷ [], []) → Receives packs value_of number p count ws s.me t.me
         → IsReading t number (max p (count - capacity_of (only s.me.0).start) + length ws) [] count
     reads_on ws is r = ((still_one s.me t.me is r.one, r.hold), r.reads, r.stands, omega (arith, r.counted))
 
-  module _ (packs : ℕ → Type 0) (value_of : ℕ → T) (first : SharedFlowState T) (number : ℕ) (table : TableId) where
+  module _ (packs : List ℕ → Type 0) (value_of : List ℕ → T) (first : SharedFlowState T) (number : ℕ) (table : TableId) where
     -- the subscription whose seat has this view
     abbrev pub numbered_by : MeOf T → WordFlowNumbered T
     numbered_by me = numbered_token (token (word_flow_id table (only me.0).start) (only me.0).knows) number
 
     -- calls of `next` at one step, as those of a subscription
-    pub steps_give : (ws : List ℕ) (me after : MeOf T) → began_as (only me.0).start ≡ first → StepsGive packs value_of number me ws after → NextsGive (WordFlowNexts first) (numbered_by me) (map value_of ws) (numbered_by after)
+    pub steps_give : (ws : List (List ℕ)) (me after : MeOf T) → began_as (only me.0).start ≡ first → StepsGive packs value_of number me ws after → NextsGive (WordFlowNexts first) (numbered_by me) (map value_of ws) (numbered_by after)
     steps_give [] me after began folds = ap numbered_by folds
     steps_give (w ∷ ws) me after began folds = (
       numbered_by folds.0,
@@ -129,8 +129,8 @@ module _ {T : Type 0} where
   tried_gives first a b c v vs one number folds = (folds.0, tried_nexts first a b folds.0 (Ok (Value v)) one number folds.1, folds.2)
 
   -- what a load of word 0 told of the words that the buffer still has: calls of `next`, or the subscriber was overrun
-  module _ (packs : ℕ → Type 0) (value_of : ℕ → T) (first : SharedFlowState T) (number p count : ℕ) (a s t : Place T) (saw : Saw 0 (ring_token a) (ring_token s)) (table : t.table_id ≡ s.table_id) where
-    pub all_given : began_as (only s.me.0).start ≡ first → (ws : List ℕ) → length ws ≢ 0 → Receives packs value_of number p count ws s.me t.me
+  module _ (packs : List ℕ → Type 0) (value_of : List ℕ → T) (first : SharedFlowState T) (number p count : ℕ) (a s t : Place T) (saw : Saw 0 (ring_token a) (ring_token s)) (table : t.table_id ≡ s.table_id) where
+    pub all_given : began_as (only s.me.0).start ≡ first → (ws : List (List ℕ)) → length ws ≢ 0 → Receives packs value_of number p count ws s.me t.me
         → NextsGive (WordFlowNexts first) (numbered_token (ring_token a) number) (map value_of ws) (numbered_token (ring_token t) number)
     all_given began [] some r = absurd (some refl)
     all_given began (w ∷ ws) some r =
@@ -140,7 +140,7 @@ module _ {T : Type 0} where
         (subst (λ (z : TableId). NextsGive (WordFlowNexts first) mid (map value_of (w ∷ ws)) (numbered_token (token (word_flow_id z (only t.me.0).start) (only t.me.0).knows) number)) (sym table)
         (steps_give packs value_of first number s.table_id (w ∷ ws) r.between t.me (ap began_as r.sees.1 ∙ began) r.gives))
 
-    pub none_given : (ws : List ℕ) → length ws ≡ 0 → Receives packs value_of number p count ws s.me t.me → IsOverrun (ring_token a) (ring_token t)
+    pub none_given : (ws : List (List ℕ)) → length ws ≡ 0 → Receives packs value_of number p count ws s.me t.me → IsOverrun (ring_token a) (ring_token t)
     none_given [] none r = saw_overrun (ring_token a) (ring_token s) (ring_token t) saw (receives_none packs value_of number p count s t table r)
     none_given (w ∷ ws) none r = absurd (omega (arith, none))
 

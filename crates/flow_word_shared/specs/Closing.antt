@@ -1,11 +1,11 @@
 -- What contracts see of a flow that was closed. Begin with `WordFlowEndsAs`.
-use Rattle.std.specs.Prelude.{◌≡◌, ℕ, zero, suc, ◌+◌, ◌-◌, ◌%◌, List, [], ◌∷◌, length, slice_index_or}
+use Rattle.std.specs.Prelude.{◌≡◌, ℕ, zero, suc, ◌+◌, ◌-◌, ◌*◌, ◌%◌, List, [], ◌∷◌, length}
 use Rattle.flow_law.specs.declared.states.SharedFlowState.{SharedFlowState}
 use Rattle.flow_law.specs.history.Growth.{Fits}
 use Rattle.flow_law.specs.flow.SharedFlow.{cache}
 use Rattle.flow_law.specs.flow.SharedHistory.{History, shared_flow}
 use Rattle.flow_law.specs.flow.Standing.{StandsForHistory}
-use Rattle.flow_word_shared.specs.Rule.{head}
+use Rattle.flow_word_shared.specs.Rule.{head, words_from}
 use Rattle.flow_word_shared.specs.Tokens.{WordFlowToken}
 
 -- a closed flow: how many values were emitted, how many subscribers it has, and the replay cache
@@ -14,15 +14,16 @@ pub record ClosedFlow (T : Type 0) : Type 0 where
   pub subscribers : ℕ
   pub replay_cache : List T
 
--- the values that are packed in the cells of `count` positions, from this one on
-abbrev pub in_cells : {T : Type 0} → (ℕ → T) → (room : ℕ) → List ℕ → (count position : ℕ) → List T
-in_cells value_of room words zero position = []
-in_cells value_of room words (suc count) position = value_of (slice_index_or words (head + position % room) 0) ∷ in_cells value_of room words count (position + 1)
+-- the values in the cells of `count` positions, from this one on, each of so many words
+abbrev pub in_cells : {T : Type 0} → (List ℕ → T) → (width room : ℕ) → List ℕ → (count position : ℕ) → List T
+in_cells value_of width room words zero position = []
+in_cells value_of width room words (suc count) position =
+    value_of (words_from width words (head + position % room * width)) ∷ in_cells value_of width room words count (position + 1)
 
 -- the closed flow of these words, with the values from this position on as its replay cache
-abbrev pub closed_flow : {T : Type 0} → (ℕ → T) → (room : ℕ) → List ℕ → (emitted subscribers position : ℕ) → ClosedFlow T
-closed_flow value_of room words emitted subscribers position =
-    record { emitted = emitted; subscribers = subscribers; replay_cache = in_cells value_of room words (emitted - position) position }
+abbrev pub closed_flow : {T : Type 0} → (List ℕ → T) → (width room : ℕ) → List ℕ → (emitted subscribers position : ℕ) → ClosedFlow T
+closed_flow value_of width room words emitted subscribers position =
+    record { emitted = emitted; subscribers = subscribers; replay_cache = in_cells value_of width room words (emitted - position) position }
 
 -- the closed flow stands for the state: it has what the state has
 pub record StandsAsClosed {T : Type 0} (closed : ClosedFlow T) (s : SharedFlowState T) : Type 0 where

@@ -1,5 +1,5 @@
 -- What each step proves for its caller. Begin with `StepCalls`: a step that is the one event of a call.
-use Rattle.std.specs.Prelude.{◌≡◌, ◌≢◌, ℕ, ◌+◌, ◌-◌, ◌/◌, ◌<◌, ◌≤◌, max, Bool, true, false, List, [], ◌∷◌, ◌++◌, drop, map, length, Option, Some, None}
+use Rattle.std.specs.Prelude.{◌≡◌, ◌≢◌, ℕ, zero, suc, ◌+◌, ◌-◌, ◌/◌, ◌<◌, ◌≤◌, max, Bool, true, false, List, [], ◌∷◌, ◌++◌, take, drop, map, length, Option, Some, None}
 use Rattle.std.specs.List.{AllByRecursion, FoldsTo}
 use Rattle.atomic_table.specs.Table.{Me, Step}
 use Rattle.flow_law.specs.declared.call.SharedCall.{SharedCall}
@@ -22,7 +22,7 @@ use Rattle.flow_word_shared.specs.declared.view.Hold.{Hold}
 use Rattle.flow_word_shared.specs.declared.view.Reads.{Reads}
 use Rattle.flow_word_shared.specs.declared.view.RingStart.{RingStart}
 use Rattle.flow_word_shared.specs.Rule.{capacity_of, cell_at, HasValue}
-use Rattle.flow_word_shared.specs.View.{SharedKnowledge, began_as, ring_with_knows, with_hold, holding, reading, only}
+use Rattle.flow_word_shared.specs.View.{SharedKnowledge, began_as, ring_with_knows, with_hold, holding, reading, reading_part, only}
 
 -- no call: the token may have seen more, all of it by others, and this many of its attempts failed
 pub record SeesMore {T : Type 0} (failed : ℕ) (before after : SharedKnowledge T) : Type 0 where
@@ -46,24 +46,37 @@ pub record IsAt {T : Type 0} (start : RingStart) (k : SharedKnowledge T) (number
   pub given : IsGiven shared_flow k.name (subscriber number) k.seen
   pub stands : Stands number position (capacity_of start) (shared_after_all (began_as start) k.seen)
 
-module _ {T : Type 0} (packs : ℕ → Type 0) (value_of : ℕ → T) (c : ℕ) (log : List T) where
-  -- A word that was found in the cell of this position: of a buffer of c values it is the pack of the value at that position, unless the
+-- the words of the value at this position begin so
+abbrev pub IsBegun : {T : Type 0} → (List ℕ → Type 0) → (List ℕ → T) → List T → ℕ → List ℕ → Type 0
+IsBegun packs value_of log position part = (words : List ℕ) → HasValue packs value_of log position words → (rest : List ℕ) × (words ≡ part ++ rest)
+
+module _ {T : Type 0} (packs : List ℕ → Type 0) (value_of : List ℕ → T) (c : ℕ) (log : List T) where
+  -- Words that were found in the cells of this position: of a buffer of c values they are those of the value at that position, unless the
   -- buffer has moved on. `log` are the values emitted so far.
-  pub record IsFound (position word : ℕ) : Type 0 where
+  pub record IsFound (position : ℕ) (word : List ℕ) : Type 0 where
     pub there : position < length log
     pub value : length log ≤ position + c → HasValue packs value_of log position word
 
-  -- these words were found in the cells of this position and the next ones
-  abbrev pub AreFound : ℕ → List ℕ → Type 0
+  -- these words, of one value each, were found in the cells of this position and the next ones
+  abbrev pub AreFound : ℕ → List (List ℕ) → Type 0
   AreFound position [] = Unit {0}
   AreFound position (word ∷ words) = IsFound position word × AreFound (position + 1) words
 
+  -- These words were found in the first cells of this position: those of the value there begin so, unless the buffer has moved on.
+  abbrev pub IsFoundPart : ℕ → List ℕ → Type 0
+  IsFoundPart position part = length log ≤ position + c → IsBegun packs value_of log position part
+
+-- the words of `count` values, each of so many words
+abbrev pub values_of : (width count : ℕ) → List ℕ → List (List ℕ)
+values_of width zero words = []
+values_of width (suc count) words = take width words ∷ values_of width count (drop width words)
+
 -- of the words that were found from this position on, those whose values a buffer of c values still has, of `count` emitted ones
-abbrev pub still_kept : (c count position : ℕ) → List ℕ → List ℕ
+abbrev pub still_kept : (c count position : ℕ) → List (List ℕ) → List (List ℕ)
 still_kept c count position words = drop (count - c - position) words
 
 -- the attempt failed: another caller has overwritten all that was found
-abbrev pub failed_by : List ℕ → ℕ
+abbrev pub failed_by : List (List ℕ) → ℕ
 failed_by [] = 1
 failed_by (word ∷ words) = 0
 
@@ -105,23 +118,27 @@ module _ {T : Type 0} where
   counts_issued step before found after = (h : Hold) → (only before.0).hold ≡ Some h → h.ahead ≡ 0
       → Holds before (Some (record h { issued = Some (found + h.length) })) after × (found + h.length ≤ (only before.0).start.config.limit)
 
-  -- a store into the free cell, by the holder
+  -- a store into the next free cell, by the holder
   abbrev pub fills : Step Unit → MeOf T → ℕ → MeOf T → Type 0
-  fills step before found after = (h : Hold) → (only before.0).hold ≡ Some h → Holds before (Some (record h { cell = Some step.first })) after
+  fills step before found after = (h : Hold) → (only before.0).hold ≡ Some h → Holds before (Some (record h { cells = h.cells ++ step.first ∷ [] })) after
 
-  -- the same, if no number is left: a refused emission
-  abbrev pub refuses : (ℕ → T) → Bool → Step Unit → MeOf T → ℕ → MeOf T → Type 0
+  -- what the holder that has filled no cell knows after it has stored these words
+  abbrev pub Fills : MeOf T → List ℕ → MeOf T → Type 0
+  Fills before words after = (h : Hold) → (only before.0).hold ≡ Some h → Holds before (Some (record h { cells = words })) after
+
+  -- a load of the made subscriptions by the holder that has filled the free cells, if no number is left: a refused emission
+  abbrev pub refuses : (List ℕ → T) → Bool → Step Unit → MeOf T → ℕ → MeOf T → Type 0
   refuses value_of tries step before found after = (h : Hold) → (only before.0).hold ≡ Some h →
-      StepCalls before (emission_of tries (value_of step.first)) (Refused Exhausted) after × ((only after.0).hold ≡ Some (record h { cell = Some step.first }))
+      StepCalls before (emission_of tries (value_of h.cells)) (Refused Exhausted) after × ((only after.0).hold ≡ Some h)
 
   -- a store of word 0 by the holder, which gives up the lock bit: no event
   abbrev pub releases : Step Unit → MeOf T → ℕ → MeOf T → Type 0
   releases step before found after = Holds before None after
 
-  -- a store of word 0 by the holder, which gives up the lock bit: the value in the free cell is emitted
-  abbrev pub publishes : (ℕ → T) → Bool → Step Unit → MeOf T → ℕ → MeOf T → Type 0
-  publishes value_of tries step before found after = (h : Hold) (word : ℕ) → (only before.0).hold ≡ Some h → h.cell ≡ Some word →
-      StepCalls before (emission_of tries (value_of word)) (emission_done tries) after × ((only after.0).hold ≡ None) × ((only after.0).reads ≡ (only before.0).reads)
+  -- a store of word 0 by the holder, which gives up the lock bit: the value in the free cells is emitted
+  abbrev pub publishes : (List ℕ → T) → Bool → Step Unit → MeOf T → ℕ → MeOf T → Type 0
+  publishes value_of tries step before found after = (h : Hold) → (only before.0).hold ≡ Some h →
+      StepCalls before (emission_of tries (value_of h.cells)) (emission_done tries) after × ((only after.0).hold ≡ None) × ((only after.0).reads ≡ (only before.0).reads)
 
   -- a load of the reset mark, by the holder
   abbrev pub counts_mark : Step Unit → MeOf T → ℕ → MeOf T → Type 0
@@ -184,27 +201,39 @@ module _ {T : Type 0} where
   abbrev pub looks_back : Step Unit → MeOf T → ℕ → MeOf T → Type 0
   looks_back step before found after = (history : History T) × IsSharedHistory (only before.0).start.config history × IsTimed history × Fits history (only before.0).knows × (after ≡ before)
 
-module _ {T : Type 0} (packs : ℕ → Type 0) (value_of : ℕ → T) where
-  -- a load of the cell of a position of the buffer, by the holder, if the token has seen all values: no value was emitted since
+module _ {T : Type 0} (packs : List ℕ → Type 0) (value_of : List ℕ → T) where
+  -- A load of a cell of a position of the buffer, by the holder that has read those before it, if the token has seen all values: no value
+  -- was emitted since. After the last cell it has the words of the value.
   abbrev pub reads_held : Step Unit → MeOf T → ℕ → MeOf T → Type 0
-  reads_held step before found after = (h : Hold) (k : ℕ) → (only before.0).hold ≡ Some h → step.word ≡ cell_at (only before.0).start k
+  reads_held step before found after = (h : Hold) (k : ℕ) (part : List ℕ) → (only before.0).hold ≡ Some h → step.word ≡ cell_at (only before.0).start k + length part
+      → length part < (only before.0).start.width
       → h.length ≡ length (log_after (only before.0).start (only before.0).knows.seen) → k < h.length → h.length ≤ k + capacity_of (only before.0).start
-      → (after ≡ before) × HasValue packs value_of (log_after (only before.0).start (only before.0).knows.seen) k found
+      → IsBegun packs value_of (log_after (only before.0).start (only before.0).knows.seen) k part
+      → (after ≡ before) × IsBegun packs value_of (log_after (only before.0).start (only before.0).knows.seen) k (part ++ found ∷ [])
+      × (length part + 1 ≡ (only before.0).start.width → HasValue packs value_of (log_after (only before.0).start (only before.0).knows.seen) k (part ++ found ∷ []))
 
-  -- a load of a cell by a subscriber: that of the position after those whose cells it has read
+  -- a load of a cell by a subscriber, of the position after those whose cells it has read: not the last cell of that position
+  abbrev pub reads_part : Step Unit → MeOf T → ℕ → MeOf T → Type 0
+  reads_part step before found after = (x : Reads) → (only before.0).reads ≡ Some x →
+      StepSees 0 before after × ((only after.0).hold ≡ None) × ((only after.0).reads ≡ Some (reading_part x.number x.position x.words (x.part ++ found ∷ [])))
+      × IsAt (only after.0).start (only after.0).knows x.number x.position
+      × AreFound packs value_of (capacity_of (only after.0).start) (log_after (only after.0).start (only after.0).knows.seen) x.position x.words
+      × IsFoundPart packs value_of (capacity_of (only after.0).start) (log_after (only after.0).start (only after.0).knows.seen) (x.position + length x.words) (x.part ++ found ∷ [])
+
+  -- the same: the last cell of that position
   abbrev pub reads_cell : Step Unit → MeOf T → ℕ → MeOf T → Type 0
   reads_cell step before found after = (x : Reads) → (only before.0).reads ≡ Some x →
-      StepSees 0 before after × ((only after.0).hold ≡ None) × ((only after.0).reads ≡ Some (reading x.number x.position (x.words ++ found ∷ [])))
+      StepSees 0 before after × ((only after.0).hold ≡ None) × ((only after.0).reads ≡ Some (reading x.number x.position (x.words ++ (x.part ++ found ∷ []) ∷ [])))
       × IsAt (only after.0).start (only after.0).knows x.number x.position
-      × AreFound packs value_of (capacity_of (only after.0).start) (log_after (only after.0).start (only after.0).knows.seen) x.position (x.words ++ found ∷ [])
+      × AreFound packs value_of (capacity_of (only after.0).start) (log_after (only after.0).start (only after.0).knows.seen) x.position (x.words ++ (x.part ++ found ∷ []) ∷ [])
 
   -- calls of `next` by this subscriber, each one event, gave the values of these words in order
-  abbrev pub StepsGive : ℕ → MeOf T → List ℕ → MeOf T → Type 0
+  abbrev pub StepsGive : ℕ → MeOf T → List (List ℕ) → MeOf T → Type 0
   StepsGive number = FoldsTo (λ before word after. StepCalls before (TakeNext number) (Received (Value (value_of word))) after)
 
   -- what a subscriber does that takes the values of these words, when `count` values were emitted: the token sees more, and then come the
   -- calls. It then stands after the last of them, but within the buffer.
-  pub record Receives (number position count : ℕ) (words : List ℕ) (before after : MeOf T) : Type 0 where
+  pub record Receives (number position count : ℕ) (words : List (List ℕ)) (before after : MeOf T) : Type 0 where
     pub between : MeOf T
     pub sees : StepSees (failed_by words) before between
     pub gives : StepsGive number between words after
@@ -217,6 +246,6 @@ module _ {T : Type 0} (packs : ℕ → Type 0) (value_of : ℕ → T) where
     pub counted : count ≡ length (log_after (only after.0).start (only after.0).knows.seen)
 
   -- a load of word 0 by a subscriber that has read cells: it takes `chosen` of the values that the buffer still has
-  abbrev pub confirms : (List ℕ → List ℕ) → Step Unit → MeOf T → ℕ → MeOf T → Type 0
+  abbrev pub confirms : (List (List ℕ) → List (List ℕ)) → Step Unit → MeOf T → ℕ → MeOf T → Type 0
   confirms chosen step before found after = (x : Reads) → (only before.0).reads ≡ Some x →
       Receives x.number x.position (found / 2) (chosen (still_kept (capacity_of (only before.0).start) (found / 2) x.position x.words)) before after

@@ -44,8 +44,12 @@ module _ {T : Type 0} where
   abbrev pub IsHolding : Option Hold → Seat Unit (List (RingKnown T)) → Type 0
   IsHolding hold s = (s.me ≡ (only s.me.0 ∷ [], [])) × ((only s.me.0).hold ≡ hold)
 
+  -- the seat has one token, which has taken the lock bit at this many emitted values and filled no cell
+  abbrev pub IsFilling : Seat Unit (List (RingKnown T)) → ℕ → Type 0
+  IsFilling s count = (h : Hold) × IsHolding (Some h) s × (h.length ≡ count) × (h.cells ≡ [])
+
   -- the seat has one token, of a subscriber that reads next at this position; it found these words, and knows of this many emitted values
-  abbrev pub IsReading : Seat Unit (List (RingKnown T)) → ℕ → ℕ → List ℕ → ℕ → Type 0
+  abbrev pub IsReading : Seat Unit (List (RingKnown T)) → ℕ → ℕ → List (List ℕ) → ℕ → Type 0
   IsReading s number position words seen =
       IsHolding None s × ((only s.me.0).reads ≡ Some (reading number position words)) × IsAt (only s.me.0).start (only s.me.0).knows number position
       × (seen ≤ length (log_after (only s.me.0).start (only s.me.0).knows.seen))

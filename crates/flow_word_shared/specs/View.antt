@@ -20,15 +20,20 @@ SharedKnowledge T = Knowledge (Said (SharedCall T) (SharedReply T))
 
 -- no flow
 abbrev pub no_ring : RingStart
-no_ring = record { config = record { replay = 0; extra = 0; overflow = DropOldest; limit = 0 }; room = 0 }
+no_ring = record { config = record { replay = 0; extra = 0; overflow = DropOldest; limit = 0 }; room = 0; width = 0 }
 
 -- what a caller knows that has just taken the lock bit, at this number of emitted values
 abbrev pub holding : ℕ → Hold
-holding length = record { length = length; issued = None; mark = None; ahead = 0; cell = None }
+holding length = record { length = length; issued = None; mark = None; ahead = 0; cells = [] }
 
--- a subscriber at this position, and what it found in the cells of that position and the next ones
-abbrev pub reading : ℕ → ℕ → List ℕ → Reads
-reading number position words = record { number = number; position = position; words = words }
+-- a subscriber at this position, the words of the values that it found in the cells of that position and the next ones, and those of one
+-- more value that it has read so far
+abbrev pub reading_part : ℕ → ℕ → List (List ℕ) → List ℕ → Reads
+reading_part number position words part = record { number = number; position = position; words = words; part = part }
+
+-- the same, before it reads the cells of one more value
+abbrev pub reading : ℕ → ℕ → List (List ℕ) → Reads
+reading number position words = reading_part number position words []
 
 module _ {T : Type 0} where
   -- the state that a flow began with

@@ -1,5 +1,5 @@
 //! The replay cache.
-ghost use Rattle.std.specs.Prelude.{◌≡◌, ◌+◌, ◌-◌, ◌≤◌, ◌++◌, drop, take, IfSome, IfErr, None, true, false};
+ghost use Rattle.std.specs.Prelude.{◌≡◌, ◌+◌, ◌-◌, ◌<◌, ◌≤◌, ◌++◌, drop, take, slice_get, IfSome, IfErr, Some, None, true, false};
 ghost use Rattle.std.specs.Vec.{vec_len, vec_capacity};
 ghost use Rattle.flow_law.specs.declared.fault.FlowFault.TheVariants.{OutOfMemory};
 ghost use Rattle.flow_law.specs.declared.call.SharedCall.TheVariants as call;
@@ -14,15 +14,16 @@ ghost use Rattle.flow_word_shared.specs.Steps.{log_after};
 ghost use Rattle.flow_word_shared.specs.Tokens.{ring_token, HoldsAll};
 
 use crate::plays::{Cache, CountMark, ReadHeld, RefuseCache, Release, ResetMark, Take};
+use crate::reading::Pack;
 use crate::token::{HEAD, WordFlow, WordFlowSeat};
 use crate::view::RingKnown;
 use atomic_table::Seat;
-use flow_law::{FlowFault, Packed, Sequence};
+use flow_law::{FlowFault, Sequence, Words};
 use std::alloc::Global;
 use std::sync::Wait;
 use std::thread;
 
-impl<T: Packed> WordFlow<T> {
+impl<T: Words> WordFlow<T> {
     /// Reads word 0 again, for a call that tries once.
     #[inline(always)]
     pub(crate) fn look_up(&self, seat: &mut WordFlowSeat<T>)
@@ -82,6 +83,31 @@ impl<T: Packed> WordFlow<T> {
         Err(FlowFault::Busy)
     }
 
+    /// Loads the cells of a position of the buffer, for a caller that holds the lock bit. Returns the value there.
+    fn read_held(
+        &self,
+        seat: &mut Seat<(), Sequence<RingKnown<T>>>,
+        length: u64,
+        position: u64,
+    ) -> T
+        requires flow { (ring_token seat.old).table_id ≡ self.now.table_id }
+        requires held { HoldsAll seat.old length }
+        requires there { position < length }
+        requires kept { length ≤ position + capacity_of self.now.table_id.start }
+        ensures same { (seat.new.me ≡ seat.old.me) × (seat.new.table_id ≡ seat.old.table_id) }
+        ensures value { slice_get (log_after self.now.table_id.start (ring_token seat.old).knows.seen) position
+            ≡ Some result }
+    {
+        let width = T::WIDTH;
+        let first = HEAD + (position & self.mask) as usize * width;
+        let mut words = Pack::new();
+        for place in 0..width {
+            let word = self.table.shared.load::<ReadHeld>(seat, first + place);
+            words.push(word);
+        }
+        T::of_words(words.as_slice())
+    }
+
     /// Appends the values of the positions from `start` to before `length`, of a caller that holds the lock bit.
     fn copy_held(
         &self,
@@ -99,9 +125,7 @@ impl<T: Packed> WordFlow<T> {
             (drop start (log_after self.now.table_id.start (ring_token seat.old).knows.seen)) }
     {
         for k in start..length {
-            let cell = HEAD + (k & self.mask) as usize;
-            let word = self.table.shared.load::<ReadHeld>(seat, cell);
-            values.push_reserved(T::unpack(word));
+            values.push_reserved(self.read_held(seat, length, k));
         }
     }
 

@@ -1,16 +1,19 @@
 //! The end of a flow.
 ghost use Rattle.std.specs.Prelude.{◌≡◌, ◌+◌, ◌≤◌, ◌++◌, length, IfOk};
 ghost use Rattle.std.specs.Vec.{vec_len, vec_capacity};
+ghost use Rattle.std.specs.Mem.Slots.{slots_items, slots_len, IsFull};
 ghost use Rattle.flow_word_shared.specs.Closing.{WordFlowEndsAs};
+ghost use Rattle.flow_word_shared.specs.Rule.{words_from};
 
+use crate::reading::Pack;
 use crate::token::{HEAD, WordFlow, WordFlowSeat};
 use atomic_table::Closed;
-use flow_law::{OutOfMemory, Packed};
+use flow_law::{OutOfMemory, Words};
 use std::alloc::Global;
 use std::marker::{Model, PhantomData};
 
 /// A flow that was closed. Contracts see the number of emitted values, the number of subscribers and the replay cache.
-pub struct ClosedWordFlow<T: Packed> {
+pub struct ClosedWordFlow<T: Words> {
     closed: Closed<(), Global>,
     alloc: Global,
     room: u64,
@@ -21,25 +24,42 @@ pub struct ClosedWordFlow<T: Packed> {
     values: PhantomData<T>,
 }
 
-impl<T: Packed> Model for ClosedWordFlow<T> {
-    ghost use Rattle.std.specs.Prelude.{◌≡◌, ℕ, ◌+◌, ◌%◌, ◌<◌, ◌≤◌, ◌^◌, slice_index_or};
+impl<T: Words> Model for ClosedWordFlow<T> {
+    ghost use Rattle.std.specs.Prelude.{◌≡◌, ℕ, ◌+◌, ◌*◌, ◌%◌, ◌<◌, ◌≤◌, ◌^◌};
     ghost use Rattle.std.specs.Mem.Slots.{slots_items, slots_len, IsFull};
     ghost use Rattle.flow_word_shared.specs.Closing.{ClosedFlow, closed_flow};
-    ghost use Rattle.flow_word_shared.specs.Rule.{head};
+    ghost use Rattle.flow_word_shared.specs.Rule.{head, words_from};
 
     ghost Value = { ClosedFlow T };
 
-    ghost view = { λ c. closed_flow T.value_of c.room (slots_items c.closed.words) c.emitted c.subscribers c.first };
+    ghost view = { λ c. closed_flow T.value_in T.WIDTH c.room (slots_items c.closed.words) c.emitted c.subscribers c.first };
 
     ghost invariant = { λ c.
         (slots_len c.closed.slots ≡ 0) × IsFull c.closed.words
-        × (slots_len c.closed.words ≡ 4 + c.room) × (4 + c.room < 2 ^ 63) × (0 < c.room)
+        × (slots_len c.closed.words ≡ 4 + c.room * T.WIDTH) × (4 + c.room * T.WIDTH < 2 ^ 63)
+        × (0 < c.room)
         × (c.first ≤ c.emitted)
         × ((k : ℕ) → c.first ≤ k → k < c.emitted
-        → T.packs (slice_index_or (slots_items c.closed.words) (head + k % c.room) 0)) };
+        → T.are_words (words_from T.WIDTH (slots_items c.closed.words) (head + k % c.room * T.WIDTH))) };
 }
 
-impl<T: Packed> Drop for ClosedWordFlow<T> {
+/// Returns the value in the cells of a closed table from this one on.
+fn value_at<T: Words>(closed: &Closed<(), Global>, cell: usize) -> T
+    requires full { IsFull closed.now.words }
+    requires there { cell + T.WIDTH ≤ slots_len closed.now.words }
+    requires words { T.are_words (words_from T.WIDTH (slots_items closed.now.words) cell) }
+    ensures { result ≡ T.value_in (words_from T.WIDTH (slots_items closed.now.words) cell) }
+{
+    let width = T::WIDTH;
+    let mut words = Pack::new();
+    for place in 0..width {
+        let word = closed.word(cell + place);
+        words.push(word);
+    }
+    T::of_words(words.as_slice())
+}
+
+impl<T: Words> Drop for ClosedWordFlow<T> {
     fn drop(self) {
         let Self {
             closed,
@@ -54,7 +74,7 @@ impl<T: Packed> Drop for ClosedWordFlow<T> {
     }
 }
 
-impl<T: Packed> WordFlow<T> {
+impl<T: Words> WordFlow<T> {
     /// Ends the flow, and returns what it has then: the state to which all calls so far led.
     ///
     /// It adds no event to the history, does not wait and takes no memory. Call it when all threads have ended; the
@@ -91,7 +111,7 @@ impl<T: Packed> WordFlow<T> {
     }
 }
 
-impl<T: Packed> ClosedWordFlow<T> {
+impl<T: Words> ClosedWordFlow<T> {
     /// Returns how many values were emitted.
     pub fn emitted(&self) -> u64
         ensures { result ≡ self.now.emitted }
@@ -112,10 +132,10 @@ impl<T: Packed> ClosedWordFlow<T> {
         ensures { values.new.items ≡ values.old.items ++ self.now.replay_cache }
     {
         let first = self.first;
+        let width = T::WIDTH;
         for i in 0..self.emitted - first {
-            let cell = HEAD + ((first + i) % self.room) as usize;
-            let word = self.closed.word(cell);
-            values.push_reserved(T::unpack(word));
+            let cell = HEAD + ((first + i) % self.room) as usize * width;
+            values.push_reserved(value_at(&self.closed, cell));
         }
     }
 

@@ -1,5 +1,5 @@
 //! Taking all values that a subscriber can receive now.
-ghost use Rattle.std.specs.Prelude.{◌≡◌, ◌≢◌, ◌+◌, ◌-◌, ◌<◌, ◌≤◌, ◌^◌, ◌++◌, max, [], map, length, IfSome, IfErr, None, Some, Ok};
+ghost use Rattle.std.specs.Prelude.{◌≡◌, ◌≢◌, ◌+◌, ◌-◌, ◌*◌, ◌<◌, ◌≤◌, ◌^◌, ◌++◌, max, [], map, length, IfSome, IfErr, None, Some, Ok};
 ghost use Rattle.std.specs.List.{AllByRecursion};
 ghost use Rattle.std.specs.Result.{OnErr};
 ghost use Rattle.std.specs.Vec.{vec_len, vec_capacity};
@@ -10,6 +10,7 @@ ghost use Rattle.flow_law.specs.declared.outcome.Drained.TheVariants.{Gone};
 ghost use Rattle.flow_law.specs.declared.outcome.Next.TheVariants.{Empty};
 ghost use Rattle.flow_word_shared.specs.Answers.{IsOverrun, WordFlowNexts, NextsTaken};
 ghost use Rattle.flow_word_shared.specs.Rule.{capacity_of};
+ghost use Rattle.flow_word_shared.specs.Steps.{values_of};
 ghost use Rattle.flow_word_shared.specs.Tokens.{ring_token, IsReading};
 
 use crate::plays::ConfirmAll;
@@ -17,24 +18,28 @@ use crate::reading::AHEAD;
 use crate::token::{WordFlow, WordFlowSubscription};
 use crate::view::RingKnown;
 use atomic_table::Seat;
-use flow_law::{Drained, FlowFault, Next, Packed, Sequence};
+use flow_law::{Drained, FlowFault, Next, Sequence, Words};
 use std::alloc::Allocator;
 use std::sync::Wait;
 
-/// Appends the values of these words to a list that has room for them.
-fn unpack_all<T: Packed, B: Allocator>(words: &[u64], values: &mut Vec<T, B>)
-    requires packed { AllByRecursion T.packs words.now }
-    requires room { vec_len values.old + length words.now ≤ vec_capacity values.old }
-    ensures items { values.new.items ≡ values.old.items ++ map T.value_of words.now }
-    ensures room { (vec_len values.new ≡ vec_len values.old + length words.now)
+/// Appends the values of these words, `count` in all, to a list that has room for them.
+fn unpack_all<T: Words, B: Allocator>(words: &[u64], count: usize, values: &mut Vec<T, B>)
+    requires count { length words.now ≡ count * T.WIDTH }
+    requires packed { AllByRecursion T.are_words (values_of T.WIDTH count words.now) }
+    requires room { vec_len values.old + count ≤ vec_capacity values.old }
+    ensures items { values.new.items
+        ≡ values.old.items ++ map T.value_in (values_of T.WIDTH count words.now) }
+    ensures room { (vec_len values.new ≡ vec_len values.old + count)
         × (vec_capacity values.new ≡ vec_capacity values.old) }
 {
-    for i in 0..words.len() {
-        values.push_reserved(T::unpack(words[i]));
+    let width = T::WIDTH;
+    for i in 0..count {
+        let from = i * width;
+        values.push_reserved(T::of_words(&words[from..from + width]));
     }
 }
 
-impl<T: Packed> WordFlow<T> {
+impl<T: Words> WordFlow<T> {
     /// Loads the cells of the position and the next ones, and then word 0. Appends the values that the buffer still has: each
     /// is a `next`. Returns how many there are, and the number of emitted values.
     fn read_all<B: Allocator>(
@@ -49,7 +54,7 @@ impl<T: Packed> WordFlow<T> {
         requires flow { (ring_token seat.old).table_id ≡ self.now.table_id }
         requires reading { IsReading seat.old number position [] seen }
         requires there { position + count ≤ seen }
-        requires fits { (seen < 2 ^ 63) × (count ≤ 64) }
+        requires fits { (seen < 2 ^ 63) × (count * T.WIDTH ≤ 64) }
         requires room { vec_len values.old + count ≤ vec_capacity values.old }
         ensures count { (result.0 ≤ count) × (result.1 < 2 ^ 63) }
         ensures within { result.0 ≢ 0 →
@@ -70,9 +75,10 @@ impl<T: Packed> WordFlow<T> {
             .saturating_sub(self.capacity)
             .saturating_sub(position);
         let passed = passed.min(count as u64) as usize;
-        let kept = &words.as_slice()[passed..];
-        unpack_all(kept, values);
-        (kept.len(), length)
+        let kept = count - passed;
+        let width = T::WIDTH;
+        unpack_all(&words.as_slice()[passed * width..], kept, values);
+        (kept, length)
     }
 
     /// Tries once to take values, at most `most`. Returns how many it took: none if there is nothing to receive. Returns
@@ -110,7 +116,7 @@ impl<T: Packed> WordFlow<T> {
         if *seen <= *position {
             return Some(0);
         }
-        let count = (*seen - *position).min(most.min(AHEAD) as u64) as usize;
+        let count = (*seen - *position).min(most.min(AHEAD / T::WIDTH) as u64) as usize;
         let (taken, length) = self.read_all(seat, *number, *position, *seen, count, values);
         *seen = length;
         *position = (*position).max(length.saturating_sub(self.capacity)) + taken as u64;
@@ -188,7 +194,7 @@ impl<T: Packed> WordFlow<T> {
     /// Appends the values that the subscriber can receive now, at most `most`, to the list, as if by calls of `next`.
     /// `Ok` says why it stopped.
     ///
-    /// Up to 64 values, or all that the list has room for, are taken at one moment: use the same list again. It waits for
+    /// Values of up to 64 words, or all that the list has room for, are taken at one moment: use the same list again. It waits for
     /// no other caller. Where emitters have overwritten all cells that it read, it tries again as `next` does, and reads
     /// twice as many: a try fails only if at least as many values were emitted meanwhile as it read.
     ///

@@ -1,5 +1,5 @@
 //! Emitting.
-ghost use Rattle.std.specs.Prelude.{◌≡◌, IfErr, Ok, true, false};
+ghost use Rattle.std.specs.Prelude.{◌≡◌, take, length, IfErr, Ok, true, false};
 ghost use Rattle.flow_law.specs.declared.fault.FlowFault.TheVariants.{Exhausted};
 ghost use Rattle.flow_law.specs.declared.call.SharedCall.TheVariants as call;
 ghost use Rattle.flow_law.specs.declared.call.SharedReply.TheVariants as reply;
@@ -9,29 +9,60 @@ ghost use Rattle.flow_law.specs.flow.SharedHistory.{shared_flow};
 ghost use Rattle.flow_law.specs.history.Tokens.{IsBusy};
 ghost use Rattle.flow_law.specs.history.Promise.{CallsIn, CallsAtOnceIn};
 ghost use Rattle.flow_word_shared.specs.Answers.{WordEmitsNow};
-ghost use Rattle.flow_word_shared.specs.Steps.{emission_of, emission_done};
+ghost use Rattle.flow_word_shared.specs.Steps.{Fills, emission_of, emission_done};
+ghost use Rattle.flow_word_shared.specs.Tokens.{ring_token, IsFilling};
 
 use crate::plays::{CountIssued, Fill, Publish, Refuse, Release, Take};
 use crate::token::{HEAD, WordFlow, WordFlowSeat};
-use flow_law::{FlowFault, Packed, Refused};
+use crate::view::RingKnown;
+use atomic_table::Seat;
+use flow_law::{FlowFault, Refused, Sequence, Words};
 use std::sync::Wait;
 use std::thread;
 
-impl<T: Packed> WordFlow<T> {
+/// Returns the words of a value, without those that mean nothing.
+#[inline(always)]
+fn kept<T: Words>(words: &[u64; 4]) -> &[u64]
+    ensures kept { result.now ≡ take T.WIDTH words.now }
+    ensures width { length result.now ≡ T.WIDTH }
+{
+    &words[..T::WIDTH]
+}
+
+impl<T: Words> WordFlow<T> {
+    /// Stores the words of a value into the free cells, for a caller that holds the lock bit.
+    #[inline(always)]
+    fn fill(&self, seat: &mut Seat<(), Sequence<RingKnown<T>>>, position: u64, words: &[u64])
+        requires flow { (ring_token seat.old).table_id ≡ self.now.table_id }
+        requires width { length words.now ≡ T.WIDTH }
+        requires holds { IsFilling seat.old position }
+        ensures flow { seat.new.table_id ≡ seat.old.table_id }
+        ensures filled { Fills seat.old.me words.now seat.new.me }
+    {
+        let width = T::WIDTH;
+        let first = HEAD + (position & self.mask) as usize * width;
+        for place in 0..words.len() {
+            self.table
+                .shared
+                .store::<Fill>(seat, first + place, words[place]);
+        }
+    }
+
     /// Tries once to emit, by `try_emit` or by `emit`, and returns whether a number was left for the value. The error
     /// says that another emitter was faster, and whether it holds the lock bit.
     #[inline(always)]
     fn emit_once<const TRIES: bool>(
         &self,
         seat: &mut WordFlowSeat<T>,
-        word: u64,
+        words: &[u64],
     ) -> Result<bool, bool>
         requires flow { seat.old.table_id ≡ self.now.table_id }
-        requires packs { T.packs word }
+        requires words { T.are_words words.now }
+        requires width { length words.now ≡ T.WIDTH }
         ensures emitted { result ≡ Ok true → CallsAtOnceIn shared_flow self.now.first seat.old
-            (emission_of TRIES (T.value_of word)) (emission_done TRIES) seat.new }
+            (emission_of TRIES (T.value_in words.now)) (emission_done TRIES) seat.new }
         ensures refused { result ≡ Ok false → CallsAtOnceIn shared_flow self.now.first seat.old
-            (emission_of TRIES (T.value_of word)) (reply.Refused Exhausted) seat.new }
+            (emission_of TRIES (T.value_in words.now)) (reply.Refused Exhausted) seat.new }
         ensures lost { IfErr result (λ _. IsBusy seat.old seat.new) }
     {
         let expected = seat.expected;
@@ -44,13 +75,12 @@ impl<T: Packed> WordFlow<T> {
         }
         let length = expected / 2;
         let made = shared.load::<CountIssued>(&mut seat.seat, 1);
-        let cell = HEAD + (length & self.mask) as usize;
+        self.fill(&mut seat.seat, length, words);
         if made + length >= self.limit {
-            shared.store::<Refuse<TRIES>>(&mut seat.seat, cell, word);
+            shared.load::<Refuse<TRIES>>(&mut seat.seat, 1);
             shared.store::<Release>(&mut seat.seat, 0, expected);
             return Ok(false);
         }
-        shared.store::<Fill>(&mut seat.seat, cell, word);
         shared.store::<Publish<TRIES>>(&mut seat.seat, 0, expected + 2);
         seat.expected = expected + 2;
         self.readers.wake();
@@ -64,17 +94,18 @@ impl<T: Packed> WordFlow<T> {
         &self,
         rt: &R,
         seat: &mut WordFlowSeat<T>,
-        word: u64,
+        words: &[u64],
     ) -> bool
         requires flow { seat.old.table_id ≡ self.now.table_id }
-        requires packs { T.packs word }
+        requires words { T.are_words words.now }
+        requires width { length words.now ≡ T.WIDTH }
         ensures emitted { result ≡ true → CallsIn shared_flow self.now.first seat.old
-            (emission_of TRIES (T.value_of word)) (emission_done TRIES) seat.new }
+            (emission_of TRIES (T.value_in words.now)) (emission_done TRIES) seat.new }
         ensures refused { result ≡ false → CallsIn shared_flow self.now.first seat.old
-            (emission_of TRIES (T.value_of word)) (reply.Refused Exhausted) seat.new }
+            (emission_of TRIES (T.value_in words.now)) (reply.Refused Exhausted) seat.new }
     {
         for _ in rt.forever() {
-            match self.emit_once::<TRIES>(seat, word) {
+            match self.emit_once::<TRIES>(seat, words) {
                 Ok(emitted) => return emitted,
                 Err(is_locked) => {
                     if is_locked {
@@ -107,12 +138,13 @@ impl<T: Packed> WordFlow<T> {
         ensures refused { IfErr result (λ refused. refused.fault ≡ Exhausted) }
         ensures handed_back { IfErr result (λ refused. refused.value ≡ value) }
     {
-        let word = value.pack();
-        if self.emission::<R, false>(rt, seat, word) {
+        let all = value.words();
+        let words = kept::<T>(&all);
+        if self.emission::<R, false>(rt, seat, words) {
             return Ok(());
         }
         Err(Refused {
-            value: T::unpack(word),
+            value: T::of_words(words),
             fault: FlowFault::Exhausted,
         })
     }
@@ -136,12 +168,13 @@ impl<T: Packed> WordFlow<T> {
         ensures refused { IfErr result (λ refused. refused.fault ≡ Exhausted) }
         ensures handed_back { IfErr result (λ refused. refused.value ≡ value) }
     {
-        let word = value.pack();
-        if self.emission::<R, true>(rt, seat, word) {
+        let all = value.words();
+        let words = kept::<T>(&all);
+        if self.emission::<R, true>(rt, seat, words) {
             return Ok(true);
         }
         Err(Refused {
-            value: T::unpack(word),
+            value: T::of_words(words),
             fault: FlowFault::Exhausted,
         })
     }
@@ -153,14 +186,15 @@ impl<T: Packed> WordFlow<T> {
         ensures handed_back { IfErr result (λ refused. refused.value ≡ value) }
     {
         self.look_up(seat);
-        let word = value.pack();
-        let fault = match self.emit_once::<false>(seat, word) {
+        let all = value.words();
+        let words = kept::<T>(&all);
+        let fault = match self.emit_once::<false>(seat, words) {
             Ok(true) => return Ok(()),
             Ok(false) => FlowFault::Exhausted,
             Err(_is_locked) => FlowFault::Busy,
         };
         Err(Refused {
-            value: T::unpack(word),
+            value: T::of_words(words),
             fault,
         })
     }

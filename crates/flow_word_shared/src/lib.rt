@@ -1,16 +1,16 @@
-//! A shared flow that is read without a lock, for values that fit a word.
+//! A shared flow that is read without a lock, for values of one to four words.
 //!
 //! A `WordFlow` is a `MutableSharedFlow` of kotlinx.coroutines with `DROP_OLDEST`: a ring of words, and the number of values
-//! ever emitted. A subscriber keeps its own position. It loads the cell of that position and then the number of emitted
-//! values: if the buffer still has the position, the word in that cell is its value.
+//! ever emitted. A subscriber keeps its own position. It loads the cells of that position, one for each word of a value, and
+//! then the number of emitted values: if the buffer still has the position, the words in these cells are its value.
 //!
 //! # The lock bit
 //! Emitters, `subscribe`, `replay_cache` and `reset_replay_cache` take one bit for a few steps, and wait for each other.
 //! Subscribers never wait for it, nor do `unsubscribe` and `subscription_count`.
 //!
 //! # Overrun subscribers
-//! A subscriber that is a full buffer behind may be overrun between its two loads. It then reads more cells before it
-//! loads the number again: twice as many at each try, up to 64. A try fails only if emitters have overwritten all cells
+//! A subscriber that is a full buffer behind may be overrun between its loads. It then reads more values before it loads
+//! the number again: twice as many at each try, up to 64 words. A try fails only if emitters have overwritten all values
 //! that it read.
 //!
 //! # Waking

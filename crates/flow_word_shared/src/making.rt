@@ -13,7 +13,7 @@ use crate::plays::Make;
 use crate::token::{HEAD, WordFlow, WordFlowSeat, WordFlowSubscription};
 use crate::view::RingStart;
 use atomic_table::Table;
-use flow_law::{Config, FlowFault, Overflow, Packed};
+use flow_law::{Config, FlowFault, Overflow, Words};
 use flow_word::sleepers::WordSleepers;
 use std::alloc::Global;
 
@@ -23,12 +23,12 @@ const MOST_NUMBERS: u64 = (1 << 63) - 1;
 /// The largest buffer of a shared flow.
 const LARGEST_CAPACITY: u64 = 65_536;
 
-impl<T: Packed> WordFlow<T> {
+impl<T: Words> WordFlow<T> {
     /// Makes a flow, and its first seat. Every other seat is made through this one, directly or through other seats.
     ///
     /// It drops the oldest values, so the configuration needs a buffer and the strategy `DropOldest`. A limit of 2^63 or
-    /// more counts as 2^63 - 1. This call takes all memory that the flow needs: one word for each value of the buffer,
-    /// rounded up to a power of two above that, and four more.
+    /// more counts as 2^63 - 1. This call takes all memory that the flow needs: the words of as many
+    /// values as the buffer holds, rounded up to a power of two above that, and four more.
     ///
     /// # Errors
     /// `TooLarge` or `NeedsBuffer` as of a `SharedFlow`, else `Strategy` for another strategy, else `OutOfMemory`.
@@ -78,8 +78,13 @@ impl<T: Packed> WordFlow<T> {
             (λ fault. fault ≡ Flow OutOfMemory) }
     {
         let room = (capacity + 1).next_power_of_two();
-        let start = RingStart { config, room };
-        let Ok(words) = vec![in alloc; 0; HEAD + room as usize] else {
+        let width = T::WIDTH;
+        let start = RingStart {
+            config,
+            room,
+            width: width as u64,
+        };
+        let Ok(words) = vec![in alloc; 0; HEAD + room as usize * width] else {
             return Err(WordFlowFault::Flow(FlowFault::OutOfMemory));
         };
         match Table::of_words(alloc, words.as_slice(), &start) {

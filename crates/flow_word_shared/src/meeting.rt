@@ -17,10 +17,10 @@ use crate::plays::{Blank, LookBack, Meet, Observe, Part};
 use crate::token::{WordFlow, WordFlowSeat, WordFlowSubscription};
 use crate::view::RingKnown;
 use atomic_table::Seat;
-use flow_law::{Packed, Sequence};
+use flow_law::{Sequence, Words};
 use std::mem;
 
-impl<T: Packed> WordFlow<T> {
+impl<T: Words> WordFlow<T> {
     fn meet_by(
         &self,
         one: &mut Seat<(), Sequence<RingKnown<T>>>,

@@ -2,11 +2,11 @@
 ghost use Rattle.std.specs.Prelude.{[], ◌++◌, map, take};
 ghost use Rattle.flow_law.specs.history.Growth.{makes, child};
 ghost use Rattle.flow_word_shared.specs.View.{ring_with_knows, first_of_two, rest_of_two};
-ghost use Rattle.flow_word_shared.specs.Steps.{takes, counts_issued, fills, refuses, releases, publishes, counts_mark, refuses_subscriber, runs_ahead, enrolls, resets, counts_live, leaves, looks, reads_cell, confirms, caches, refuses_cache, reads_held, observes_all, looks_back};
+ghost use Rattle.flow_word_shared.specs.Steps.{takes, counts_issued, fills, refuses, releases, publishes, counts_mark, refuses_subscriber, runs_ahead, enrolls, resets, counts_live, leaves, looks, reads_part, reads_cell, confirms, caches, refuses_cache, reads_held, observes_all, looks_back};
 
 use crate::view::RingKnown;
 use atomic_table::{Join, Play, Split};
-use flow_law::{Packed, Sequence};
+use flow_law::{Sequence, Words};
 
 /// An exchange of word 0, which takes the lock bit.
 pub(crate) struct Take;
@@ -22,18 +22,18 @@ impl<T> Play<(), Sequence<RingKnown<T>>> for CountIssued {
     ghost then = { counts_issued };
 }
 
-/// A store into the free cell, by the holder.
+/// A store into the next free cell, by the holder.
 pub(crate) struct Fill;
 
 impl<T> Play<(), Sequence<RingKnown<T>>> for Fill {
     ghost then = { fills };
 }
 
-/// The same, if no number is left: a refused `try_emit`, or a refused `emit`.
+/// A load by the holder that has filled the free cells, if no number is left: a refused `try_emit`, or a refused `emit`.
 pub(crate) struct Refuse<const TRIES: bool>;
 
-impl<T: Packed, const TRIES: bool> Play<(), Sequence<RingKnown<T>>> for Refuse<TRIES> {
-    ghost then = { refuses T.value_of TRIES };
+impl<T: Words, const TRIES: bool> Play<(), Sequence<RingKnown<T>>> for Refuse<TRIES> {
+    ghost then = { refuses T.value_in TRIES };
 }
 
 /// A store of word 0 by the holder, without an event.
@@ -46,8 +46,8 @@ impl<T> Play<(), Sequence<RingKnown<T>>> for Release {
 /// A store of word 0 by the holder, which emits: a `try_emit`, or an `emit`.
 pub(crate) struct Publish<const TRIES: bool>;
 
-impl<T: Packed, const TRIES: bool> Play<(), Sequence<RingKnown<T>>> for Publish<TRIES> {
-    ghost then = { publishes T.value_of TRIES };
+impl<T: Words, const TRIES: bool> Play<(), Sequence<RingKnown<T>>> for Publish<TRIES> {
+    ghost then = { publishes T.value_in TRIES };
 }
 
 /// A load of word 0 by a subscriber that has read all it knows of.
@@ -57,25 +57,32 @@ impl<T> Play<(), Sequence<RingKnown<T>>> for Look {
     ghost then = { looks };
 }
 
-/// A load of a cell, by a subscriber.
+/// A load of a cell that is not the last one of its value, by a subscriber.
+pub(crate) struct ReadPart;
+
+impl<T: Words> Play<(), Sequence<RingKnown<T>>> for ReadPart {
+    ghost then = { reads_part T.are_words T.value_in };
+}
+
+/// A load of the last cell of a value, by a subscriber.
 pub(crate) struct ReadCell;
 
-impl<T: Packed> Play<(), Sequence<RingKnown<T>>> for ReadCell {
-    ghost then = { reads_cell T.packs T.value_of };
+impl<T: Words> Play<(), Sequence<RingKnown<T>>> for ReadCell {
+    ghost then = { reads_cell T.are_words T.value_in };
 }
 
 /// A load of word 0 by a subscriber that has read cells, for one `next`.
 pub(crate) struct Confirm;
 
-impl<T: Packed> Play<(), Sequence<RingKnown<T>>> for Confirm {
-    ghost then = { confirms T.packs T.value_of (take 1) };
+impl<T: Words> Play<(), Sequence<RingKnown<T>>> for Confirm {
+    ghost then = { confirms T.are_words T.value_in (take 1) };
 }
 
 /// A load of word 0 by a subscriber that has read cells, for a `next` of each value that it found.
 pub(crate) struct ConfirmAll;
 
-impl<T: Packed> Play<(), Sequence<RingKnown<T>>> for ConfirmAll {
-    ghost then = { confirms T.packs T.value_of (λ words. words) };
+impl<T: Words> Play<(), Sequence<RingKnown<T>>> for ConfirmAll {
+    ghost then = { confirms T.are_words T.value_in (λ words. words) };
 }
 
 /// Making a token through another one.
@@ -153,8 +160,8 @@ impl<T> Play<(), Sequence<RingKnown<T>>> for RefuseCache {
 /// A load of a cell of the replay cache, by the holder.
 pub(crate) struct ReadHeld;
 
-impl<T: Packed> Play<(), Sequence<RingKnown<T>>> for ReadHeld {
-    ghost then = { reads_held T.packs T.value_of };
+impl<T: Words> Play<(), Sequence<RingKnown<T>>> for ReadHeld {
+    ghost then = { reads_held T.are_words T.value_in };
 }
 
 /// A view of no token, in place of one that is taken out.

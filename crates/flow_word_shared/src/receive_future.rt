@@ -5,7 +5,7 @@ ghost use Rattle.futures.specs.Poll.{IfReady, OnPending};
 ghost use Rattle.flow_word_shared.specs.Receiving.{WordFlowGives, WordFlowPollsOnce};
 
 use crate::handles::WordFlowReader;
-use flow_law::Packed;
+use flow_law::Words;
 use futures::Future;
 use futures::task::{Context, Poll};
 use std::marker::Model;
@@ -20,11 +20,11 @@ use std::marker::Model;
 /// Dropping the future ends its subscription, as dropping its reader does. Its task may be woken once more. Call
 /// `into_reader` to get the reader back.
 #[derive(Drop)]
-pub struct WordReceiveFuture<'a, T: Packed> {
+pub struct WordReceiveFuture<'a, T: Words> {
     reader: Option<WordFlowReader<'a, T>>,
 }
 
-impl<'a, T: Packed> Model for WordReceiveFuture<'a, T> {
+impl<'a, T: Words> Model for WordReceiveFuture<'a, T> {
     ghost use Rattle.std.specs.Prelude.{Option};
     ghost use Rattle.flow_word_shared.specs.Handles.{WordFlowReaderOf};
 
@@ -33,7 +33,7 @@ impl<'a, T: Packed> Model for WordReceiveFuture<'a, T> {
     ghost view = { λ f. f.reader };
 }
 
-impl<'a, T: Packed> WordFlowReader<'a, T> {
+impl<'a, T: Words> WordFlowReader<'a, T> {
     /// Returns a future that waits for the next value, and is woken when there is one. Nothing is received before it is
     /// polled.
     pub fn into_receive(self) -> WordReceiveFuture<'a, T>
@@ -43,7 +43,7 @@ impl<'a, T: Packed> WordFlowReader<'a, T> {
     }
 }
 
-impl<'a, T: Packed> WordReceiveFuture<'a, T> {
+impl<'a, T: Words> WordReceiveFuture<'a, T> {
     /// Ends the future, and returns the reader, or `None` after `Ready`, when the output had it.
     pub fn into_reader(self) -> Option<WordFlowReader<'a, T>>
         ensures { result ≡ self.entry }
@@ -53,7 +53,7 @@ impl<'a, T: Packed> WordReceiveFuture<'a, T> {
     }
 }
 
-impl<'a, T: Packed> Future for WordReceiveFuture<'a, T> {
+impl<'a, T: Words> Future for WordReceiveFuture<'a, T> {
     type Output = (WordFlowReader<'a, T>, T);
 
     ghost gives = { λ f given. WordFlowGives f given };

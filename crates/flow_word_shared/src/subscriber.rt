@@ -10,10 +10,10 @@ ghost use Rattle.flow_word_shared.specs.Answers.{IsOverrun, WordNextsNow};
 
 use crate::reading::AHEAD;
 use crate::token::{WordFlow, WordFlowSubscription};
-use flow_law::{FlowFault, Next, Packed};
+use flow_law::{FlowFault, Next, Words};
 use std::sync::Wait;
 
-impl<T: Packed> WordFlow<T> {
+impl<T: Words> WordFlow<T> {
     /// Tries once to receive the next value. Returns `None` if emitters have overwritten it meanwhile.
     #[inline(always)]
     fn try_next(&self, subscription: &mut WordFlowSubscription<T>) -> Option<Next<T>>
@@ -36,18 +36,18 @@ impl<T: Packed> WordFlow<T> {
         if *seen <= *position {
             return Some(Next::Empty);
         }
-        let (word, length) = self.read(seat, *number, *position, *seen);
+        let (words, length) = self.read(seat, *number, *position, *seen);
         *seen = length;
         if length > *position + self.capacity {
             *position = length - self.capacity;
             return None;
         }
         *position += 1;
-        Some(Next::Value(T::unpack(word)))
+        Some(Next::Value(T::of_words(words.as_slice())))
     }
 
-    /// Tries once to receive the next value, and reads `ahead` cells for it. Returns `None` if emitters have overwritten all
-    /// of them meanwhile.
+    /// Tries once to receive the next value, and reads the cells of `ahead` values for it. Returns `None` if emitters have
+    /// overwritten all of them meanwhile.
     #[inline(never)]
     pub(crate) fn try_ahead(
         &self,
@@ -73,12 +73,12 @@ impl<T: Packed> WordFlow<T> {
         if *seen <= *position {
             return Some(Next::Empty);
         }
-        let count = (*seen - *position).min(ahead.min(AHEAD) as u64) as usize;
+        let count = (*seen - *position).min(ahead.min(AHEAD / T::WIDTH) as u64) as usize;
         match self.read_ahead(seat, *number, *position, *seen, count) {
-            Ok((word, length)) => {
+            Ok((value, length)) => {
                 *seen = length;
                 *position = (*position).max(length.saturating_sub(self.capacity)) + 1;
-                return Some(Next::Value(T::unpack(word)));
+                return Some(Next::Value(value));
             }
             Err(length) => {
                 *seen = length;
@@ -90,10 +90,10 @@ impl<T: Packed> WordFlow<T> {
 
     /// Returns the next value, or `Empty` if the subscriber has received all values.
     ///
-    /// A subscriber that is more than a buffer behind misses the oldest values. It waits for no other caller: it loads a
-    /// cell of the buffer and then the number of emitted values, and tries again if the value has left the buffer in
-    /// between. Each try reads twice as many cells as the one before, up to 64 or the whole buffer if that is less, and
-    /// fails only if at least as many values were emitted meanwhile.
+    /// A subscriber that is more than a buffer behind misses the oldest values. It waits for no other caller: it loads the
+    /// words of the value and then the number of emitted values, and tries again if the value has left the buffer in
+    /// between. Each try reads twice as many values as the one before, up to 64 words or the whole buffer if that is less,
+    /// and fails only if at least as many values were emitted meanwhile.
     ///
     /// # Source
     /// `SharedFlow.collect`: the next value that it emits.

@@ -12,11 +12,11 @@ use crate::plays::{
     Take,
 };
 use crate::token::{WordFlow, WordFlowSeat, WordFlowSubscription};
-use flow_law::{FlowFault, Packed};
+use flow_law::{FlowFault, Words};
 use std::sync::Wait;
 use std::thread;
 
-impl<T: Packed> WordFlow<T> {
+impl<T: Words> WordFlow<T> {
     /// Tries once to subscribe. Returns `None` if another caller was faster.
     fn try_subscribe(
         &self,

@@ -1,5 +1,5 @@
 //! A word flow, and the tokens of its callers.
-ghost use Rattle.std.specs.Prelude.{◌≡◌, ◌<◌, ◌^◌, ◌+◌, ◌%◌, [], None};
+ghost use Rattle.std.specs.Prelude.{◌≡◌, ◌<◌, ◌^◌, ◌+◌, ◌*◌, ◌%◌, [], None};
 ghost use Rattle.std.specs.Int.{IsPowerOfTwo};
 ghost use Rattle.flow_law.specs.history.Tokens.{origin, numbered_token};
 ghost use Rattle.flow_word_shared.specs.Rule.{IsStart, capacity_of};
@@ -9,7 +9,7 @@ ghost use Rattle.flow_word_shared.specs.Tokens.{WordFlowToken, WordFlowOrigin, W
 use crate::rule::WordFlowRule;
 use crate::view::{RingKnown, RingStart};
 use atomic_table::{Seat, Table};
-use flow_law::{Packed, Sequence};
+use flow_law::{Sequence, Words};
 use flow_word::sleepers::WordSleepers;
 use std::alloc::Global;
 use std::marker::Model;
@@ -17,16 +17,16 @@ use std::marker::Model;
 /// The number of words before the cells.
 pub(crate) const HEAD: usize = 4;
 
-/// A shared flow (`MutableSharedFlow` with `DROP_OLDEST`) of values that fit a word, for callers on several threads.
+/// A shared flow (`MutableSharedFlow` with `DROP_OLDEST`) of values of up to four words, for callers on several threads.
 /// Subscribers wait for no other caller, and store nothing into the flow.
 #[derive(Drop)]
-pub struct WordFlow<T: Packed> {
+pub struct WordFlow<T: Words> {
     /// Word 0 is twice the number of emitted values, plus one while a caller holds the lock bit. Word 1 is the number of
-    /// subscriptions ever made, word 2 the number of subscribers, word 3 the reset mark. The cells follow: the pack of the
-    /// value at position k is in the cell k mod `room`.
+    /// subscriptions ever made, word 2 the number of subscribers, word 3 the reset mark. The cells follow: the words of the
+    /// value at position k are in the cells from `WIDTH` times (k mod `room`) on.
     pub(crate) table: Table<(), Sequence<RingKnown<T>>, RingStart, WordFlowRule, Global>,
     pub(crate) alloc: Global,
-    /// The number of cells: a power of two, greater than `capacity`.
+    /// How many values the cells have room for: a power of two, greater than `capacity`.
     pub(crate) room: u64,
     /// `room` less 1.
     pub(crate) mask: u64,
@@ -37,17 +37,18 @@ pub struct WordFlow<T: Packed> {
     pub(crate) readers: WordSleepers,
 }
 
-impl<T: Packed> Model for WordFlow<T> {
+impl<T: Words> Model for WordFlow<T> {
     ghost Value = { WordFlowOrigin T };
 
     ghost view = { λ w. origin (word_flow_id w.table.shared.table_id w.table.shared.key) (began_as w.table.shared.key) };
 
     ghost invariant = { λ w.
-        (w.table.shared.table_id.words ≡ 4 + w.room) × IsStart w.table.shared.key
+        (w.table.shared.table_id.words ≡ 4 + w.room * T.WIDTH) × IsStart w.table.shared.key
         × (w.table.shared.key.room ≡ w.room) × (capacity_of w.table.shared.key ≡ w.capacity)
         × (w.table.shared.key.config.replay ≡ w.replay) × (w.table.shared.key.config.limit ≡ w.limit)
-        × (4 + w.room < 2 ^ 63) × (w.capacity < w.room)
-        × IsPowerOfTwo w.room × (w.mask + 1 ≡ w.room) × (w.table.shared.table_id.slots ≡ 0) };
+        × (4 + w.room * T.WIDTH < 2 ^ 63) × (w.capacity < w.room)
+        × IsPowerOfTwo w.room × (w.mask + 1 ≡ w.room) × (w.table.shared.table_id.slots ≡ 0)
+        × (w.table.shared.key.width ≡ T.WIDTH) };
 }
 
 /// A seat at a word flow, by which a caller calls the flow. Contracts see the history that it has seen.
@@ -93,7 +94,7 @@ impl<T> WordFlowSeat<T> {
 ///
 /// A dropped subscription stays, and still counts; its seat is lost. Call `unsubscribe` to end it.
 #[derive(Drop)]
-pub struct WordFlowSubscription<T: Packed> {
+pub struct WordFlowSubscription<T: Words> {
     pub(crate) seat: Seat<(), Sequence<RingKnown<T>>>,
     pub(crate) number: u64,
     pub(crate) position: u64,
@@ -102,7 +103,7 @@ pub struct WordFlowSubscription<T: Packed> {
     pub(crate) has_left_waker: bool,
 }
 
-impl<T: Packed> Model for WordFlowSubscription<T> {
+impl<T: Words> Model for WordFlowSubscription<T> {
     ghost Value = { WordFlowNumbered T };
 
     ghost view = { λ s. numbered_token (ring_token s.seat) s.number };
@@ -111,7 +112,7 @@ impl<T: Packed> Model for WordFlowSubscription<T> {
         IsReading s.seat s.number s.position [] s.seen × (s.position < 2 ^ 63) × (s.seen < 2 ^ 63) };
 }
 
-impl<T: Packed> WordFlowSubscription<T> {
+impl<T: Words> WordFlowSubscription<T> {
     /// Notes that a task leaves its waker under the subscription's number, and returns the number.
     pub(crate) fn note_waker(&mut self) -> u64
         ensures { self.new ≡ self.old }

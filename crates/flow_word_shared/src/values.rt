@@ -8,7 +8,7 @@ ghost use Rattle.flow_word.specs.Receiving.{WordYields};
 ghost use Rattle.flow_word_shared.specs.Receiving.{WordFlowPolls, WordFlowPollsItem};
 
 use crate::handles::WordFlowReader;
-use flow_law::Packed;
+use flow_law::Words;
 use futures::Stream;
 use futures::task::{Context, Poll};
 use std::marker::Model;
@@ -26,11 +26,11 @@ use std::marker::Model;
 /// # Source
 /// `SharedFlow.collect`.
 #[derive(Drop)]
-pub struct WordFlowValues<'a, T: Packed> {
+pub struct WordFlowValues<'a, T: Words> {
     reader: WordFlowReader<'a, T>,
 }
 
-impl<'a, T: Packed> Model for WordFlowValues<'a, T> {
+impl<'a, T: Words> Model for WordFlowValues<'a, T> {
     ghost use Rattle.flow_word_shared.specs.Handles.{WordFlowReaderOf};
 
     ghost Value = { WordFlowReaderOf T };
@@ -38,7 +38,7 @@ impl<'a, T: Packed> Model for WordFlowValues<'a, T> {
     ghost view = { λ v. v.reader };
 }
 
-impl<'a, T: Packed> WordFlowReader<'a, T> {
+impl<'a, T: Words> WordFlowReader<'a, T> {
     /// Returns the values that the subscriber receives, as a stream that is woken.
     pub fn into_stream(self) -> WordFlowValues<'a, T>
         ensures { result ≡ self.entry }
@@ -47,7 +47,7 @@ impl<'a, T: Packed> WordFlowReader<'a, T> {
     }
 }
 
-impl<'a, T: Packed> WordFlowValues<'a, T> {
+impl<'a, T: Words> WordFlowValues<'a, T> {
     /// Ends the stream, and returns the reader.
     pub fn into_reader(self) -> WordFlowReader<'a, T>
         ensures { result ≡ self.entry }
@@ -68,7 +68,7 @@ impl<'a, T: Packed> WordFlowValues<'a, T> {
     }
 }
 
-impl<'a, T: Packed> Stream for WordFlowValues<'a, T> {
+impl<'a, T: Words> Stream for WordFlowValues<'a, T> {
     type Item = T;
 
     ghost yields = { λ v values next. WordYields shared_flow v.flow.first v.subscription values next };

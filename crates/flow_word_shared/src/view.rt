@@ -3,11 +3,12 @@ ghost use Rattle.std.specs.Prelude.{◌≡◌};
 
 use flow_law::{Config, Knowledge, Said, Sequence, SharedCall, SharedReply};
 
-/// The configuration of a flow, and how many cells its ring has.
+/// The configuration of a flow, how many positions its ring has room for, and how many words its values have.
 #[derive(Clone, Copy)]
 pub struct RingStart {
     pub config: Config,
     pub room: u64,
+    pub width: u64,
 }
 
 /// What a caller that holds the lock bit knows.
@@ -20,16 +21,17 @@ pub struct Hold {
     pub mark: Option<u64>,
     /// The word of made subscriptions is this much ahead.
     pub ahead: u64,
-    /// What the caller stored in the free cell.
-    pub cell: Option<u64>,
+    /// What the caller stored in the free cells.
+    pub cells: Sequence<u64>,
 }
 
 /// A subscriber's number, the position of the value that it reads next, and what it found in the cells of that position
-/// and the next ones, since its last call.
+/// and the next ones, since its last call: the words of each value, and those that it has read of one more.
 pub struct Reads {
     pub number: u64,
     pub position: u64,
-    pub words: Sequence<u64>,
+    pub words: Sequence<Sequence<u64>>,
+    pub part: Sequence<u64>,
 }
 
 /// What one token knows, the start of its flow, what it holds, and what it reads as a subscriber.

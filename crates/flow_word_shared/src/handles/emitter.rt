@@ -19,7 +19,7 @@ ghost use Rattle.flow_word_shared.specs.Answers.{WordEmitsNow, WordResetsNow};
 
 use super::reader::WordFlowReader;
 use crate::token::{WordFlow, WordFlowSeat};
-use flow_law::{Busy, Exhausted, OutOfMemory, Packed, Refused, Rejected};
+use flow_law::{Busy, Exhausted, OutOfMemory, Refused, Rejected, Words};
 use std::alloc::Global;
 use std::marker::Model;
 use std::sync::Wait;
@@ -28,19 +28,19 @@ use std::sync::Wait;
 ///
 /// # Dropping
 /// Dropping it drops its seat: no call is made under its name any more, and the flow does not change.
-pub struct WordEmitter<'a, T: Packed> {
+pub struct WordEmitter<'a, T: Words> {
     pub(crate) flow: &'a WordFlow<T>,
     pub(crate) seat: WordFlowSeat<T>,
 }
 
 // Not derived, for the reason given at `WordFlowSeat`.
-impl<T: Packed> Drop for WordEmitter<'_, T> {
+impl<T: Words> Drop for WordEmitter<'_, T> {
     fn drop(self) {
         let Self { flow: _, seat: _ } = self;
     }
 }
 
-impl<'a, T: Packed> Model for WordEmitter<'a, T> {
+impl<'a, T: Words> Model for WordEmitter<'a, T> {
     ghost use Rattle.std.specs.Prelude.{◌≡◌};
     ghost use Rattle.flow_law.specs.history.Handles.{called_by};
     ghost use Rattle.flow_word_shared.specs.Handles.{WordFlowCallerOf};
@@ -52,7 +52,7 @@ impl<'a, T: Packed> Model for WordEmitter<'a, T> {
     ghost invariant = { λ c. c.seat.table_id ≡ c.flow.now.table_id };
 }
 
-impl<T: Packed> WordFlow<T> {
+impl<T: Words> WordFlow<T> {
     /// Binds a seat to its flow.
     pub fn emitter(&self, seat: WordFlowSeat<T>) -> WordEmitter<'_, T>
         requires { seat.table_id ≡ self.now.table_id }
@@ -62,7 +62,7 @@ impl<T: Packed> WordFlow<T> {
     }
 }
 
-impl<'a, T: Packed> WordEmitter<'a, T> {
+impl<'a, T: Words> WordEmitter<'a, T> {
     pub(crate) fn new(flow: &'a WordFlow<T>, seat: WordFlowSeat<T>) -> WordEmitter<'a, T>
         requires { seat.table_id ≡ flow.now.table_id }
         ensures { result ≡ called_by flow.now seat }

@@ -20,7 +20,7 @@ ghost use Rattle.flow_word_shared.specs.Answers.{WordFlowNexts, WordNextsNow};
 
 use super::emitter::WordEmitter;
 use crate::token::{WordFlow, WordFlowSubscription};
-use flow_law::{Busy, Drained, Next, OutOfMemory, Packed};
+use flow_law::{Busy, Drained, Next, OutOfMemory, Words};
 use std::alloc::Allocator;
 use std::marker::Model;
 use std::sync::Wait;
@@ -29,19 +29,19 @@ use std::sync::Wait;
 ///
 /// # Dropping
 /// Dropping the reader ends its subscription, as `unsubscribe` does.
-pub struct WordFlowReader<'a, T: Packed> {
+pub struct WordFlowReader<'a, T: Words> {
     pub(crate) flow: &'a WordFlow<T>,
     pub(crate) subscription: WordFlowSubscription<T>,
 }
 
-impl<T: Packed> Drop for WordFlowReader<'_, T> {
+impl<T: Words> Drop for WordFlowReader<'_, T> {
     fn drop(self) {
         let Self { flow, subscription } = self;
         let _seat = flow.unsubscribe(subscription);
     }
 }
 
-impl<'a, T: Packed> Model for WordFlowReader<'a, T> {
+impl<'a, T: Words> Model for WordFlowReader<'a, T> {
     ghost use Rattle.std.specs.Prelude.{◌≡◌};
     ghost use Rattle.flow_law.specs.history.Handles.{read_by};
     ghost use Rattle.flow_word_shared.specs.Handles.{WordFlowReaderOf};
@@ -65,7 +65,7 @@ fn given<T>(next: Next<T>) -> Option<T>
     }
 }
 
-impl<T: Packed> WordFlow<T> {
+impl<T: Words> WordFlow<T> {
     /// Binds a subscription to its flow.
     pub fn reader(&self, subscription: WordFlowSubscription<T>) -> WordFlowReader<'_, T>
         requires { subscription.token.table_id ≡ self.now.table_id }
@@ -75,7 +75,7 @@ impl<T: Packed> WordFlow<T> {
     }
 }
 
-impl<'a, T: Packed> WordFlowReader<'a, T> {
+impl<'a, T: Words> WordFlowReader<'a, T> {
     pub(crate) fn new(
         flow: &'a WordFlow<T>,
         subscription: WordFlowSubscription<T>,

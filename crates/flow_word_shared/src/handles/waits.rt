@@ -7,19 +7,19 @@ ghost use Rattle.flow_word_shared.specs.Handles.{WordFlowReaderOf};
 ghost use Rattle.flow_word_shared.specs.Receiving.{WordFlowPolls};
 
 use super::reader::WordFlowReader;
-use flow_law::Packed;
+use flow_law::Words;
 use flow_sleepers::Limit;
 use flow_word::sleepers::Sleeper;
 use futures::task::{Context, Poll};
 use std::sync::Wait;
 use std::time::{Clock, Duration};
 
-impl<'a, T: Packed> Sleeper for WordFlowReader<'a, T> {
+impl<'a, T: Words> Sleeper for WordFlowReader<'a, T> {
     ghost has_looked = { λ before now. FindsNone shared_flow
         before.flow.first before.subscription now.subscription };
 }
 
-impl<'a, T: Packed> WordFlowReader<'a, T> {
+impl<'a, T: Words> WordFlowReader<'a, T> {
     /// Takes the next value if there is one.
     fn look<R: Wait>(&mut self, rt: &R) -> Option<T>
         ensures flow { self.new.flow ≡ self.old.flow }

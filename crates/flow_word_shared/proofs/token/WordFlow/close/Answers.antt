@@ -1,4 +1,4 @@
-use Rattle.std.proofs.Common.{◌≡◌, ℕ, ◌+◌, ◌-◌, ◌/◌, ◌%◌, refl, ap, sym, subst, get_or, ◌∙◌, arith}
+use Rattle.std.proofs.Common.{◌≡◌, ℕ, ◌+◌, ◌-◌, ◌*◌, ◌/◌, ◌%◌, refl, ap, sym, subst, ◌∙◌, arith}
 use Rattle.std.specs.Prelude.{max}
 use Rattle.std.specs.Mem.Slots.{slots_items}
 use Rattle.flow_law.specs.declared.states.SharedFlowState.{SharedFlowState}
@@ -6,7 +6,7 @@ use Rattle.flow_law.specs.history.Growth.{Fits}
 use Rattle.flow_law.specs.flow.SharedHistory.{shared_flow}
 use Rattle.flow_law.specs.flow.Standing.{StandsForHistory}
 use Rattle.flow_word_shared.specs.Closing.{StandsAsClosed, closed_flow}
-use Rattle.flow_word_shared.specs.Rule.{head}
+use Rattle.flow_word_shared.specs.Rule.{head, words_from}
 use Rattle.flow_word_shared.specs.View.{only}
 use Rattle.flow_word_shared.proofs.LastState.{Ended, ends}
 use Rattle.flow_word_shared.proofs.token.WordFlow.close.Goals as goal
@@ -14,7 +14,7 @@ use Rattle.flow_word_shared.proofs.token.WordFlow.close.Goals.{After-max-first}
 
 -- what the words show, and the history
 ended : (g : _) (c : After-max-first g)
-    → Ended g.row.T.Denot g.T.Packed.packs g.T.Packed.value_of c.self.inside.table.shared.key (only c.into_inner.result.me.0).knows (slots_items c.close_with-closed.result.words) (c.word-word.result / 2) c.word-subscribers.result c.max-first.result
+    → Ended g.row.T.Denot g.T.Words.are_words g.T.Words.value_in c.self.inside.table.shared.key (only c.into_inner.result.me.0).knows (slots_items c.close_with-closed.result.words) (c.word-word.result / 2) c.word-subscribers.result c.max-first.result
 ended g c =
     let replay = c.self.invariant.4 in
     ends _ _ _ _ _ _ _ _ (ap (λ m. m.0) c.into_inner.ensures.idle.0) c.close_with-closed.ensures.values.2 c.word-word.result c.word-subscribers.result c.word-mark.result _ _ c.word-word.ensures c.word-subscribers.ensures c.word-mark.ensures refl
@@ -41,14 +41,14 @@ invariant_of-result g c =
       c.self.invariant.6,
       omega arith,
       e.within,
-      λ k a b. subst (λ room. g.T.Packed.packs (get_or (slots_items c.close_with-closed.result.words) (head + k % room) 0)) c.self.invariant.2 (e.packed k a b),
+      λ k a b. subst (λ (z : ℕ × ℕ). g.T.Words.are_words (words_from z.1 (slots_items c.close_with-closed.result.words) (head + k % z.0 * z.1))) (λ i. (c.self.invariant.2 i, c.self.invariant.11 i)) (e.packed k a b),
     )
 
 pub returns : goal.returns
 returns g c =
     let e = ended g (goal.at.returns g c).After-max-first in let words = slots_items c.close_with-closed.result.words in (
       e.history,
-      subst (λ (z : SharedFlowState g.row.T.Denot × ℕ). StandsForHistory shared_flow StandsAsClosed z.0 (closed_flow g.T.Packed.value_of z.1 words (c.word-word.result / 2) c.word-subscribers.result c.max-first.result) e.history)
-          (λ i. (ap (λ z. z.first) c.self.view_is i, c.self.invariant.2 i)) e.stands,
+      subst (λ (z : SharedFlowState g.row.T.Denot × (ℕ × ℕ)). StandsForHistory shared_flow StandsAsClosed z.0 (closed_flow g.T.Words.value_in z.1.0 z.1.1 words (c.word-word.result / 2) c.word-subscribers.result c.max-first.result) e.history)
+          (λ i. (ap (λ z. z.first) c.self.view_is i, (c.self.invariant.11 i, c.self.invariant.2 i))) e.stands,
       subst (λ t. Fits e.history t.knows) c.into_inner.ensures.token e.fits,
     )

@@ -1,7 +1,8 @@
-use Rattle.std.proofs.Common.{ap, subst, refl, arith}
+use Rattle.std.proofs.Common.{◌*◌, sym, ap, subst, refl, arith}
 use Rattle.flow_law.specs.history.Tokens.{numbered_token}
 use Rattle.flow_word_shared.specs.Answers.{IsOverrun, WordFlowNexts, NextsTaken}
 use Rattle.flow_word_shared.specs.Tokens.{WordFlowNumbered, ring_token}
+use Rattle.flow_word_shared.proofs.Cells.{fit_ahead}
 use Rattle.flow_word_shared.proofs.Told.{saw_overrun, tried_takes}
 use Rattle.flow_word_shared.proofs.token.WordFlow.try_take.Goals as goal
 
@@ -22,3 +23,8 @@ returns-clause-taken g c =
       λ some. subst (λ (n : WordFlowNumbered g.row.T.Denot). NextsTaken (WordFlowNexts c.args.self.now.first) count n c.args.values.now.items c.read_all-taken.new.values.items (numbered_token (ring_token c.read_all-taken.new.seat) c.subscription.inside.number)) c.subscription.view_is
           (let saw = c.look.ensures.more (omega (arith, more)) in tried_takes c.args.self.now.first count _ _ _ _ _ (saw.0, (0, saw.1)) refl some (c.read_all-taken.ensures.taken some)),
     )
+
+pub read_all-taken-requires-clause-fits : goal.read_all-taken-requires-clause-fits
+read_all-taken-requires-clause-fits g c =
+    let fit = fit_ahead c.min-count.result c.WIDTH.result (omega (arith, c.min-count.ensures, c.min.ensures)) in let same = ap (λ w. c.min-count.result * w) (sym c.WIDTH.ensures) in
+    (c.look.ensures.small, omega (arith, fit, same))
