@@ -5,7 +5,9 @@ use flow_law::{Exhausted, NumberError, OutOfMemory, Rejected};
 use flow_shared::{BoundEmission, EmitAnswer, Emitter, PollAnswer, Reader};
 use futures::executor::block_on;
 use futures::{Stream, StreamExt};
+use std::alloc::AllocGlobal;
 use std::process::Abort;
+use std::random::RandomSource;
 use std::sync::{Barrier, Wait};
 use std::thread::{sleep, yield_now};
 use std::time::{Clock, Duration};
@@ -49,7 +51,11 @@ pub fn pause<R: Clock>(rt: &R) {
 }
 
 /// Returns the next `count` values of a stream. Its task sleeps in an executor until the flow wakes it.
-pub fn next_of<R: Host, S: Stream<Item: Drop>>(rt: &R, stream: S, count: usize) -> Vec<S::Item>
+pub fn next_of<R: Wait + Abort + RandomSource + AllocGlobal, S: Stream<Item: Drop>>(
+    rt: &R,
+    stream: S,
+    count: usize,
+) -> Vec<S::Item>
     requires { S.can_poll stream }
 {
     match block_on(rt, stream.take(count).collect(rt.alloc())) {

@@ -19,15 +19,29 @@ const LAST: i64 = -1;
 /// How many seconds a sleeper waits for one change at most. A sleeper that waits as long was forgotten.
 const LIMIT: u64 = 20;
 
+/// A task, and the reader whose futures it polls.
+#[derive(Drop)]
+struct Polling<'a> {
+    reader: Option<WordReader<'a, i64>>,
+    task: MockTask,
+}
+
+/// A setter, and the first of the values that it sets.
+#[derive(Drop)]
+struct Setting<'a> {
+    setter: WordSetter<'a, i64>,
+    first: i64,
+}
+
 /// What the thread of a caller does.
 #[derive(Drop)]
 enum Part<'a> {
-    /// Sets values that no other setter sets, from this one on.
-    Sets(WordSetter<'a, i64>, i64),
+    /// Sets values that no other setter sets.
+    Sets(Setting<'a>),
     /// Receives values up to the last one, by `changed_timeout`.
     Sleeps(WordReader<'a, i64>),
     /// Receives values up to the last one, by futures that the task polls when it is woken.
-    Polls(Option<WordReader<'a, i64>>, MockTask),
+    Polls(Polling<'a>),
 }
 
 /// A caller in a thread of its own, and whether it did its part in time.
@@ -48,13 +62,14 @@ fn is_in_time<C: Clock>(clock: &C, start: Option<Instant>) -> bool {
 }
 
 /// Sets the values, and the last one if the other setter has ended.
-fn set_all(setter: &mut WordSetter<'_, i64>, first: i64, setters: &AtomicU64) -> bool {
+fn set_all(setting: &mut Setting<'_>, setters: &AtomicU64) -> bool {
+    let first = setting.first;
     for k in 0..VALUES {
-        setter.set(first.wrapping_add(k));
+        setting.setter.set(first.wrapping_add(k));
         yield_now();
     }
     if setters.fetch_sub(1, Ordering::SeqCst) == 1 {
-        setter.set(LAST);
+        setting.setter.set(LAST);
     }
     true
 }
@@ -111,10 +126,12 @@ fn await_wake<C: Clock>(clock: &C, task: &MockTask, start: Option<Instant>) -> b
 }
 
 /// Awaits changes up to the last value. Returns whether it came to that one, and was woken in time.
-fn poll_to_last<C: Clock>(clock: &C, task: &MockTask, reader: WordReader<'_, i64>) -> bool {
-    let mut reader = reader;
+fn poll_to_last<C: Clock>(clock: &C, polling: &mut Polling<'_>) -> bool {
+    let Some(mut reader) = polling.reader.take() else {
+        return false;
+    };
     for _ in 0..u32::MAX {
-        match await_change(clock, task, reader.into_changed()) {
+        match await_change(clock, &polling.task, reader.into_changed()) {
             Some((_reader, LAST)) => return true,
             Some((left, _value)) => reader = left,
             None => return false,
@@ -126,12 +143,9 @@ fn poll_to_last<C: Clock>(clock: &C, task: &MockTask, reader: WordReader<'_, i64
 impl Caller<'_> {
     fn run<R: Wait + Clock>(&mut self, rt: &R, setters: &AtomicU64) {
         self.in_time = match &mut self.part {
-            Part::Sets(setter, first) => set_all(setter, *first, setters),
+            Part::Sets(setting) => set_all(setting, setters),
             Part::Sleeps(reader) => sleep_to_last(rt, reader),
-            Part::Polls(reader, task) => match reader.take() {
-                Some(reader) => poll_to_last(rt, task, reader),
-                None => false,
-            },
+            Part::Polls(polling) => poll_to_last(rt, polling),
         };
     }
 }
@@ -141,20 +155,26 @@ fn new_caller(part: Part<'_>) -> Caller<'_> {
     Caller { part, in_time }
 }
 
+fn new_setter<'a>(setter: &mut WordSetter<'a, i64>, first: i64) -> Caller<'a> {
+    let setter = setter.another();
+    new_caller(Part::Sets(Setting { setter, first }))
+}
+
 fn new_sleeper<'a, R: Host>(rt: &R, setter: &mut WordSetter<'a, i64>) -> Caller<'a> {
     new_caller(Part::Sleeps(new_word_reader(rt, setter)))
 }
 
 fn new_poller<'a, R: Host>(rt: &R, setter: &mut WordSetter<'a, i64>) -> Caller<'a> {
     let task = MockTask::new(rt).expect(rt, "a task");
-    new_caller(Part::Polls(Some(new_word_reader(rt, setter)), task))
+    let reader = Some(new_word_reader(rt, setter));
+    new_caller(Part::Polls(Polling { reader, task }))
 }
 
 /// Lets all callers begin at the same time. Returns how many of them were not in time.
 fn run<R: Host>(rt: &R, setter: &mut WordSetter<'_, i64>) -> u32 {
     let mut callers = [
-        new_caller(Part::Sets(setter.another(), 1)),
-        new_caller(Part::Sets(setter.another(), 1_000_000)),
+        new_setter(setter, 1),
+        new_setter(setter, 1_000_000),
         new_sleeper(rt, setter),
         new_sleeper(rt, setter),
         new_poller(rt, setter),
