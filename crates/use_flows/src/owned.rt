@@ -28,7 +28,7 @@ fn start<R: Wait + Threads + Send + Clone + Drop + 'static>(
     rt: &R,
     alloc: Global,
 ) -> Result<Sending> {
-    let (flow, seat) = SharedFlow::new(alloc, Config::new().extra(1))?;
+    let (flow, seat) = SharedFlow::new(alloc, Config::new().extra(16))?;
     let mut emitter = flow.into_emitter(alloc, seat)?;
     let reader = emitter.subscribe(rt)?;
     let there = rt.clone()?;
