@@ -1,4 +1,4 @@
-//! Subscribers that come and leave while a run sleeps: each is observed, though the run finds nobody.
+//! Subscribers that come and leave while a run sleeps: the run observes each, even if it counts none.
 use crate::compare::compare;
 use crate::flows::{
     new_flow, new_reader, new_state_flow, new_state_reader, new_word_reader, new_word_state,
