@@ -176,6 +176,19 @@ fn a_drain_of_wide_values_gets_each_one_whole(rt: HostRuntime) {
     drain_beside::<(u64, u64, u64, u64), HostRuntime>(&rt, rt.alloc());
 }
 
+/// Returns both values of a list that has two.
+fn pair_of<T: Numbered>(values: &[T]) -> Option<(T, T)> {
+    match (values.len(), values.first(), values.get(1)) {
+        (2, Some(first), Some(second)) => Some((*first, *second)),
+        _ => None,
+    }
+}
+
+/// Returns the values of two numbers.
+fn numbered_pair<T: Numbered>(first: u64, second: u64) -> Option<(T, T)> {
+    Some((T::of_number(first), T::of_number(second)))
+}
+
 /// Calls of one thread: a buffer of three values, of which two are replayed.
 fn calls<T: Numbered, R: Wait + Abort>(rt: &R, alloc: Global, row: &str) {
     let (flow, seat) = WordFlow::<T>::new(alloc, dropping(2, 1, 8)).expect(rt, "a flow");
@@ -185,12 +198,7 @@ fn calls<T: Numbered, R: Wait + Abort>(rt: &R, alloc: Global, row: &str) {
         compare(rt, row, emitter.emit(rt, T::of_number(number)), Ok(()));
     }
     let cache = emitter.replay_cache(rt).expect(rt, "memory");
-    compare(
-        rt,
-        row,
-        cache.as_slice(),
-        &[T::of_number(4), T::of_number(5)],
-    );
+    compare(rt, row, pair_of(cache.as_slice()), numbered_pair(4, 5));
     compare(rt, row, reader.next(rt), Some(T::of_number(3)));
     let mut values = Vec::new(alloc);
     compare(
@@ -199,12 +207,7 @@ fn calls<T: Numbered, R: Wait + Abort>(rt: &R, alloc: Global, row: &str) {
         reader.drain(rt, 9, &mut values),
         Ok(Drained::Empty),
     );
-    compare(
-        rt,
-        row,
-        values.as_slice(),
-        &[T::of_number(4), T::of_number(5)],
-    );
+    compare(rt, row, pair_of(values.as_slice()), numbered_pair(4, 5));
     let second = emitter.subscribe(rt);
     compare(rt, row, second.is_ok(), true);
     drop(second);
@@ -221,12 +224,7 @@ fn calls<T: Numbered, R: Wait + Abort>(rt: &R, alloc: Global, row: &str) {
     let closed = flow.close(seat);
     compare(rt, row, closed.emitted(), 6);
     let cache = closed.replay_cache().expect(rt, "memory");
-    compare(
-        rt,
-        row,
-        cache.as_slice(),
-        &[T::of_number(5), T::of_number(6)],
-    );
+    compare(rt, row, pair_of(cache.as_slice()), numbered_pair(5, 6));
 }
 
 #[test]
