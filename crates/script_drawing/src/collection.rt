@@ -1,6 +1,7 @@
 //! The picture of a collected chain: a lane for its source, one for the other side of each zip, and one for what it gives.
 
-use crate::picture::{Label, Note, Picture, Sign, Words};
+use crate::mark::{Label, Note, Sign, Words};
+use crate::picture::Picture;
 use crate::script_words::items_of;
 use flow_law::End;
 use flow_script::Answer;
@@ -16,27 +17,23 @@ type Content<'a> = (Sign, Words<'a>);
 /// The source of a chain.
 #[derive(Clone, Copy)]
 struct Source<'a> {
-    label: &'static str,
-    name: &'static str,
+    /// The key that its items have.
+    key: &'static str,
     items: &'a [Value],
 }
 
 impl<'a> Source<'a> {
     fn new(chain: &'a Value) -> Self {
-        if let Some(source) = chain.get("from") {
-            for name in ["of", "range", "script"] {
-                if source.get(name).is_some() {
-                    return Source {
-                        label: name,
-                        name,
-                        items: items_of(source, name),
-                    };
-                }
+        for key in ["of", "range", "script"] {
+            if let Some(source) = chain.get("from")
+                && source.get(key).is_some()
+            {
+                let items = items_of(source, key);
+                return Source { key, items };
             }
         }
         Source {
-            label: "",
-            name: "",
+            key: "",
             items: &[],
         }
     }
@@ -44,7 +41,7 @@ impl<'a> Source<'a> {
     /// Returns the mark at a column: an item, or the end after the last item. Of a range only the first and the last
     /// number are drawn.
     fn at(&self, column: usize) -> Content<'a> {
-        let is_range = self.name == "range";
+        let is_range = self.key == "range";
         if is_range && column == 1 {
             return (Sign::Told, Words::Text("to"));
         }
@@ -68,20 +65,21 @@ struct Given<'a> {
 }
 
 impl<'a> Given<'a> {
-    /// Returns what a collection gave. If its chain could not be built, its mark has its line.
+    /// Returns what a collection gave, by its answer and its line. The line has the items, and why the chain failed.
     fn new(answer: &'a Answer, line: &'a str) -> Self {
-        let (items, end) = match answer {
-            Answer::Collected(items, End::Completed) => (
-                items.as_slice(),
-                (Sign::Ends, Words::None),
-            ),
-            Answer::Collected(items, End::Failed(fault)) => (
-                items.as_slice(),
-                (Sign::Refused, Words::Failed(*fault)),
-            ),
-            _ => (&[] as &[i64], (Sign::Refused, Words::Text(line))),
+        let Answer::Collected(items, end) = answer else {
+            return Given {
+                items: &[],
+                end: (Sign::Refused, Words::Text(line)),
+            };
         };
-        Given { items, end }
+        Given {
+            items: items.as_slice(),
+            end: match (end, line.split_once("] ")) {
+                (End::Failed(_), Some((_, why))) => (Sign::Refused, Words::Text(why)),
+                _ => (Sign::Ends, Words::None),
+            },
+        }
     }
 
     /// Returns the mark at a column: an item, or the end after the last item.
@@ -93,18 +91,20 @@ impl<'a> Given<'a> {
     }
 }
 
-/// Returns the sources of a chain: its own one, and the other side of each zip.
-fn sources_of(alloc: Global, chain: &Value) -> Result<Vec<Source<'_>>, AllocError> {
+/// Adds a lane for each source of a chain: its own one, and the other side of each zip. Returns the sources.
+fn add_sources<'a>(
+    alloc: Global,
+    picture: &mut Picture<'a>,
+    chain: &'a Value,
+) -> Result<Vec<Source<'a>>, AllocError> {
+    let source = Source::new(chain);
     let mut sources = Vec::new(alloc);
-    sources.push(Source::new(chain))?;
+    sources.push(source)?;
+    picture.add_lane(Label::of(source.key), None);
     for op in items_of(chain, "ops") {
         if let Some(other) = op.get("with") {
-            let Source { name, items, .. } = Source::new(other);
-            sources.push(Source {
-                label: "zip with",
-                name,
-                items,
-            })?;
+            sources.push(Source::new(other))?;
+            picture.add_lane(Label::of("zip with"), None);
         }
     }
     Ok(sources)
@@ -145,15 +145,6 @@ fn add_column<'a>(
     is_open || picture.is_open(sources.len())
 }
 
-/// Adds the marks of a collection.
-fn add_columns<'a>(picture: &mut Picture<'a>, sources: &[Source<'a>], given: Given<'a>) {
-    for column in 0..MOST_ITEMS + 1 {
-        if !add_column(picture, sources, given, column) {
-            break;
-        }
-    }
-}
-
 /// Returns the picture of a collection, by the chain, its answer and its line. Each lane has at most 24 marks before its
 /// end, or before two dots for the other items.
 ///
@@ -165,12 +156,14 @@ pub fn collection_picture<'a>(
     answer: &'a Answer,
     line: &'a str,
 ) -> Result<Picture<'a>, AllocError> {
-    let sources = sources_of(alloc, chain)?;
     let mut picture = Picture::new(alloc);
-    for source in &sources {
-        picture.add_lane(Label::of(source.label), None);
-    }
+    let sources = add_sources(alloc, &mut picture, chain)?;
+    let given = Given::new(answer, line);
     picture.add_lane(Label::of("result"), None);
-    add_columns(&mut picture, sources.as_slice(), Given::new(answer, line));
+    for column in 0..MOST_ITEMS + 1 {
+        if !add_column(&mut picture, sources.as_slice(), given, column) {
+            break;
+        }
+    }
     picture.finish()
 }

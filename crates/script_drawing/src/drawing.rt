@@ -6,64 +6,52 @@ ghost use Rattle.script_drawing.specs.Drawing.{Pictures, TellsInOrder, TellsLine
 ghost use Rattle.script_drawing.specs.Listing.{told};
 
 use crate::form::Form;
-use crate::frame::{Frame, explained_frame};
 use crate::json::{json_frame, step_extents};
 use crate::lines::split_lines;
 use crate::listing::add_listing;
-use crate::played::Played;
-use crate::svg::{SvgPicture, svg_picture};
-use crate::text::text_frame;
+use crate::page::Frame;
+use crate::played::{Played, flows_of, steps_of};
+use crate::svg::svg_picture;
+use crate::text::{explained_frame, text_frame};
 use flow_script::{ScriptFault, TracedScript, text_of, trace_of};
 use json_places::Extent;
 use script_explain::rules_of;
-use serde_json::Value;
 use std::alloc::{AllocError, Global};
-
-/// Returns the picture of a script with all its lines.
-fn whole_svg(alloc: Global, frame: Frame, played: Played<'_>) -> Result<String, AllocError> {
-    framed(alloc, Form::Svg, frame, played, &[])
-}
 
 /// Returns the frame of the trace as JSON, with the picture of the script.
 fn pictured_json_frame(alloc: Global, played: Played<'_>) -> Result<Frame, AllocError> {
-    let SvgPicture {
-        frame,
-        columns,
-        names,
-    } = svg_picture(alloc, played)?;
-    let svg = whole_svg(alloc, frame, played)?;
-    let places = (columns.as_slice(), names.as_slice());
-    json_frame(alloc, played, Some((svg.as_str(), places)))
+    let (frame, places) = svg_picture(alloc, played)?;
+    let svg = framed(alloc, Form::Svg, frame, played)?;
+    json_frame(alloc, played, Some((places, svg)))
 }
 
 fn frame_of(alloc: Global, form: Form, played: Played<'_>) -> Result<Frame, AllocError> {
     match form {
         Form::Text => text_frame(alloc, played),
         Form::Svg => {
-            let picture = svg_picture(alloc, played)?;
-            Ok(picture.frame)
+            let (frame, _places) = svg_picture(alloc, played)?;
+            Ok(frame)
         }
         Form::Explained => explained_frame(alloc, played),
-        Form::JsonWithPicture(most) if most > 0 && played.steps().len() <= most as usize => {
+        Form::JsonWithPicture(most) if most > 0 && played.steps.len() <= most as usize => {
             pictured_json_frame(alloc, played)
         }
         Form::Json | Form::JsonWithPicture(_) => json_frame(alloc, played, None),
     }
 }
 
-/// Returns the frame around the lines of a script, with the rules beside the lines, if there are rules.
+/// Returns the frame around the lines of a script, with the rules beside the lines, if the form shows rules.
 fn framed(
     alloc: Global,
     form: Form,
     frame: Frame,
     played: Played<'_>,
-    rules: &[String],
 ) -> Result<String, AllocError>
     ensures { IfOk result (λ drawn.
         TellsInOrder (told played.entry.lines.now) (string_bytes drawn)) }
 {
     let mut listing = String::new(alloc);
-    add_listing(alloc, &mut listing, played, rules, form)?;
+    add_listing(alloc, &mut listing, played, form)?;
     let Frame { before, after } = frame;
     let mut drawn = before;
     drawn.push_str(listing.as_str())?;
@@ -77,24 +65,25 @@ fn pictured(alloc: Global, form: Form, played: Played<'_>) -> Result<String, All
         TellsInOrder (told played.entry.lines.now) (string_bytes drawn)) }
 {
     let frame = frame_of(alloc, form, played)?;
-    let rules = match form {
-        Form::Explained | Form::Json | Form::JsonWithPicture(_) => rules_of(alloc, played.traced)?,
-        Form::Text | Form::Svg => Vec::new(alloc),
-    };
-    framed(alloc, form, frame, played, rules.as_slice())
+    framed(alloc, form, frame, played)
 }
 
-/// Returns the bytes of the steps in the text of a script, if the form of its drawing has them.
-fn extents_of(
+/// Returns the rules of the steps, and their bytes in the text of the script, if the form of its drawing has them.
+fn beside_steps(
     alloc: Global,
     form: Form,
     bytes: &[u8],
-    script: &Value,
-) -> Result<Vec<Extent>, AllocError> {
-    match form {
-        Form::Json | Form::JsonWithPicture(_) => step_extents(alloc, bytes, script),
-        _ => Ok(Vec::new(alloc)),
-    }
+    traced: &TracedScript,
+) -> Result<(Vec<String>, Vec<Extent>), AllocError> {
+    let rules = match form {
+        Form::Text | Form::Svg => Vec::new(alloc),
+        _ => rules_of(alloc, traced)?,
+    };
+    let extents = match form {
+        Form::Json | Form::JsonWithPicture(_) => step_extents(alloc, bytes, &traced.value)?,
+        _ => Vec::new(alloc),
+    };
+    Ok((rules, extents))
 }
 
 /// Draws a script that was played, and whose text has these bytes.
@@ -109,11 +98,15 @@ fn drawn(
 {
     let text = text_of(alloc, &traced.trace.answers)?;
     let lines = split_lines(alloc, text.as_str())?;
-    let extents = extents_of(alloc, form, bytes, &traced.value)?;
+    let lines = lines.as_slice();
+    let (rules, extents) = beside_steps(alloc, form, bytes, traced)?;
+    let steps = steps_of(alloc, traced, lines, rules.as_slice(), extents.as_slice())?;
+    let flows = flows_of(alloc, traced)?;
     let played = Played {
         traced,
-        lines: lines.as_slice(),
-        extents: extents.as_slice(),
+        lines,
+        flows: flows.as_slice(),
+        steps: steps.as_slice(),
     };
     match pictured(alloc, form, played) {
         Ok(drawn) => Ok(drawn),

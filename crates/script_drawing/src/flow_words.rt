@@ -1,18 +1,26 @@
 //! The flows of a script in words: a sentence for each.
 
 use crate::page::Page;
-use crate::played::PlayedFlow;
-use crate::script_words::{add_chain, add_value};
+use crate::played::{Played, PlayedFlow};
+use crate::script_words::add_chain;
 use flow_law::{Config, NEVER, Overflow, Started};
 use flow_script::{FlowHead, number_at};
 use serde_json::Value;
+use std::alloc::{AllocError, Global};
+use std::fmt;
 
-/// Adds a number of values.
-fn add_values(page: &mut Page, count: u32) {
-    match count {
-        0 => page.push_str("no value"),
-        1 => page.push_str("1 value"),
-        _ => write!(page, "{count} values"),
+/// A number of values, in words.
+#[derive(Clone, Copy)]
+struct Values(u32);
+
+impl fmt::Display for Values {
+    fn fmt<W: fmt::Write>(&self, f: &mut fmt::Formatter<W>) -> fmt::Result {
+        let Values(count) = *self;
+        match count {
+            0 => write!(f, "no value"),
+            1 => write!(f, "1 value"),
+            _ => write!(f, "{count} values"),
+        }
     }
 }
 
@@ -30,21 +38,12 @@ fn add_shared(page: &mut Page, config: Config) {
     page.push_str("a shared flow ");
     match (config.replay, config.extra) {
         (0, 0) => page.push_str("without a buffer: an emitter waits until all have its value"),
-        (0, extra) => {
-            page.push_str("with room for ");
-            add_values(page, extra);
-        }
-        (replay, extra) => {
-            page.push_str("that replays ");
-            add_values(page, replay);
-            if extra > 0 {
-                write!(page, ", with room for {extra} more");
-            }
-        }
+        (0, extra) => write!(page, "with room for {}", Values(extra)),
+        (replay, 0) => write!(page, "that replays {}", Values(replay)),
+        (replay, extra) => write!(page, "that replays {}, with room for {extra} more", Values(replay)),
     }
     if config.replay > 0 || config.extra > 0 {
-        page.push_str("; when it is full, ");
-        page.push_str(overflow_words(config.overflow));
+        write!(page, "; when it is full, {}", overflow_words(config.overflow));
     }
 }
 
@@ -67,6 +66,7 @@ fn add_started(page: &mut Page, started: Started) {
 
 /// Adds a chain that is shared into a flow.
 fn add_sharing(page: &mut Page, value: &Value, started: Started) {
+    page.push_str(", of the chain ");
     if let Some(chain) = value.get("chain") {
         add_chain(page, chain);
     }
@@ -75,33 +75,42 @@ fn add_sharing(page: &mut Page, value: &Value, started: Started) {
 }
 
 /// Adds a flow in words, in a line of its own.
-pub fn add_flow(page: &mut Page, flow: PlayedFlow<'_>) {
+fn add_flow(page: &mut Page, flow: PlayedFlow<'_>) {
     let PlayedFlow { name, value, trace } = flow;
-    page.push_str(name);
-    page.push_str(": ");
+    write!(page, "{name}: ");
     match trace.head {
         FlowHead::Shared(config) => add_shared(page, config),
-        FlowHead::State => {
-            page.push_str("a state flow whose first value is ");
-            page.push_number(number_at(value, "initial"));
+        FlowHead::State | FlowHead::StateIn(_) => {
+            write!(page, "a state flow whose first value is {}", number_at(value, "initial"));
         }
-        FlowHead::Share(started, replay) => {
-            page.push_str("a shared flow that replays ");
-            add_values(page, replay);
-            page.push_str(", of the chain ");
-            add_sharing(page, value, started);
-        }
-        FlowHead::StateIn(started) => {
-            page.push_str("a state flow whose first value is ");
-            page.push_number(number_at(value, "initial"));
-            page.push_str(", of the chain ");
-            add_sharing(page, value, started);
-        }
+        FlowHead::Share(_, replay) => write!(page, "a shared flow that replays {}", Values(replay)),
+    }
+    if let FlowHead::Share(started, _) | FlowHead::StateIn(started) = trace.head {
+        add_sharing(page, value, started);
     }
     if let Some(limit) = value.get("limit") {
-        page.push_str("; it issues at most ");
-        add_value(page, limit);
-        page.push_str(" numbers");
+        write!(page, "; it issues at most {limit} numbers");
     }
-    page.push('\n');
+    page.push_str("\n");
+}
+
+fn add_flows(page: &mut Page, flows: &[PlayedFlow<'_>]) {
+    for flow in flows {
+        add_flow(page, *flow);
+    }
+}
+
+/// Returns a line for each flow of a script, ended by a line feed, and then these lines of flows that were refused. A
+/// script that only collects chains has no such line.
+pub fn heads_of(
+    alloc: Global,
+    played: Played<'_>,
+    refused: &[&str],
+) -> Result<String, AllocError> {
+    let mut page = Page::new(alloc);
+    add_flows(&mut page, played.flows);
+    for line in refused {
+        write!(page, "{line}\n");
+    }
+    page.finish()
 }

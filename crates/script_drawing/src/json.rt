@@ -7,14 +7,12 @@
 //! Whole numbers that a script chooses are texts, since not every program reads numbers of 64 bits. No text in it has a
 //! character that JSON would escape: names, words and rules have letters, digits, spaces and a few signs.
 
-use crate::frame::Frame;
-use crate::json_picture::{Places, add_picture};
-use crate::json_words::{add_comma, add_key, add_number, add_text, add_value};
-use crate::page::Page;
+use crate::page::{Frame, Page};
 use crate::played::{Played, PlayedFlow, PlayedStep};
 use crate::script_words::{add_step, items_of};
+use crate::svg::{Column, LaneName, Places};
 use flow_law::Next;
-use flow_script::{Act, After, Answer, Case, FlowStep, Moved, number_at, text_at};
+use flow_script::{Act, Answer, Case, FlowStep, Moved, number_at, text_at};
 use json_places::{Extent, Spot, Text};
 use serde_json::Value;
 use std::alloc::{AllocError, Global};
@@ -39,14 +37,18 @@ pub fn step_extents(
     }
 }
 
+/// Returns the comma before an entry of a list, which the first one has not.
+fn comma(index: usize) -> &'static str {
+    if index > 0 { "," } else { "" }
+}
+
 /// Adds a list of places.
-fn add_places(page: &mut Page, places: &[usize]) {
-    page.push('[');
+fn add_places(page: &mut Page, key: &str, places: &[usize]) {
+    write!(page, ",\"{key}\":[");
     for (index, place) in places.iter().enumerate() {
-        add_comma(page, index);
-        page.push_number(*place);
+        write!(page, "{}{place}", comma(index));
     }
-    page.push(']');
+    page.push_str("]");
 }
 
 /// Returns the word of a case.
@@ -66,27 +68,15 @@ fn case_word(case: Case) -> Option<&'static str> {
 
 /// Adds a flow: its name, what the script says of it, its first value if it is a state flow, whether it was refused when
 /// it was made, and the values that it emitted.
-fn add_flow(alloc: Global, page: &mut Page, flow: PlayedFlow<'_>, refused: bool) {
-    page.push_str("{\"name\":\"");
-    page.push_str(flow.name);
-    page.push('"');
-    add_key(page, "head");
-    match flow.value.to_string(alloc) {
-        Ok(text) => page.push_str(text.as_str()),
-        Err(_) => page.fail(),
+fn add_flow(page: &mut Page, flow: PlayedFlow<'_>, refused: bool) {
+    let PlayedFlow { name, value, trace } = flow;
+    write!(page, "{{\"name\":\"{name}\",\"head\":{value}");
+    if value.get("initial").is_some() {
+        write!(page, ",\"value\":\"{}\"", number_at(value, "initial"));
     }
-    if flow.value.get("initial").is_some() {
-        add_value(page, "value", number_at(flow.value, "initial"));
-    }
-    add_key(page, "refused");
-    page.push_str(if refused { "true" } else { "false" });
-    add_key(page, "values");
-    page.push('[');
-    for (index, value) in flow.trace.values.iter().enumerate() {
-        add_comma(page, index);
-        page.push('"');
-        page.push_number(*value);
-        page.push('"');
+    write!(page, ",\"refused\":{refused},\"values\":[");
+    for (index, value) in trace.values.iter().enumerate() {
+        write!(page, "{}\"{value}\"", comma(index));
     }
     page.push_str("]}");
 }
@@ -103,68 +93,37 @@ fn is_refused(played: Played<'_>, name: &str) -> bool {
     false
 }
 
-/// Adds the flows in the order in which they are made.
-fn add_flows(alloc: Global, page: &mut Page, played: Played<'_>) {
-    match played.flows(alloc) {
-        Ok(flows) => {
-            for (index, flow) in flows.iter().enumerate() {
-                add_comma(page, index);
-                add_flow(alloc, page, *flow, is_refused(played, flow.name));
-            }
-        }
-        Err(_) => page.fail(),
-    }
-}
-
-/// Adds a flow after a step.
-fn add_after(page: &mut Page, after: After) {
-    add_number(page, "emitted", after.emitted);
-    add_number(page, "held", after.held as u64);
-    add_number(page, "cached", after.cached);
-    add_number(page, "subscribers", after.subscribers);
-    if let Some(value) = after.value {
-        add_value(page, "value", value);
-    }
-}
-
 /// Adds the subscribers that a step moved. One that is gone has no position.
 fn add_moved(page: &mut Page, moved: &[Moved]) {
-    add_key(page, "moved");
-    page.push('[');
+    page.push_str(",\"moved\":[");
     for (index, one) in moved.iter().enumerate() {
-        add_comma(page, index);
-        page.push_str("{\"place\":");
-        page.push_number(one.subscriber);
-        add_number(page, "own", one.progress.own as u64);
-        if let Some(position) = one.progress.position {
-            add_number(page, "position", position);
+        let (place, own) = (one.subscriber, one.progress.own);
+        write!(page, "{}{{\"place\":{place},\"own\":{own}", comma(index));
+        match one.progress.position {
+            Some(position) => write!(page, ",\"position\":{position}}}"),
+            None => page.push_str("}"),
         }
-        page.push('}');
     }
-    page.push(']');
+    page.push_str("]");
 }
 
 /// Adds the first values of a subscriber.
 fn add_first(page: &mut Page, values: &[Value]) {
-    add_key(page, "first");
-    page.push('[');
+    page.push_str(",\"first\":[");
     for (index, value) in values.iter().enumerate() {
-        add_comma(page, index);
-        page.push('"');
-        page.push_number(value.as_i64().unwrap_or(0));
-        page.push('"');
+        write!(page, "{}\"{value}\"", comma(index));
     }
-    page.push(']');
+    page.push_str("]");
 }
 
 /// Adds what a step gives: a new subscriber's own first values, the value that waits from now on, or the one that was
 /// received.
-fn add_given(page: &mut Page, one: PlayedStep<'_>) {
+fn add_given(page: &mut Page, one: &PlayedStep<'_>) {
     match (one.answer, one.seen.act) {
         (Answer::Queued, Act::OnFlow(_, FlowStep::Emit(value))) => {
-            add_value(page, "waits", value);
+            write!(page, ",\"waits\":\"{value}\"");
         }
-        (Answer::Received(Next::Value(value)), _) => add_value(page, "received", *value),
+        (Answer::Received(Next::Value(value)), _) => write!(page, ",\"received\":\"{value}\""),
         (Answer::Subscribed, Act::SubscribesWith(_, _)) => {
             add_first(page, items_of(one.step, "first"));
         }
@@ -172,98 +131,129 @@ fn add_given(page: &mut Page, one: PlayedStep<'_>) {
     }
 }
 
-/// Adds what a step did to its flow.
-fn add_effects(page: &mut Page, one: PlayedStep<'_>) {
-    let seen = one.seen;
-    if let Some(flow) = seen.act.flow() {
-        add_number(page, "flow", flow as u64);
+/// Adds the flow on which a step acts, its case, its name, and what it gives.
+fn add_act(page: &mut Page, one: &PlayedStep<'_>) {
+    if let Some(flow) = one.seen.act.flow() {
+        write!(page, ",\"flow\":{flow}");
     }
-    if let Some(word) = case_word(seen.case) {
-        add_text(page, "case", word);
+    if let Some(word) = case_word(one.seen.case) {
+        write!(page, ",\"case\":\"{word}\"");
     }
-    if let Some(place) = seen.changes.name {
-        add_text(page, "name", text_at(one.step, "name"));
-        add_number(page, "place", place as u64);
+    if let Some(place) = one.seen.changes.name {
+        let name = text_at(one.step, "name");
+        write!(page, ",\"name\":\"{name}\",\"place\":{place}");
     }
     add_given(page, one);
-    if let Some(item) = seen.changes.item {
-        add_value(page, "item", item);
+}
+
+/// Adds what a step did to its flow.
+fn add_effects(page: &mut Page, one: &PlayedStep<'_>) {
+    let changes = &one.seen.changes;
+    if let Some(item) = changes.item {
+        write!(page, ",\"item\":\"{item}\"");
     }
-    if let Some(loss) = &seen.changes.loss {
-        add_value(page, "lost", loss.value);
-        add_key(page, "losers");
-        add_places(page, loss.losers.as_slice());
+    if let Some(loss) = &changes.loss {
+        write!(page, ",\"lost\":\"{}\"", loss.value);
+        add_places(page, "losers", loss.losers.as_slice());
     }
-    if !seen.changes.moved.is_empty() {
-        add_moved(page, seen.changes.moved.as_slice());
+    if !changes.moved.is_empty() {
+        add_moved(page, changes.moved.as_slice());
     }
-    if !seen.changes.ended.is_empty() {
-        add_key(page, "ended");
-        add_places(page, seen.changes.ended.as_slice());
+    if !changes.ended.is_empty() {
+        add_places(page, "ended", changes.ended.as_slice());
     }
-    if let Some(after) = seen.changes.after {
-        add_after(page, after);
+    if let Some(after) = changes.after {
+        write!(page, ",\"emitted\":{},\"held\":{}", after.emitted, after.held);
+        write!(page, ",\"cached\":{},\"subscribers\":{}", after.cached, after.subscribers);
+        if let Some(value) = after.value {
+            write!(page, ",\"value\":\"{value}\"");
+        }
     }
 }
 
-/// Adds the members of the step at a place: its number, its bytes in the text, its words, its rule, and what it did.
-fn add_step_members(page: &mut Page, played: Played<'_>, place: usize, rule: &str) {
-    let Some(one) = played.step(place) else {
-        return;
-    };
-    add_number(page, "step", (place as u64).saturating_add(1));
-    if let Some(extent) = played.extent(place) {
-        add_number(page, "from", extent.from as u64);
-        add_number(page, "to", extent.to as u64);
+/// Adds the members of a step: its number, its bytes in the text, its words, its rule, and what it did.
+fn add_step_members(page: &mut Page, one: &PlayedStep<'_>) {
+    write!(page, ",\"step\":{}", one.number);
+    if let Some(Extent { from, to }) = one.extent {
+        write!(page, ",\"from\":{from},\"to\":{to}");
     }
-    add_key(page, "words");
-    page.push('"');
+    page.push_str(",\"words\":\"");
     add_step(page, one.step);
-    page.push('"');
-    add_text(page, "rule", rule);
+    write!(page, "\",\"rule\":\"{}\"", one.rule);
+    add_act(page, one);
     add_effects(page, one);
 }
 
-/// Adds to `words` the text before the line at a place: the end of the entry before it, and the beginning of its own
-/// entry. After the last line nothing begins.
+/// Returns the text before the line at a place: the end of the entry before it, and the beginning of its own entry.
+/// After the last line nothing begins.
 ///
 /// # Errors
 /// `AllocError`: out of memory.
-pub fn add_json_before(
-    words: &mut String,
-    played: Played<'_>,
-    place: usize,
-    rule: &str,
-) -> Result<(), AllocError> {
-    let mut page = Page::new(*words.allocator());
-    if let Some(before) = place.checked_sub(1) {
-        page.push('"');
-        if let Some(step) = before.checked_sub(played.refused()) {
-            add_step_members(&mut page, played, step, rule);
-        }
-        page.push('}');
-    }
-    if place.saturating_add(1) < played.lines.len() {
-        page.push_str(if place > 0 { ",\n" } else { "" });
-        page.push_str("{\"line\":\"");
-    }
-    words.push_str(page.finish()?.as_str())
-}
-
-/// Returns the frame of a script's trace, around the entries of its lines, with a picture if there is one.
-pub fn json_frame(
+pub fn json_before(
     alloc: Global,
     played: Played<'_>,
-    picture: Option<(&str, Places<'_, '_>)>,
+    place: usize,
+) -> Result<String, AllocError> {
+    let mut page = Page::new(alloc);
+    let is_last = place.saturating_add(1) >= played.lines.len();
+    if let Some(before) = place.checked_sub(1) {
+        page.push_str("\"");
+        if let Some(one) = played.step_of_line(before) {
+            add_step_members(&mut page, one);
+        }
+        page.push_str(if is_last { "}" } else { "},\n" });
+    }
+    page.push_str(if is_last { "" } else { "{\"line\":\"" });
+    page.finish()
+}
+
+fn add_columns(page: &mut Page, columns: &[Column]) {
+    for (index, column) in columns.iter().enumerate() {
+        let Column {
+            step,
+            x,
+            y,
+            width,
+            bottom,
+        } = *column;
+        write!(page, "{}{{\"step\":{step},\"x\":{x},\"y\":{y}", comma(index));
+        write!(page, ",\"width\":{width},\"bottom\":{bottom}}}");
+    }
+}
+
+fn add_names(page: &mut Page, names: &[LaneName<'_>]) {
+    for (index, name) in names.iter().enumerate() {
+        let LaneName { y, label } = *name;
+        write!(page, "{}{{\"y\":{y},\"name\":\"{label}\"}}", comma(index));
+    }
+}
+
+/// Adds a picture as SVG, and where its parts are.
+fn add_picture(page: &mut Page, places: Places<'_>, svg: String) {
+    page.push_str(",\n\"picture\":{\"columns\":[");
+    add_columns(page, places.columns.as_slice());
+    page.push_str("],\n\"lanes\":[");
+    add_names(page, places.names.as_slice());
+    write!(page, "],\n\"svg\":{}}}", Value::String(svg));
+}
+
+/// Returns the frame of a script's trace, around the entries of its lines, with the picture as SVG if there is one.
+pub fn json_frame<'a>(
+    alloc: Global,
+    played: Played<'a>,
+    picture: Option<(Places<'a>, String)>,
 ) -> Result<Frame, AllocError> {
     let mut front = Page::new(alloc);
     front.push_str("{\"flows\":[");
-    add_flows(alloc, &mut front, played);
+    for (index, flow) in played.flows.iter().enumerate() {
+        front.push_str(comma(index));
+        add_flow(&mut front, *flow, is_refused(played, flow.name));
+    }
     front.push_str("],\n\"lines\":[\n");
     let mut end = Page::new(alloc);
     end.push_str("\n]");
-    if let Some((svg, places)) = picture {
-        add_picture(&mut end, svg, places);
+    if let Some((places, svg)) = picture {
+        add_picture(&mut end, places, svg);
     }
     end.push_str("}\n");
     Ok(Frame {

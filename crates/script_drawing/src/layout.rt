@@ -1,10 +1,12 @@
 //! Where the marks of a picture are: in columns with a width in characters, and in bands that are at most 100 wide.
 
-use crate::parts::Parts;
-use crate::picture::{Label, Lane, Mark, Picture};
-use crate::widths::{head_width, labels_width, mark_width, words_width};
-use flow_script::Seen;
-use serde_json::Value;
+use crate::collection::collection_picture;
+use crate::growing::steps_picture;
+use crate::mark::Mark;
+use crate::page::width_of;
+use crate::parts::{Cell, Head, Numbered, Part};
+use crate::picture::{Lane, Picture};
+use crate::played::{Played, PlayedStep};
 use std::alloc::{AllocError, Global};
 
 /// The most characters in a line of a band.
@@ -13,88 +15,14 @@ pub const MOST_WIDTH: usize = 100;
 /// The least width of a column.
 const LEAST_COLUMN: usize = 6;
 
-/// A column of a lane.
-#[derive(Clone, Copy)]
-pub struct Cell<'a> {
-    pub width: usize,
-    pub mark: Option<Mark<'a>>,
-    /// Whether the lane has a line in this column.
-    pub has_line: bool,
-    /// Whether its line continues that of the column before.
-    pub comes: bool,
-    /// Whether its line continues in the next column.
-    pub goes_on: bool,
-    /// Whether the lane is that of an emission, whose emitter waits as long as the lane has a line.
-    pub waits: bool,
-}
-
-/// The steps of a picture's columns, from left to right, and their answers. The picture of a collection has none.
-#[derive(Clone, Copy)]
-pub struct Axis<'a> {
-    pub steps: &'a [Value],
-    pub seen: &'a [Seen],
-}
-
-impl<'a> Axis<'a> {
-    /// Returns an axis without steps.
-    pub fn none() -> Self {
-        Axis {
-            steps: &[],
-            seen: &[],
-        }
-    }
-
-    /// Returns the moment of the turn in a column.
-    fn moment(&self, column: usize) -> Option<u64> {
-        self.seen.get(column)?.act.moment()
-    }
-
-    /// Returns the step of a column with this width and this widest mark.
-    fn at(&self, column: usize, width: usize, widest: Option<Mark<'a>>) -> Option<Numbered<'a>> {
-        Some(Numbered {
-            number: column.saturating_add(1),
-            moment: self.moment(column),
-            step: self.steps.get(column)?,
-            width,
-            widest,
-        })
-    }
-}
-
-/// The step of a column.
-#[derive(Clone, Copy)]
-pub struct Numbered<'a> {
-    /// The number of the step, from 1.
-    pub number: usize,
-    /// The moment of a turn.
-    pub moment: Option<u64>,
-    pub step: &'a Value,
-    /// The width of the column.
-    pub width: usize,
-    /// The widest mark in the column.
-    pub widest: Option<Mark<'a>>,
-}
-
-/// A part of a picture. The parts are in order from left to right, line by line.
-#[derive(Clone, Copy)]
-pub enum Part<'a> {
-    /// Begins the line of the steps' numbers, after labels of this width.
-    Numbers(usize),
-    Number(Numbered<'a>),
-    EndNumbers,
-    /// Begins a lane, with its label and the width of the labels.
-    Name(Label<'a>, usize),
-    Cell(Cell<'a>),
-    EndLane,
-    /// Ends a band with this width, including the labels.
-    EndBand(usize),
-    /// Begins the picture of a collection, with the number of its step, and its chain.
-    Collection(usize, &'a Value),
-}
+/// The least width of the labels before the lanes.
+const LEAST_LABELS: usize = 14;
 
 /// Columns beside each other.
 #[derive(Clone, Copy)]
 struct Band<'p, 'a> {
+    /// The steps of the picture's columns. The picture of a collection has none.
+    steps: &'a [PlayedStep<'a>],
     /// The width of the labels before the lanes.
     labels: usize,
     /// The first column.
@@ -104,11 +32,24 @@ struct Band<'p, 'a> {
     marks: &'p [Mark<'a>],
 }
 
+/// Returns the width of the labels before these lanes.
+fn labels_width(lanes: &[Lane<'_>]) -> usize {
+    let mut widest = LEAST_LABELS;
+    for lane in lanes {
+        widest = widest.max(width_of(lane.label).saturating_add(2));
+    }
+    widest
+}
+
 /// Returns the least width of each column, which its head needs.
-fn head_widths(alloc: Global, columns: usize, axis: Axis<'_>) -> Result<Vec<usize>, AllocError> {
+fn head_widths(
+    alloc: Global,
+    columns: usize,
+    steps: &[PlayedStep<'_>],
+) -> Result<Vec<usize>, AllocError> {
     let mut widths = Vec::new(alloc);
     for column in 0..columns {
-        let head = head_width(column.saturating_add(1), axis.moment(column));
+        let head = width_of(Head::of(steps, column));
         widths.push(head.saturating_add(2).max(LEAST_COLUMN))?;
     }
     Ok(widths)
@@ -118,12 +59,12 @@ fn head_widths(alloc: Global, columns: usize, axis: Axis<'_>) -> Result<Vec<usiz
 fn widths_of(
     alloc: Global,
     picture: &Picture<'_>,
-    axis: Axis<'_>,
+    steps: &[PlayedStep<'_>],
 ) -> Result<Vec<usize>, AllocError> {
-    let mut widths = head_widths(alloc, picture.columns, axis)?;
+    let mut widths = head_widths(alloc, picture.columns, steps)?;
     for mark in &picture.marks {
         if let Some(width) = widths.get_mut(mark.column) {
-            *width = (*width).max(mark_width(*mark).saturating_add(3));
+            *width = (*width).max(width_of(*mark).saturating_add(3));
         }
     }
     Ok(widths)
@@ -173,16 +114,16 @@ impl<'a> Band<'_, 'a> {
         None
     }
 
-    /// Returns the mark with the widest words in a column.
+    /// Returns the first of the marks with the widest words in a column.
     fn widest(&self, column: usize) -> Option<Mark<'a>> {
         let mut widest: Option<Mark<'a>> = None;
         for mark in self.marks {
-            let width = words_width(mark.words);
-            let most = match widest {
-                Some(most) => words_width(most.words),
-                None => 0,
-            };
-            if mark.column == column && (widest.is_none() || width > most) {
+            if mark.column == column
+                && match widest {
+                    Some(most) => width_of(mark.words) > width_of(most.words),
+                    None => true,
+                }
+            {
                 widest = Some(*mark);
             }
         }
@@ -199,99 +140,112 @@ impl<'a> Band<'_, 'a> {
     }
 
     /// Adds the numbers of the steps above their columns.
-    fn add_numbers(&self, parts: &mut Parts<'a>, axis: Axis<'a>) {
-        parts.push(Part::Numbers(self.labels));
-        let mut column = self.from;
-        for width in self.widths {
-            if let Some(numbered) = axis.at(column, *width, self.widest(column)) {
-                parts.push(Part::Number(numbered));
+    fn add_numbers(&self, parts: &mut Vec<Part<'a>>) -> Result<(), AllocError> {
+        parts.push(Part::Numbers(self.labels))?;
+        for (place, width) in self.widths.iter().enumerate() {
+            let column = self.from.saturating_add(place);
+            if let Some(one) = self.steps.get(column) {
+                parts.push(Part::Number(Numbered {
+                    head: Head::of(self.steps, column),
+                    step: one.step,
+                    width: *width,
+                    widest: self.widest(column),
+                }))?;
             }
-            column = column.saturating_add(1);
         }
-        parts.push(Part::EndNumbers);
-    }
-
-    /// Returns a column of the lane that has this place in the picture.
-    fn cell(&self, place: usize, lane: Lane<'a>, column: usize, width: usize) -> Cell<'a> {
-        let Lane { begins, ends, .. } = lane;
-        Cell {
-            width,
-            mark: self.mark_at(place, column),
-            has_line: begins <= column && column <= ends,
-            comes: begins < column && column <= ends,
-            goes_on: begins <= column && column < ends,
-            waits: lane.waits.is_some(),
-        }
+        parts.push(Part::EndNumbers)?;
+        Ok(())
     }
 
     /// Adds the lane that has this place in the picture.
-    fn add_lane(&self, parts: &mut Parts<'a>, place: usize, lane: Lane<'a>) {
-        parts.push(Part::Name(lane.label, self.labels));
-        let mut column = self.from;
-        for width in self.widths {
-            parts.push(Part::Cell(self.cell(place, lane, column, *width)));
-            column = column.saturating_add(1);
+    fn add_lane(
+        &self,
+        parts: &mut Vec<Part<'a>>,
+        lane: usize,
+        shown: Lane<'a>,
+    ) -> Result<(), AllocError> {
+        let Lane { begins, ends, .. } = shown;
+        parts.push(Part::Name(shown.label, self.labels))?;
+        for (place, width) in self.widths.iter().enumerate() {
+            let column = self.from.saturating_add(place);
+            parts.push(Part::Cell(Cell {
+                width: *width,
+                mark: self.mark_at(lane, column),
+                has_line: begins <= column && column <= ends,
+                comes: begins < column && column <= ends,
+                goes_on: begins <= column && column < ends,
+                waits: shown.waits.is_some(),
+            }))?;
         }
-        parts.push(Part::EndLane);
-    }
-
-    /// Adds the lanes at these places.
-    fn add_lanes(&self, parts: &mut Parts<'a>, places: &[usize], lanes: &[Lane<'a>]) {
-        for place in places {
-            if let Some(lane) = lanes.get(*place) {
-                self.add_lane(parts, *place, *lane);
-            }
-        }
+        parts.push(Part::EndLane)?;
+        Ok(())
     }
 
     /// Adds the numbers of the steps, if there are steps, and the lanes that have marks in the band.
-    fn add_to(&self, alloc: Global, parts: &mut Parts<'a>, lanes: &[Lane<'a>], axis: Axis<'a>) {
-        if !axis.steps.is_empty() {
-            self.add_numbers(parts, axis);
+    fn add_to(
+        &self,
+        alloc: Global,
+        parts: &mut Vec<Part<'a>>,
+        lanes: &[Lane<'a>],
+    ) -> Result<(), AllocError> {
+        if !self.steps.is_empty() {
+            self.add_numbers(parts)?;
         }
-        match lanes_of(alloc, self.marks) {
-            Ok(places) => self.add_lanes(parts, places.as_slice(), lanes),
-            Err(_) => parts.fail(),
+        for lane in &lanes_of(alloc, self.marks)? {
+            if let Some(shown) = lanes.get(*lane) {
+                self.add_lane(parts, *lane, *shown)?;
+            }
         }
-        parts.push(Part::EndBand(self.width()));
+        parts.push(Part::EndBand(self.width()))?;
+        Ok(())
     }
 }
 
-/// Adds the bands of a picture whose columns have these widths. A band without marks is left out.
-fn add_bands<'a>(
+/// Adds the parts of a picture, with these steps above their columns. A band without marks is left out.
+fn add_parts<'a>(
     alloc: Global,
-    parts: &mut Parts<'a>,
-    picture: &Picture<'a>,
-    axis: Axis<'a>,
-    widths: &[usize],
-) {
-    let lanes = picture.lanes.as_slice();
+    parts: &mut Vec<Part<'a>>,
+    picture: Picture<'a>,
+    steps: &'a [PlayedStep<'a>],
+) -> Result<(), AllocError> {
+    let widths = widths_of(alloc, &picture, steps)?;
     let marks = picture.marks.as_slice();
-    let labels = labels_width(lanes);
+    let labels = labels_width(picture.lanes.as_slice());
     let mut from = 0;
     let mut first = 0;
     // There are at most as many bands as columns.
     for _ in 0..widths.len() {
-        let to = band_end(widths, from, labels);
+        let to = band_end(widths.as_slice(), from, labels);
         let last = marks_before(marks, first, to);
         if last > first {
             let band = Band {
+                steps,
                 labels,
                 from,
                 widths: widths.get(from..to).unwrap_or(&[]),
                 marks: marks.get(first..last).unwrap_or(&[]),
             };
-            band.add_to(alloc, parts, lanes, axis);
+            band.add_to(alloc, parts, picture.lanes.as_slice())?;
         }
         from = to;
         first = last;
     }
+    Ok(())
 }
 
-/// Adds the parts of a picture, with these steps above their columns.
-pub fn add_parts<'a>(alloc: Global, parts: &mut Parts<'a>, picture: &Picture<'a>, axis: Axis<'a>) {
-    match widths_of(alloc, picture, axis) {
-        Ok(widths) => add_bands(alloc, parts, picture, axis, widths.as_slice()),
-        Err(_) => parts.fail(),
+/// Returns the parts of the pictures of a script that was played: that of its steps, and those of its collections.
+///
+/// # Errors
+/// `AllocError`: out of memory.
+pub fn parts_of<'a>(alloc: Global, played: Played<'a>) -> Result<Vec<Part<'a>>, AllocError> {
+    let mut parts = Vec::new(alloc);
+    add_parts(alloc, &mut parts, steps_picture(alloc, played)?, played.steps)?;
+    for one in played.steps {
+        if let Some(chain) = one.step.get("chain") {
+            parts.push(Part::Collection(one.number, chain))?;
+            let picture = collection_picture(alloc, chain, one.answer, one.line)?;
+            add_parts(alloc, &mut parts, picture, &[])?;
+        }
     }
+    Ok(parts)
 }

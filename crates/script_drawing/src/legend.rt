@@ -1,35 +1,8 @@
 //! What the marks of a picture mean: an entry for each kind of mark that the picture has.
 
-use crate::layout::{Cell, Part};
-use crate::picture::{Admitted, Mark, Note, Sign, Words};
+use crate::mark::{Admitted, Mark, Note, Sign, Words};
+use crate::parts::{Cell, Part};
 use std::alloc::{AllocError, Global};
-
-/// A kind of marks.
-#[derive(Clone, Copy, PartialEq, Eq)]
-enum MarkKind {
-    Taken,
-    Admitted,
-    Waits,
-    Lost,
-    Behind,
-    Edge,
-    Told,
-    Refused,
-    Nothing,
-}
-
-/// The kinds in the order of their entries.
-static KINDS: [MarkKind; 9] = [
-    MarkKind::Taken,
-    MarkKind::Admitted,
-    MarkKind::Waits,
-    MarkKind::Lost,
-    MarkKind::Behind,
-    MarkKind::Edge,
-    MarkKind::Told,
-    MarkKind::Refused,
-    MarkKind::Nothing,
-];
 
 /// An entry of a legend: a mark of its kind, and what it means.
 #[derive(Clone, Copy)]
@@ -38,108 +11,64 @@ pub struct Entry {
     pub words: &'static str,
 }
 
-/// Returns the kind of a mark. A mark that only has a note has none.
-fn kind_of(mark: Mark<'_>) -> Option<MarkKind> {
-    match (mark.sign, mark.words) {
-        (Sign::Value, Words::Admitted(_)) => Some(MarkKind::Admitted),
-        (Sign::Value, _) => Some(MarkKind::Taken),
-        (Sign::Waits, _) => Some(MarkKind::Waits),
-        (Sign::Lost, _) => Some(MarkKind::Lost),
-        (Sign::Nothing, _) => Some(MarkKind::Nothing),
-        (Sign::Begins | Sign::Ends, _) => Some(MarkKind::Edge),
-        (Sign::Told, _) => Some(MarkKind::Told),
-        (Sign::Refused, _) => Some(MarkKind::Refused),
-        (Sign::Over, _) => None,
-    }
-}
-
-/// Returns a mark that is on no lane.
-fn sample(sign: Sign, words: Words<'static>, note: Note) -> Mark<'static> {
-    Mark {
-        lane: 0,
-        column: 0,
-        sign,
-        words,
-        note,
-    }
-}
-
-/// Returns two values that got in.
-fn two_values() -> Words<'static> {
-    let mut admitted = Admitted::none();
-    admitted.push(3);
-    admitted.push(4);
-    Words::Admitted(admitted)
-}
-
-fn entry_of(kind: MarkKind) -> Entry {
-    let three = Words::Number(3);
-    let (mark, words) = match kind {
-        MarkKind::Taken => (
-            sample(Sign::Value, three, Note::None),
-            "taken by the flow, or received",
-        ),
-        MarkKind::Admitted => (
-            sample(Sign::Value, two_values(), Note::None),
-            "waiting values that got in",
-        ),
-        MarkKind::Waits => (sample(Sign::Waits, three, Note::None), "its emitter waits"),
-        MarkKind::Lost => (
-            sample(Sign::Lost, three, Note::None),
-            "not taken, cancelled or dropped",
-        ),
-        MarkKind::Behind => (
-            sample(Sign::Over, Words::None, Note::Behind(2)),
-            "2 emitted values behind",
-        ),
-        MarkKind::Edge => (
-            sample(Sign::Begins, Words::None, Note::None),
-            "begins, or ends",
-        ),
-        MarkKind::Told => (
-            sample(Sign::Told, three, Note::None),
-            "what the flow answers",
-        ),
-        MarkKind::Refused => (
-            sample(Sign::Refused, three, Note::None),
-            "refused, or failed",
-        ),
-        MarkKind::Nothing => (
-            sample(Sign::Nothing, Words::None, Note::None),
-            "nothing there",
-        ),
+/// An entry whose mark has this sign, these words and this note.
+macro_rules! entry {
+    ($sign:ident, $words:expr, $note:expr, $means:literal) => {
+        Entry {
+            mark: Mark {
+                lane: 0,
+                column: 0,
+                sign: Sign::$sign,
+                words: $words,
+                note: $note,
+            },
+            words: $means,
+        }
     };
-    Entry { mark, words }
 }
 
-/// Adds a kind to those that were found.
-fn add_kind(found: &mut Vec<MarkKind>, kind: MarkKind) -> Result<(), AllocError> {
-    if !found.as_slice().contains(&kind) {
-        found.push(kind)?;
-    }
-    Ok(())
+const THREE: Words<'static> = Words::Number(3);
+
+const TWO_VALUES: Words<'static> = Words::Admitted(Admitted {
+    first: [3, 4, 0],
+    count: 2,
+});
+
+/// The entries, in their order.
+static ENTRIES: [Entry; 9] = [
+    entry!(Value, THREE, Note::None, "taken by the flow, or received"),
+    entry!(Value, TWO_VALUES, Note::None, "waiting values that got in"),
+    entry!(Waits, THREE, Note::None, "its emitter waits"),
+    entry!(Lost, THREE, Note::None, "not taken, cancelled or dropped"),
+    entry!(Over, Words::None, Note::Behind(2), "2 emitted values behind"),
+    entry!(Begins, Words::None, Note::None, "begins, or ends"),
+    entry!(Told, THREE, Note::None, "what the flow answers"),
+    entry!(Refused, THREE, Note::None, "refused, or failed"),
+    entry!(Nothing, Words::None, Note::None, "nothing there"),
+];
+
+fn has_several(words: Words<'_>) -> bool {
+    matches!(words, Words::Admitted(_))
 }
 
-/// Returns the kinds of the marks of these parts.
-fn kinds_of(alloc: Global, parts: &[Part<'_>]) -> Result<Vec<MarkKind>, AllocError> {
-    let mut found = Vec::new(alloc);
-    for part in parts {
-        if let Part::Cell(
+impl Entry {
+    /// Returns whether a part has a mark of this kind. A note is a kind of its own.
+    fn explains(&self, part: &Part<'_>) -> bool {
+        let Part::Cell(
             Cell {
                 mark: Some(mark),
                 ..
             },
-        ) = part
-        {
-            if let Some(kind) = kind_of(*mark) {
-                add_kind(&mut found, kind)?;
-            }
-            if matches!(mark.note, Note::Behind(_)) {
-                add_kind(&mut found, MarkKind::Behind)?;
-            }
+        ) = part else {
+            return false;
+        };
+        match (self.mark.sign, mark.sign) {
+            (Sign::Value, Sign::Value) => has_several(self.mark.words) == has_several(mark.words),
+            (Sign::Over, _) => matches!(mark.note, Note::Behind(_)),
+            (Sign::Begins, Sign::Ends) => true,
+            (own, other) => own == other,
         }
     }
-    Ok(found)
 }
 
 /// Returns the entries for the marks that these parts have.
@@ -147,11 +76,10 @@ fn kinds_of(alloc: Global, parts: &[Part<'_>]) -> Result<Vec<MarkKind>, AllocErr
 /// # Errors
 /// `AllocError`: out of memory.
 pub fn legend_of(alloc: Global, parts: &[Part<'_>]) -> Result<Vec<Entry>, AllocError> {
-    let found = kinds_of(alloc, parts)?;
     let mut entries = Vec::new(alloc);
-    for kind in &KINDS {
-        if found.as_slice().contains(kind) {
-            entries.push(entry_of(*kind))?;
+    for entry in &ENTRIES {
+        if parts.iter().any(|part| entry.explains(part)) {
+            entries.push(*entry)?;
         }
     }
     Ok(entries)

@@ -10,15 +10,14 @@
 //! entry for each kind of mark that was drawn.
 //!
 //! # Where the marks are
-//! `add_parts` gives each column of a picture a width in characters, cuts the picture into bands of at most
-//! `MOST_WIDTH`, and lists its parts from left to right, line by line. `parts_of` has the parts of all pictures of a
-//! script.
+//! `parts_of` has the parts of all pictures of a script: it gives each column a width in characters, cuts the picture into
+//! bands of at most `MOST_WIDTH`, and lists the parts from left to right, line by line.
 //!
 //! # How the parts are written
 //! `text_frame` and `svg_picture` write the same parts, one as text and the other as SVG. A `Frame` has the text before
 //! the lines of the script, and the text after them. `explained_frame` is the frame of lines with their rules, which
-//! has no picture, and `json_frame` that of the trace as JSON. `add_listing` writes the lines, each after the words of `Played::add_words_before`: the step that
-//! wrote it.
+//! has no picture, and `json_frame` that of the trace as JSON. All of them go over the same `PlayedStep`s. `add_listing`
+//! writes the lines, each after the step that wrote it.
 //!
 //! # Scripts
 //! A script is a JSON value that was read and played. In any other value, a member that is missing or has another form
@@ -26,19 +25,16 @@
 #![tactic(auto)]
 
 mod collection;
-mod colours;
 mod drawing;
 mod flow_words;
 mod form;
-mod frame;
 mod growing;
 mod json;
-mod json_picture;
-mod json_words;
 mod layout;
 mod legend;
 mod lines;
 mod listing;
+mod mark;
 mod marks;
 mod page;
 mod parts;
@@ -46,18 +42,11 @@ mod picture;
 mod played;
 mod program;
 mod script_words;
-mod steps;
 mod style;
 mod svg;
 mod svg_marks;
 mod text;
-mod widths;
 
 pub use drawing::drawing_of;
 pub use form::Form;
-pub use frame::{Frame, explained_frame};
-pub use played::Played;
 pub use program::{refuse_arguments, run};
-pub use script_words::items_of;
-pub use svg::{Column, LaneName, SvgPicture, svg_picture};
-pub use text::text_frame;

@@ -3,17 +3,35 @@ ghost use Rattle.std.specs.Prelude.{OnOk, string_bytes};
 ghost use Rattle.script_drawing.specs.Listing.{AddsLast, AddsLines, told};
 
 use crate::form::Form;
-use crate::json::add_json_before;
+use crate::json::json_before;
+use crate::page::Page;
 use crate::played::Played;
+use crate::script_words::add_step;
 use std::alloc::{AllocError, Global};
 
-/// Returns the rule of the step that wrote the line before the one at a place. A line without a step has no rule.
-fn rule_before<'a>(rules: &'a [String], played: Played<'_>, place: usize) -> &'a str {
-    let refused = played.refused();
-    match rules.get(place.wrapping_sub(refused).wrapping_sub(1)) {
-        Some(rule) => rule.as_str(),
-        None => "",
+/// Returns the text before the line at a place: the end of the line before it, with the rule behind that if the form
+/// shows rules, and the step that wrote the line, in words.
+fn words_before(
+    alloc: Global,
+    played: Played<'_>,
+    place: usize,
+    form: Form,
+) -> Result<String, AllocError> {
+    let mut page = Page::new(alloc);
+    if let Some(before) = place.checked_sub(1) {
+        if let (Form::Explained, Some(one)) = (form, played.step_of_line(before))
+            && !one.rule.is_empty()
+        {
+            write!(page, "  -- {}", one.rule);
+        }
+        page.push_str("\n");
     }
+    if let Some(one) = played.step_of_line(place) {
+        write!(page, "{:>5}  ", one.number);
+        add_step(&mut page, one.step);
+        page.push_str(": ");
+    }
+    page.finish()
 }
 
 /// Adds a line of the script, after the words before it.
@@ -25,29 +43,23 @@ fn add_entry(listing: &mut String, words: &str, line: &str) -> Result<(), AllocE
     listing.push_str(line)
 }
 
-/// Adds the lines of a script, each with the step that wrote it, and its rule, if there are rules: as a list for people,
-/// or as entries in JSON.
+/// Adds the lines of a script, each with the step that wrote it, and its rule, if the form shows rules: as a list for
+/// people, or as entries in JSON.
 pub fn add_listing(
     alloc: Global,
     listing: &mut String,
     played: Played<'_>,
-    rules: &[String],
     form: Form,
 ) -> Result<(), AllocError>
     ensures { OnOk result (AddsLines (told played.entry.lines.now)
         (string_bytes listing.old) (string_bytes listing.new)) }
 {
     let lines = played.lines;
-    let mut words = String::new(alloc);
     for (place, line) in lines.iter().enumerate() {
-        words.clear();
-        let rule = rule_before(rules, played, place);
-        match form {
-            Form::Json | Form::JsonWithPicture(_) => add_json_before(
-                &mut words, played, place, rule,
-            )?,
-            _ => played.add_words_before(&mut words, place, rule)?,
-        }
+        let words = match form {
+            Form::Json | Form::JsonWithPicture(_) => json_before(alloc, played, place)?,
+            _ => words_before(alloc, played, place, form)?,
+        };
         add_entry(listing, words.as_str(), line)?;
     }
     Ok(())

@@ -1,8 +1,9 @@
 //! The marks of a step, by what it does, its answer, and the case that it took.
 
-use crate::picture::{Sign, Words};
+use crate::mark::{Sign, Words};
+use crate::played::PlayedStep;
 use flow_law::Next;
-use flow_script::{Act, Answer, Case, FlowStep, Seen};
+use flow_script::{Act, Answer, Case, FlowStep};
 
 /// What becomes of the lane of the subscriber or the emission that a step names.
 #[derive(Clone, Copy)]
@@ -13,144 +14,99 @@ pub enum Named {
     Ended(Sign),
 }
 
-/// What the marks of a step say.
+/// The marks of a step: on the lane of its flow, and on the lane of its name, with these words.
 #[derive(Clone, Copy)]
-pub enum Content {
-    Nothing,
-    Number(i64),
-    /// The line of the step.
-    Line,
-    /// The line of the step, which is a list.
-    List,
-}
-
-impl Content {
-    /// Returns the words in the marks of a step with this line.
-    pub fn words(self, line: &str) -> Words<'_> {
-        match self {
-            Content::Nothing => Words::None,
-            Content::Number(value) => Words::Number(value),
-            Content::Line => Words::Text(line),
-            Content::List => Words::List(line),
-        }
-    }
-}
-
-/// The marks of a step: on the lane of its flow, and on the lane of its name, with this content.
-#[derive(Clone, Copy)]
-pub struct Marks(pub Option<Sign>, pub Named, pub Content);
-
-/// The subscriber or the emission of the step has nothing to receive or to end.
-const NOTHING: Marks = Marks(None, Named::Marked(Sign::Nothing), Content::Nothing);
+pub struct Marks<'a>(pub Option<Sign>, pub Named, pub Words<'a>);
 
 /// A step without marks.
-const NONE: Marks = Marks(None, Named::Untouched, Content::Nothing);
+const NONE: Marks<'static> = Marks(None, Named::Untouched, Words::None);
 
-/// Returns the marks of a value that the flow took or did not take.
-fn value_marks(is_taken: bool, value: i64) -> Marks {
-    let sign = if is_taken { Sign::Value } else { Sign::Lost };
-    Marks(Some(sign), Named::Untouched, Content::Number(value))
+/// The subscriber or the emission of the step has nothing to receive or to end.
+const NOTHING: Marks<'static> = Marks(None, Named::Marked(Sign::Nothing), Words::None);
+
+/// Returns the marks of a step that only has one on the lane of its flow.
+fn on_flow(sign: Sign, words: Words<'_>) -> Marks<'_> {
+    Marks(Some(sign), Named::Untouched, words)
+}
+
+/// Returns the marks of a step that only has one on the lane of its name.
+fn on_named(sign: Sign, words: Words<'_>) -> Marks<'_> {
+    Marks(None, Named::Marked(sign), words)
+}
+
+/// Returns the sign of a value that the flow took or did not take.
+fn taken(is_taken: bool) -> Sign {
+    if is_taken { Sign::Value } else { Sign::Lost }
 }
 
 /// Returns the marks of a step on a flow whose answer is `true` or `false`. `emission` is the value of the step's
 /// emission, if that has a lane that has not ended: otherwise there was nothing to cancel.
-fn tested_marks(step: FlowStep, test: bool, case: Case, emission: Option<i64>) -> Marks {
+fn tested_marks(act: Act, test: bool, case: Case, emission: Option<i64>) -> Marks<'static> {
+    let Act::OnFlow(_, step) = act else {
+        return NONE;
+    };
     match (step, emission) {
-        (FlowStep::TryEmit(value), _) => value_marks(test && case != Case::DropsLatest, value),
-        (FlowStep::CompareAndSet(_, update), _) => value_marks(test, update),
+        (FlowStep::TryEmit(value), _) => on_flow(
+            taken(test && case != Case::DropsLatest),
+            Words::Number(value),
+        ),
+        (FlowStep::CompareAndSet(_, update), _) => on_flow(taken(test), Words::Number(update)),
         (FlowStep::Cancel(_), Some(value)) if test => Marks(
             Some(Sign::Lost),
             Named::Ended(Sign::Lost),
-            Content::Number(value),
+            Words::Number(value),
         ),
-        (FlowStep::Unsubscribe(_), _) if test => {
-            Marks(None, Named::Ended(Sign::Ends), Content::Nothing)
-        }
+        (FlowStep::Unsubscribe(_), _) if test => Marks(None, Named::Ended(Sign::Ends), Words::None),
         _ => NOTHING,
     }
 }
 
-/// Returns the marks of a poll, by whether the emission still waits.
-fn wait_marks(waits: bool) -> Marks {
-    if waits {
-        Marks(None, Named::Marked(Sign::Waits), Content::Nothing)
-    } else {
-        Marks(None, Named::Marked(Sign::Told), Content::Line)
-    }
-}
-
-/// Returns the marks of an emission that was done at once.
-fn done_marks(value: i64, case: Case) -> Marks {
-    let sign = if case == Case::DropsLatest {
-        Sign::Lost
-    } else {
-        Sign::Value
-    };
-    Marks(Some(sign), Named::Ended(sign), Content::Number(value))
-}
-
-/// Returns the marks of a `next`.
-fn next_marks(next: &Next<i64>) -> Marks {
-    match next {
-        Next::Value(value) => Marks(None, Named::Marked(Sign::Value), Content::Number(*value)),
-        Next::Empty => NOTHING,
-        Next::Gone => Marks(None, Named::Marked(Sign::Refused), Content::Line),
-    }
-}
-
 /// Returns the marks of a step that was refused.
-fn refused_marks(act: Act) -> Marks {
+fn refused_marks(act: Act, line: Words<'_>) -> Marks<'_> {
     match act {
         Act::OnFlow(_, FlowStep::Emit(_) | FlowStep::Subscribe) | Act::SubscribesWith(_, _) => {
-            Marks(None, Named::Ended(Sign::Refused), Content::Line)
+            Marks(None, Named::Ended(Sign::Refused), line)
         }
-        Act::OnFlow(_, FlowStep::Next(_)) => Marks(
-            None,
-            Named::Marked(Sign::Refused),
-            Content::Line,
-        ),
+        Act::OnFlow(_, FlowStep::Next(_)) => on_named(Sign::Refused, line),
         Act::OnFlow(_, FlowStep::Poll(_) | FlowStep::Cancel(_) | FlowStep::Unsubscribe(_)) => {
             NOTHING
         }
-        _ => Marks(Some(Sign::Refused), Named::Untouched, Content::Line),
+        _ => on_flow(Sign::Refused, line),
     }
 }
 
 /// Returns the value that a step emits or sets.
-fn value_of(act: Act) -> i64 {
+fn value_of(act: Act) -> Words<'static> {
     match act {
         Act::OnFlow(_, FlowStep::TryEmit(value) | FlowStep::Emit(value) | FlowStep::Set(value)) => {
-            value
+            Words::Number(value)
         }
-        _ => 0,
+        _ => Words::Number(0),
     }
 }
 
-/// Returns the marks of a step with this answer. `emission` is the value of its emission, if that has a lane that has not
-/// ended.
-pub fn marks_of(seen: &Seen, answer: &Answer, emission: Option<i64>) -> Marks {
-    match answer {
-        Answer::Tested(test) => match seen.act {
-            Act::OnFlow(_, step) => tested_marks(step, *test, seen.case, emission),
-            _ => NONE,
-        },
-        Answer::Waits(waits) => wait_marks(*waits),
-        Answer::Done => done_marks(value_of(seen.act), seen.case),
-        Answer::Queued => Marks(
-            Some(Sign::Waits),
-            Named::Marked(Sign::Waits),
-            Content::Number(value_of(seen.act)),
-        ),
-        Answer::Subscribed => Marks(None, Named::Marked(Sign::Begins), Content::Nothing),
-        Answer::Received(next) => next_marks(next),
-        Answer::Set => value_marks(true, value_of(seen.act)),
-        Answer::Cached(_) => Marks(Some(Sign::Told), Named::Untouched, Content::List),
-        Answer::Counted(_) | Answer::Got(_) | Answer::Reset | Answer::Turned(_) => Marks(
-            Some(Sign::Told),
-            Named::Untouched,
-            Content::Line,
-        ),
-        Answer::Refused(_) | Answer::TurnRefused(_) | Answer::NoFlow => { refused_marks(seen.act) }
+/// Returns the marks of a step. `emission` is the value of its emission, if that has a lane that has not ended.
+pub fn marks_of<'a>(one: PlayedStep<'a>, emission: Option<i64>) -> Marks<'a> {
+    let (act, case, line) = (one.seen.act, one.seen.case, Words::Text(one.line));
+    match one.answer {
+        Answer::Tested(test) => tested_marks(act, *test, case, emission),
+        Answer::Waits(true) => on_named(Sign::Waits, Words::None),
+        Answer::Waits(false) => on_named(Sign::Told, line),
+        Answer::Done => {
+            let sign = taken(case != Case::DropsLatest);
+            Marks(Some(sign), Named::Ended(sign), value_of(act))
+        }
+        Answer::Queued => Marks(Some(Sign::Waits), Named::Marked(Sign::Waits), value_of(act)),
+        Answer::Subscribed => on_named(Sign::Begins, Words::None),
+        Answer::Received(Next::Value(value)) => on_named(Sign::Value, Words::Number(*value)),
+        Answer::Received(Next::Empty) => NOTHING,
+        Answer::Received(Next::Gone) => on_named(Sign::Refused, line),
+        Answer::Set => on_flow(Sign::Value, value_of(act)),
+        Answer::Cached(_) => on_flow(Sign::Told, Words::List(one.line)),
+        Answer::Counted(_) | Answer::Got(_) | Answer::Reset | Answer::Turned(_) => {
+            on_flow(Sign::Told, line)
+        }
+        Answer::Refused(_) | Answer::TurnRefused(_) | Answer::NoFlow => refused_marks(act, line),
         Answer::Collected(_, _) | Answer::NotBuilt(_) => NONE,
     }
 }

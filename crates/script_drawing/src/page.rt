@@ -1,7 +1,8 @@
-//! A text that is written from its beginning to its end.
+//! A text that is written from its beginning to its end, and how wide a text is.
 
 use std::alloc::{AllocError, Global};
-use std::fmt::Display;
+use std::fmt;
+use std::fmt::{Display, Write};
 
 /// A text that is being written. If memory is refused, it no longer grows, and `finish` reports it: a caller need not
 /// check each word.
@@ -21,25 +22,20 @@ impl Page {
         }
     }
 
+    /// Returns another text, which is empty.
+    pub fn another(&self) -> Self {
+        Page::new(*self.text.allocator())
+    }
+
     /// Adds some words.
     pub fn push_str(&mut self, words: &str) {
         self.failed = self.failed || self.text.push_str(words).is_err();
     }
 
-    /// Adds a character.
-    pub fn push(&mut self, letter: char) {
-        self.failed = self.failed || self.text.push(letter).is_err();
-    }
-
-    /// Adds a number, in digits.
-    pub fn push_number<N: Display + Drop>(&mut self, number: N) {
-        self.write_fmt(number);
-    }
-
     /// Adds the same character `count` times.
     pub fn push_times(&mut self, letter: char, count: usize) {
         for _ in 0..count {
-            self.push(letter);
+            self.failed = self.failed || self.text.push(letter).is_err();
         }
     }
 
@@ -70,4 +66,31 @@ impl Page {
         }
         Ok(self.text)
     }
+}
+
+/// The text before the lines of a script, and the text after them.
+#[derive(Drop)]
+pub struct Frame {
+    pub before: String,
+    pub after: String,
+}
+
+/// Counts the bytes that are written to it.
+#[derive(Drop)]
+struct Counter {
+    count: usize,
+}
+
+impl Write for Counter {
+    fn write_str(&mut self, s: &str) -> fmt::Result {
+        self.count = self.count.saturating_add(s.len());
+        Ok(())
+    }
+}
+
+/// Returns how many characters a value has when it is written. Each of them is one byte.
+pub fn width_of<D: Display + Drop>(value: D) -> usize {
+    let mut counter = Counter { count: 0 };
+    let _written = Write::write(&mut counter, value);
+    counter.count
 }

@@ -1,81 +1,79 @@
-//! The parts of all pictures of a script.
+//! The parts of a picture, which text and SVG show.
 
-use crate::collection::collection_picture;
-use crate::layout::{Axis, Part, add_parts};
-use crate::picture::Picture;
-use crate::played::Played;
-use crate::steps::steps_picture;
-use std::alloc::{AllocError, Global};
+use crate::mark::{Label, Mark};
+use crate::played::PlayedStep;
+use serde_json::Value;
+use std::fmt;
 
-/// The parts of pictures so far.
-#[derive(Drop)]
-pub struct Parts<'a> {
-    parts: Vec<Part<'a>>,
-    /// Whether there was no memory for a part.
-    failed: bool,
+/// A column of a lane.
+#[derive(Clone, Copy)]
+pub struct Cell<'a> {
+    pub width: usize,
+    pub mark: Option<Mark<'a>>,
+    /// Whether the lane has a line in this column.
+    pub has_line: bool,
+    /// Whether its line continues that of the column before.
+    pub comes: bool,
+    /// Whether its line continues in the next column.
+    pub goes_on: bool,
+    /// Whether the lane is that of an emission, whose emitter waits as long as the lane has a line.
+    pub waits: bool,
 }
 
-impl<'a> Parts<'a> {
-    pub fn new(alloc: Global) -> Self {
-        Parts {
-            parts: Vec::new(alloc),
-            failed: false,
-        }
-    }
-
-    pub fn push(&mut self, part: Part<'a>) {
-        self.failed = self.failed || self.parts.push(part).is_err();
-    }
-
-    /// Records that there was no memory for one of the parts.
-    pub fn fail(&mut self) {
-        self.failed = true;
-    }
-
-    /// Returns the parts, or `AllocError` if there was no memory for all of them.
-    pub fn finish(self) -> Result<Vec<Part<'a>>, AllocError> {
-        if self.failed {
-            return Err(AllocError);
-        }
-        Ok(self.parts)
-    }
+/// What is written above a column: the number of its step, from 1, and the moment if it is a turn.
+#[derive(Clone, Copy)]
+pub struct Head {
+    pub number: usize,
+    moment: Option<u64>,
 }
 
-/// Adds a picture, if there was memory for it, with these steps above its columns.
-fn add_picture<'a>(
-    alloc: Global,
-    parts: &mut Parts<'a>,
-    picture: Result<Picture<'a>, AllocError>,
-    axis: Axis<'a>,
-) {
-    match picture {
-        Ok(picture) => add_parts(alloc, parts, &picture, axis),
-        Err(_) => parts.fail(),
-    }
-}
-
-/// Adds the pictures of the collections.
-fn add_collections<'a>(alloc: Global, parts: &mut Parts<'a>, played: Played<'a>) {
-    for place in 0..played.steps().len() {
-        if let Some(one) = played.step(place)
-            && let Some(chain) = one.step.get("chain")
-        {
-            parts.push(Part::Collection(place.saturating_add(1), chain));
-            let picture = collection_picture(alloc, chain, one.answer, one.line);
-            add_picture(alloc, parts, picture, Axis::none());
+impl Head {
+    /// Returns the head of a column, counted from 0, of a picture of these steps.
+    pub fn of(steps: &[PlayedStep<'_>], column: usize) -> Head {
+        Head {
+            number: column.saturating_add(1),
+            moment: match steps.get(column) {
+                Some(one) => one.seen.act.moment(),
+                None => None,
+            },
         }
     }
 }
 
-/// Returns the parts of the pictures of a script that was played: that of its steps, and those of its collections.
-pub fn parts_of<'a>(alloc: Global, played: Played<'a>) -> Result<Vec<Part<'a>>, AllocError> {
-    let mut parts = Parts::new(alloc);
-    let picture = steps_picture(alloc, played);
-    let axis = Axis {
-        steps: played.steps(),
-        seen: played.traced.trace.steps.as_slice(),
-    };
-    add_picture(alloc, &mut parts, picture, axis);
-    add_collections(alloc, &mut parts, played);
-    parts.finish()
+impl fmt::Display for Head {
+    fn fmt<W: fmt::Write>(&self, f: &mut fmt::Formatter<W>) -> fmt::Result {
+        let number = self.number;
+        match self.moment {
+            Some(moment) => write!(f, "{number} at {moment}"),
+            None => write!(f, "{number}"),
+        }
+    }
+}
+
+/// The step of a column.
+#[derive(Clone, Copy)]
+pub struct Numbered<'a> {
+    pub head: Head,
+    pub step: &'a Value,
+    /// The width of the column.
+    pub width: usize,
+    /// The widest mark in the column.
+    pub widest: Option<Mark<'a>>,
+}
+
+/// A part of a picture. The parts are in order from left to right, line by line.
+#[derive(Clone, Copy)]
+pub enum Part<'a> {
+    /// Begins the line of the steps' numbers, after labels of this width.
+    Numbers(usize),
+    Number(Numbered<'a>),
+    EndNumbers,
+    /// Begins a lane, with its label and the width of the labels.
+    Name(Label<'a>, usize),
+    Cell(Cell<'a>),
+    EndLane,
+    /// Ends a band with this width, including the labels.
+    EndBand(usize),
+    /// Begins the picture of a collection, with the number of its step, and its chain.
+    Collection(usize, &'a Value),
 }

@@ -1,20 +1,20 @@
-//! The steps of a script that was played, with their lines.
+//! A script that was played: its flows, and its steps with their lines. All that is shown of a script is written from
+//! these.
 
-use crate::page::Page;
-use crate::script_words::add_step;
 use flow_script::{Answer, FlowTrace, Seen, TracedScript};
 use json_places::Extent;
 use serde_json::Value;
 use std::alloc::{AllocError, Global};
 
-/// A script that was played. A line that is missing counts as empty.
+/// A script that was played.
 #[derive(Clone, Copy)]
 pub struct Played<'a> {
     pub traced: &'a TracedScript,
     /// The parts of the text between its line feeds: a line for each flow that was refused, and then one for each step.
     pub lines: &'a [&'a str],
-    /// The bytes of the steps in the script's text, if the form of the drawing has them.
-    pub extents: &'a [Extent],
+    /// In the order in which they are made.
+    pub flows: &'a [PlayedFlow<'a>],
+    pub steps: &'a [PlayedStep<'a>],
 }
 
 /// A flow of a script that was played.
@@ -29,112 +29,104 @@ pub struct PlayedFlow<'a> {
 /// A step that was played.
 #[derive(Clone, Copy)]
 pub struct PlayedStep<'a> {
+    /// The number of the step, from 1.
+    pub number: usize,
     /// The step as the script has it.
     pub step: &'a Value,
     pub seen: &'a Seen,
     pub answer: &'a Answer,
+    /// Its line. A line that is missing counts as empty.
     pub line: &'a str,
+    /// The rule behind its line; empty if the form of the drawing has no rules.
+    pub rule: &'a str,
+    /// The bytes of the step in the script's text, if the form of the drawing has them.
+    pub extent: Option<Extent>,
+    /// The final lag of the subscriber that the step introduced, or 0 if it introduced none.
+    pub last_lag: u64,
 }
 
-impl<'a> Played<'a> {
-    /// Returns the steps that were played, as the script has them.
-    pub(crate) fn steps(&self) -> &'a [Value] {
-        self.traced.steps()
-    }
-
-    /// Returns the flows in the order in which they are made. The only flow of a script that does not name it has the name
-    /// `flow`.
-    ///
-    /// # Errors
-    /// `AllocError`: out of memory.
-    pub(crate) fn flows(&self, alloc: Global) -> Result<Vec<PlayedFlow<'a>>, AllocError> {
-        let TracedScript {
-            value: script,
+/// Returns the flows of a script. The only flow of a script that does not name it has the name `flow`.
+///
+/// # Errors
+/// `AllocError`: out of memory.
+pub fn flows_of(alloc: Global, traced: &TracedScript) -> Result<Vec<PlayedFlow<'_>>, AllocError> {
+    let TracedScript {
+        value: script,
+        trace,
+    } = traced;
+    let mut flows = Vec::new(alloc);
+    if let (Some(value), Some(trace)) = (script.get("flow"), trace.flows.first()) {
+        flows.push(PlayedFlow {
+            name: "flow",
+            value,
             trace,
-        } = self.traced;
-        let mut flows = Vec::new(alloc);
-        if let (Some(value), Some(trace)) = (script.get("flow"), trace.flows.first()) {
+        })?;
+    } else if let Some(Value::Object(heads)) = script.get("flows") {
+        for ((name, value), trace) in heads.iter().zip(trace.flows.iter()) {
             flows.push(PlayedFlow {
-                name: "flow",
+                name: name.as_str(),
                 value,
                 trace,
             })?;
-        } else if let Some(Value::Object(heads)) = script.get("flows") {
-            for ((name, value), trace) in heads.iter().zip(trace.flows.iter()) {
-                flows.push(PlayedFlow {
-                    name: name.as_str(),
-                    value,
-                    trace,
-                })?;
-            }
         }
-        Ok(flows)
     }
+    Ok(flows)
+}
 
+/// Returns the steps of a script, with these lines, rules and extents.
+///
+/// # Errors
+/// `AllocError`: out of memory.
+pub fn steps_of<'a>(
+    alloc: Global,
+    traced: &'a TracedScript,
+    lines: &'a [&'a str],
+    rules: &'a [String],
+    extents: &[Extent],
+) -> Result<Vec<PlayedStep<'a>>, AllocError> {
+    let trace = &traced.trace;
+    let lines = lines.get(trace.answers.not_made.len()..).unwrap_or(&[]);
+    let mut steps = Vec::new(alloc);
+    for (place, step) in traced.steps().iter().enumerate() {
+        if let (Some(seen), Some(answer)) = (trace.steps.get(place), trace.answers.steps.get(place)) {
+            steps.push(PlayedStep {
+                number: place.saturating_add(1),
+                step,
+                seen,
+                answer,
+                line: lines.get(place).copied().unwrap_or(""),
+                rule: rule_at(rules, place),
+                extent: extents.get(place).copied(),
+                last_lag: match trace.last_lags.get(place) {
+                    Some(Some(lag)) => *lag,
+                    _ => 0,
+                },
+            })?;
+        }
+    }
+    Ok(steps)
+}
+
+fn rule_at(rules: &[String], place: usize) -> &str {
+    match rules.get(place) {
+        Some(rule) => rule.as_str(),
+        None => "",
+    }
+}
+
+impl<'a> Played<'a> {
     /// Returns how many lines precede that of the first step: one for each flow that was refused.
-    pub(crate) fn refused(&self) -> usize {
+    pub fn refused(&self) -> usize {
         self.traced.trace.answers.not_made.len()
     }
 
-    /// Returns the step at a place, counted from 0.
-    pub(crate) fn step(&self, place: usize) -> Option<PlayedStep<'a>> {
-        let trace = &self.traced.trace;
-        let line = match self.lines.get(place.saturating_add(self.refused())) {
-            Some(line) => line,
-            None => "",
-        };
-        Some(PlayedStep {
-            step: self.traced.steps().get(place)?,
-            seen: trace.steps.get(place)?,
-            answer: trace.answers.steps.get(place)?,
-            line,
-        })
+    /// Returns the lines of the flows that were refused.
+    pub fn refused_lines(&self) -> &'a [&'a str] {
+        self.lines.get(..self.refused()).unwrap_or(&[])
     }
 
-    /// Returns the bytes of the step at a place in the script's text.
-    pub(crate) fn extent(&self, place: usize) -> Option<Extent> {
-        self.extents.get(place).copied()
-    }
-
-    /// Returns the final lag of the subscriber that a step introduced, or 0 if it introduced none.
-    pub(crate) fn last_lag(&self, step: usize) -> u64 {
-        match self.traced.trace.last_lags.get(step) {
-            Some(lag) => lag.unwrap_or(0),
-            None => 0,
-        }
-    }
-
-    /// Adds the step that wrote the line at a place, in words. The line of a flow that was refused has no step.
-    fn begin_line(&self, page: &mut Page, place: usize) {
-        if let Some(before) = place.checked_sub(self.refused())
-            && let Some(step) = self.traced.steps().get(before)
-        {
-            write!(page, "{:>5}  ", before.saturating_add(1));
-            add_step(page, step);
-            page.push_str(": ");
-        }
-    }
-
-    /// Adds to `words` the text before the line at a place: the end of the line before it, with its rule unless that is
-    /// empty, and the step that wrote the line, in words.
-    ///
-    /// # Errors
-    /// `AllocError`: out of memory.
-    pub fn add_words_before(
-        &self,
-        words: &mut String,
-        place: usize,
-        rule: &str,
-    ) -> Result<(), AllocError> {
-        let mut page = Page::new(*words.allocator());
-        if !rule.is_empty() {
-            page.push_str("  -- ");
-            page.push_str(rule);
-        }
-        if place > 0 {
-            page.push('\n');
-        }
-        self.begin_line(&mut page, place);
-        words.push_str(page.finish()?.as_str())
+    /// Returns the step that wrote the line at a place. The line of a flow that was refused has no step.
+    pub fn step_of_line(&self, place: usize) -> Option<&'a PlayedStep<'a>> {
+        self.steps.get(place.checked_sub(self.refused())?)
     }
 }

@@ -1,4 +1,4 @@
-//! The words of a script that was read, and of its lines.
+//! The words of a script that was read.
 
 use crate::page::Page;
 use flow_script::text_at;
@@ -12,16 +12,12 @@ pub fn items_of<'a>(value: &'a Value, key: &str) -> &'a [Value] {
     }
 }
 
-/// Adds a number, a word or a list, and `{..}` for anything else.
-pub fn add_value(page: &mut Page, value: &Value) {
+/// Adds a number, a word or a list.
+fn add_value(page: &mut Page, value: &Value) {
     match value {
         Value::String(word) => page.push_str(word.as_str()),
         Value::Array(items) => add_items(page, items.as_slice()),
-        _ => match (value.as_i64(), value.as_u64()) {
-            (Some(number), _) => page.push_number(number),
-            (None, Some(number)) => page.push_number(number),
-            (None, None) => page.push_str("{..}"),
-        },
+        _ => write!(page, "{value}"),
     }
 }
 
@@ -30,18 +26,16 @@ const MOST_ITEMS: usize = 12;
 
 /// Adds an item of a list: a number, a word or a fault.
 fn add_item(page: &mut Page, index: usize, item: &Value) {
-    if index > 0 {
-        page.push_str(", ");
-    }
+    let before = if index > 0 { ", " } else { "" };
     match item.as_i64() {
-        Some(number) => page.push_number(number),
-        None => page.push_str(item.as_str().unwrap_or("fault")),
+        Some(number) => write!(page, "{before}{number}"),
+        None => write!(page, "{before}{}", item.as_str().unwrap_or("fault")),
     }
 }
 
 /// Adds a list of numbers, words and faults.
 fn add_items(page: &mut Page, items: &[Value]) {
-    page.push('[');
+    page.push_str("[");
     for (index, item) in items.iter().take(MOST_ITEMS).enumerate() {
         add_item(page, index, item);
     }
@@ -57,7 +51,7 @@ fn add_members(page: &mut Page, op: &Value, are_words: bool) {
     if let Value::Object(members) = op {
         for (key, value) in members {
             if key.as_str() != "op" && value.is_string() == are_words {
-                page.push(' ');
+                page.push_str(" ");
                 add_value(page, value);
             }
         }
@@ -65,29 +59,28 @@ fn add_members(page: &mut Page, op: &Value, are_words: bool) {
 }
 
 /// Adds the source of a chain: its items, or the first and the last number of a range.
-fn add_source(page: &mut Page, source: &Value) {
-    match items_of(source, "range") {
-        [first, last] => {
-            add_value(page, first);
-            page.push_str(" to ");
-            add_value(page, last);
-        }
-        _ => match source.get("of") {
-            Some(items) => add_value(page, items),
-            None => add_items(page, items_of(source, "script")),
-        },
+fn add_source(page: &mut Page, chain: &Value) {
+    let Some(source) = chain.get("from") else {
+        return;
+    };
+    match (items_of(source, "range"), source.get("of")) {
+        ([first, last], _) => write!(page, "{first} to {last}"),
+        (_, Some(items)) => add_value(page, items),
+        (_, None) => add_items(page, items_of(source, "script")),
     }
 }
 
-/// Adds an operator: its name, and what it was given.
+/// Adds an operator: its name, and what it was given. Of another chain that are its source, and the names of its
+/// operators.
 fn add_op(page: &mut Page, op: &Value) {
     page.push_str(text_at(op, "op"));
     match op.get("with") {
         Some(with) => {
-            page.push(' ');
-            page.push_str(text_at(op, "by"));
-            page.push_str(" with ");
-            add_short_chain(page, with);
+            write!(page, " {} with ", text_at(op, "by"));
+            add_source(page, with);
+            for op in items_of(with, "ops") {
+                write!(page, " {}", text_at(op, "op"));
+            }
         }
         None => {
             add_members(page, op, true);
@@ -96,22 +89,9 @@ fn add_op(page: &mut Page, op: &Value) {
     }
 }
 
-/// Adds the source of a chain, and the names of its operators.
-fn add_short_chain(page: &mut Page, chain: &Value) {
-    if let Some(source) = chain.get("from") {
-        add_source(page, source);
-    }
-    for op in items_of(chain, "ops") {
-        page.push(' ');
-        page.push_str(text_at(op, "op"));
-    }
-}
-
 /// Adds a chain: its source, and its operators.
 pub fn add_chain(page: &mut Page, chain: &Value) {
-    if let Some(source) = chain.get("from") {
-        add_source(page, source);
-    }
+    add_source(page, chain);
     for (index, op) in items_of(chain, "ops").iter().enumerate() {
         page.push_str(if index > 0 { ", " } else { ", then " });
         add_op(page, op);
@@ -124,27 +104,22 @@ pub fn add_collection(page: &mut Page, step: usize, chain: &Value) {
     add_chain(page, chain);
 }
 
-/// Adds the value of a key, after a space: of a chain its source and its operators, and of anything else the value itself.
-fn add_member(page: &mut Page, key: &str, value: &Value) {
-    page.push(' ');
-    if key == "chain" {
-        add_chain(page, value);
-    } else {
-        add_value(page, value);
-    }
-}
-
 /// The keys of a step, in the order of its words.
 const STEP_KEYS: &[&str] = &[
     "flow", "name", "first", "value", "expect", "update", "at", "chain",
 ];
 
-/// Adds a step in words.
+/// Adds a step in words: what it does, and the value of each key. That of a chain is its source and its operators.
 pub fn add_step(page: &mut Page, step: &Value) {
     page.push_str(text_at(step, "do"));
     for key in STEP_KEYS {
         if let Some(value) = step.get(*key) {
-            add_member(page, key, value);
+            page.push_str(" ");
+            if *key == "chain" {
+                add_chain(page, value);
+            } else {
+                add_value(page, value);
+            }
         }
     }
 }

@@ -1,4 +1,10 @@
-//! The styles of an SVG.
+//! The parts of an SVG that are the same in each.
+
+/// The attributes of the picture after its size, the title, and the beginning of the description.
+pub const FRONT: &str = " \
+role=\"img\" aria-labelledby=\"title lines\">
+<title id=\"title\">A flow script, step by step</title>
+<desc id=\"lines\">";
 
 /// The end of the description, and styles for a light background and for a dark one.
 pub const STYLE: &str = "\

@@ -1,20 +1,15 @@
 //! A picture as SVG.
 
-use crate::colours::Colours;
-use crate::frame::Frame;
-use crate::layout::{Cell, Numbered, Part};
+use crate::flow_words::heads_of;
+use crate::layout::parts_of;
 use crate::legend::{Entry, legend_of};
-use crate::page::Page;
-use crate::parts::parts_of;
-use crate::picture::Label;
+use crate::mark::Label;
+use crate::page::{Frame, Page, width_of};
+use crate::parts::{Cell, Numbered, Part};
 use crate::played::Played;
 use crate::script_words::add_collection;
-use crate::steps::{add_all_heads, add_heads};
-use crate::style::STYLE;
-use crate::svg_marks::{
-    END_TEXT, add_attribute, add_cell, add_mark, begin_step_number, begin_text, pixels, size_of,
-};
-use crate::widths::{add_head, add_label, note_width};
+use crate::style::{FRONT, STYLE};
+use crate::svg_marks::{Colours, add_cell, add_mark, add_text, pixels, size_of};
 use flow_script::text_at;
 use serde_json::Value;
 use std::alloc::{AllocError, Global};
@@ -34,21 +29,6 @@ const LANE: usize = 38;
 /// The height of the steps' numbers and words above their columns.
 const HEADER: usize = 62;
 
-/// Adds the number of a step above the middle of its mark, and what the step does, in a word that rises to the right from
-/// `y` on.
-fn add_step_head(page: &mut Page, numbered: Numbered<'_>, x: usize, y: usize) {
-    begin_step_number(page, numbered.number, x, y.saturating_add(14));
-    add_head(page, numbered.number, numbered.moment);
-    page.push_str(END_TEXT);
-    page.push_str("<text class=\"h\" transform=\"translate(");
-    page.push_number(x);
-    page.push(' ');
-    page.push_number(y);
-    page.push_str(") rotate(-24)\">");
-    page.push_str(text_at(numbered.step, "do"));
-    page.push_str(END_TEXT);
-}
-
 /// The width of a small character, in pixels.
 const SMALL: usize = 6;
 
@@ -57,31 +37,6 @@ const BETWEEN: usize = 24;
 
 /// The height of a row of the legend.
 const ROW: usize = 32;
-
-/// The width of a mark with its note, in pixels.
-fn marked_width(entry: Entry) -> usize {
-    let note = note_width(entry.mark.note).saturating_mul(SMALL);
-    size_of(entry.mark).0.saturating_add(note)
-}
-
-/// Returns the width of an entry of the legend, in pixels.
-fn entry_width(entry: Entry) -> usize {
-    let words = entry.words.len().saturating_mul(SMALL);
-    marked_width(entry).saturating_add(words).saturating_add(8)
-}
-
-/// Adds the text before the lines of a script. The lines are a part of the description in words, after the flows.
-fn add_front(alloc: Global, page: &mut Page, played: Played<'_>, width: usize, height: usize) {
-    page.push_str("<svg xmlns=\"http://www.w3.org/2000/svg\" viewBox=\"0 0 ");
-    page.push_number(width);
-    page.push(' ');
-    page.push_number(height);
-    page.push('"');
-    add_attribute(page, "width", width);
-    add_attribute(page, "height", height);
-    page.push_str(TITLE);
-    add_heads(alloc, page, played);
-}
 
 /// The column of a step, in pixels.
 #[derive(Clone, Copy)]
@@ -104,92 +59,92 @@ pub struct LaneName<'a> {
     pub label: Label<'a>,
 }
 
-/// A picture as SVG, and where its parts are.
+/// Where the parts of a picture are.
 #[derive(Drop)]
-pub struct SvgPicture<'a> {
-    pub frame: Frame,
+pub struct Places<'a> {
     pub columns: Vec<Column>,
     pub names: Vec<LaneName<'a>>,
 }
 
-/// The text after the lines of a script: the end of the description, and the elements that were drawn so far, with the
-/// width and the height that they need.
+/// The elements that were drawn so far, with the width and the height that they need.
 #[derive(Drop)]
 struct Canvas<'a> {
-    alloc: Global,
     page: Page,
     width: usize,
     height: usize,
     /// Where the next column begins.
     x: usize,
     colours: Colours,
-    columns: Vec<Column>,
+    places: Places<'a>,
     /// How many of the columns are in bands that have ended.
     ended: usize,
-    names: Vec<LaneName<'a>>,
 }
 
 impl<'a> Canvas<'a> {
-    /// Adds a line of words. They have no character that SVG would interpret.
+    fn new(alloc: Global) -> Self {
+        Canvas {
+            page: Page::new(alloc),
+            width: LEAST_WIDTH,
+            height: 12,
+            x: 0,
+            colours: Colours::new(alloc),
+            places: Places {
+                columns: Vec::new(alloc),
+                names: Vec::new(alloc),
+            },
+            ended: 0,
+        }
+    }
+
+    /// Adds a line of words.
     fn add_words(&mut self, words: &str) {
         let y = self.height.saturating_add(22);
         let width = words.len().saturating_mul(8).saturating_add(16);
         self.width = self.width.max(width);
         self.height = y.saturating_add(8);
-        begin_text(&mut self.page, "a", 8, y);
-        self.page.push_str(words);
-        self.page.push_str(END_TEXT);
+        add_text(&mut self.page, "a", 8, y, words);
     }
 
-    /// Adds the flows, and the lines of those that were refused.
-    fn add_heads(&mut self, played: Played<'_>) {
-        let mut heads = Page::new(self.alloc);
-        add_all_heads(self.alloc, &mut heads, played);
-        match heads.finish() {
-            Ok(heads) => {
-                for head in heads.as_str().lines() {
-                    self.add_words(head);
-                }
-            }
-            Err(_) => self.page.fail(),
-        }
-    }
-
-    /// Adds the number of a step above its column, and what the step does, in a word that rises to the right.
+    /// Adds the number of a step above the middle of its mark, and what the step does, in a word that rises to the
+    /// right. A program finds the column by its attribute `data-step`.
     fn add_number(&mut self, numbered: Numbered<'_>) {
+        let (head, step) = (numbered.head, numbered.head.number);
         let x = pixels(1).saturating_add(self.x);
-        let y = self.height.saturating_add(40);
-        let width = pixels(numbered.width);
-        self.x = self.x.saturating_add(width);
+        let top = self.height.saturating_add(40);
+        let (y, width) = (top.saturating_add(14), pixels(numbered.width));
         let mark = match numbered.widest {
             Some(mark) => size_of(mark).0,
             None => LEAST_MARK,
         };
-        add_step_head(&mut self.page, numbered, x.saturating_add(mark / 2), y);
+        let middle = x.saturating_add(mark / 2);
+        let word = text_at(numbered.step, "do");
+        write!(self.page, "<text class=\"h n\" data-step=\"{step}\" x=\"{middle}\" y=\"{y}\">{head}</text>\n");
+        write!(self.page, "<text class=\"h\" transform=\"translate({middle} {top}) rotate(-24)\">{word}</text>\n");
         let column = Column {
-            step: numbered.number,
+            step,
             x,
-            y: y.saturating_add(14),
+            y,
             width,
             bottom: 0,
         };
-        if self.columns.push(column).is_err() {
+        if self.places.columns.push(column).is_err() {
             self.page.fail();
         }
+        self.x = self.x.saturating_add(width);
     }
 
     /// Ends a band of this width: the lanes below its columns end here.
     fn end_band(&mut self, width: usize) {
         self.width = self.width.max(pixels(width).saturating_add(MARGIN));
-        for place in self.ended..self.columns.len() {
-            self.columns[place].bottom = self.height;
+        for place in self.ended..self.places.columns.len() {
+            self.places.columns[place].bottom = self.height;
         }
-        self.ended = self.columns.len();
+        self.ended = self.places.columns.len();
     }
 
     /// Adds a collection in words.
     fn add_collection(&mut self, step: usize, chain: &Value) {
-        let mut words = Page::new(self.alloc);
+        let mut words = self.page.another();
         add_collection(&mut words, step, chain);
         match words.finish() {
             Ok(words) => self.add_words(words.as_str()),
@@ -200,26 +155,22 @@ impl<'a> Canvas<'a> {
     /// Adds the label of a lane, and begins its columns after labels of this width.
     fn add_name(&mut self, label: Label<'a>, width: usize) {
         let y = self.height.saturating_add(LANE / 2 + 5);
-        if self.names.push(LaneName { y, label }).is_err() {
+        if self.places.names.push(LaneName { y, label }).is_err() {
             self.page.fail();
         }
         self.x = pixels(width);
-        begin_text(&mut self.page, "a", 8, y);
-        add_label(&mut self.page, label, " &lt; ");
-        self.page.push_str(END_TEXT);
+        write!(self.page, "<text class=\"a\" x=\"8\" y=\"{y}\">");
+        match label.cut() {
+            (name, Some(flow)) => write!(self.page, "{name} &lt; {flow}</text>\n"),
+            (name, None) => write!(self.page, "{name}</text>\n"),
+        }
     }
 
     /// Adds a column of a lane.
     fn add_cell(&mut self, cell: Cell<'_>) {
-        let x = self.x;
-        self.x = x.saturating_add(pixels(cell.width));
-        add_cell(
-            &mut self.page,
-            &mut self.colours,
-            cell,
-            x,
-            self.height.saturating_add(LANE / 2),
-        );
+        let y = self.height.saturating_add(LANE / 2);
+        add_cell(&mut self.page, &mut self.colours, cell, self.x, y);
+        self.x = self.x.saturating_add(pixels(cell.width));
     }
 
     fn add_part(&mut self, part: Part<'a>) {
@@ -237,17 +188,18 @@ impl<'a> Canvas<'a> {
 
     /// Adds an entry of the legend, in the row that ends at the height so far, or in another row if that has no room.
     fn add_entry(&mut self, entry: Entry) {
-        let width = entry_width(entry);
+        let Entry { mark, words } = entry;
+        let note = width_of(mark.note).saturating_mul(SMALL);
+        let marked = size_of(mark).0.saturating_add(note).saturating_add(8);
+        let width = words.len().saturating_mul(SMALL).saturating_add(marked);
         if self.x.saturating_add(width) > self.width {
             self.x = 8;
             self.height = self.height.saturating_add(ROW);
         }
         let y = self.height.saturating_sub(ROW / 2);
-        add_mark(&mut self.page, &mut self.colours, entry.mark, self.x, y);
-        let after = self.x.saturating_add(marked_width(entry)).saturating_add(8);
-        begin_text(&mut self.page, "h", after, y.saturating_add(4));
-        self.page.push_str(entry.words);
-        self.page.push_str(END_TEXT);
+        let after = self.x.saturating_add(marked);
+        add_mark(&mut self.page, &mut self.colours, mark, self.x, y);
+        add_text(&mut self.page, "h", after, y.saturating_add(4), words);
         self.x = self.x.saturating_add(width).saturating_add(BETWEEN);
     }
 
@@ -261,71 +213,45 @@ impl<'a> Canvas<'a> {
         self.height = self.height.saturating_add(8);
     }
 
-    /// Adds the parts, and what their marks mean.
+    /// Adds the flows and the lines of those that were refused, each in a line of words.
+    fn add_heads(&mut self, heads: &str) {
+        for head in heads.lines() {
+            self.add_words(head);
+        }
+    }
+
     fn add_parts(&mut self, parts: &[Part<'a>]) {
         for part in parts {
             self.add_part(*part);
         }
-        match legend_of(self.alloc, parts) {
-            Ok(entries) => self.add_legend(entries.as_slice()),
-            Err(_) => self.page.fail(),
-        }
-    }
-
-    /// Adds all that is drawn of a script.
-    fn add_all(&mut self, played: Played<'a>) {
-        self.page.push_str(STYLE);
-        self.add_heads(played);
-        match parts_of(self.alloc, played) {
-            Ok(parts) => self.add_parts(parts.as_slice()),
-            Err(_) => self.page.fail(),
-        }
-        self.page.push_str("</svg>\n");
-    }
-
-    /// Returns the picture: the text before the lines of a script and the text after them, and where its parts are.
-    fn finish(self, played: Played<'a>) -> Result<SvgPicture<'a>, AllocError> {
-        let Canvas {
-            alloc,
-            page,
-            width,
-            height,
-            columns,
-            names,
-            ..
-        } = self;
-        let mut front = Page::new(alloc);
-        add_front(alloc, &mut front, played, width, height);
-        let (Ok(before), Ok(after)) = (front.finish(), page.finish()) else {
-            return Err(AllocError);
-        };
-        Ok(SvgPicture {
-            frame: Frame { before, after },
-            columns,
-            names,
-        })
     }
 }
 
-/// The title, and the beginning of the description.
-const TITLE: &str = " \
-role=\"img\" aria-labelledby=\"title lines\">
-<title id=\"title\">A flow script, step by step</title>
-<desc id=\"lines\">";
-
-/// Returns the pictures of a script as SVG, around the lines.
-pub fn svg_picture<'a>(alloc: Global, played: Played<'a>) -> Result<SvgPicture<'a>, AllocError> {
-    let mut canvas = Canvas {
-        alloc,
-        page: Page::new(alloc),
-        width: LEAST_WIDTH,
-        height: 12,
-        x: 0,
-        colours: Colours::new(alloc),
-        columns: Vec::new(alloc),
-        ended: 0,
-        names: Vec::new(alloc),
-    };
-    canvas.add_all(played);
-    canvas.finish(played)
+/// Returns the pictures of a script as SVG, around the lines, and where their parts are. The lines are a part of the
+/// description in words, after the flows.
+pub fn svg_picture<'a>(
+    alloc: Global,
+    played: Played<'a>,
+) -> Result<(Frame, Places<'a>), AllocError> {
+    let parts = parts_of(alloc, played)?;
+    let legend = legend_of(alloc, parts.as_slice())?;
+    let heads = heads_of(alloc, played, played.refused_lines())?;
+    let mut canvas = Canvas::new(alloc);
+    canvas.page.push_str(STYLE);
+    canvas.add_heads(heads.as_str());
+    canvas.add_parts(parts.as_slice());
+    canvas.add_legend(legend.as_slice());
+    canvas.page.push_str("</svg>\n");
+    let Canvas {
+        page,
+        width,
+        height,
+        places,
+        ..
+    } = canvas;
+    let flows = heads_of(alloc, played, &[])?;
+    let mut front = Page::new(alloc);
+    write!(front, "<svg xmlns=\"http://www.w3.org/2000/svg\" viewBox=\"0 0 {width} {height}\" width=\"{width}\" height=\"{height}\"{FRONT}{flows}");
+    let (before, after) = (front.finish()?, page.finish()?);
+    Ok((Frame { before, after }, places))
 }

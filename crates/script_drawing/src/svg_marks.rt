@@ -1,10 +1,10 @@
 //! The marks of a lane and its line as SVG.
 
-use crate::colours::Colours;
-use crate::layout::Cell;
-use crate::page::Page;
-use crate::picture::{Mark, Note, Sign, Words};
-use crate::widths::{add_note, add_words, words_width};
+use crate::mark::{Mark, Note, Sign, Words};
+use crate::page::{Page, width_of};
+use crate::parts::Cell;
+use indexmap::IndexSet;
+use std::fmt::Display;
 
 /// The width of a character, in pixels.
 const CHARACTER: usize = 9;
@@ -14,48 +14,9 @@ pub fn pixels(characters: usize) -> usize {
     characters.saturating_mul(CHARACTER)
 }
 
-/// The end of a text.
-pub const END_TEXT: &str = "</text>\n";
-
-/// The end of an element that has nothing in it.
-const END_ELEMENT: &str = "/>\n";
-
-/// Adds the beginning of an element of a class.
-fn begin_element(page: &mut Page, element: &str, class: &str) {
-    page.push_str(element);
-    page.push_str(" class=\"");
-    page.push_str(class);
-    page.push('"');
-}
-
-/// Adds an attribute that is a number.
-pub fn add_attribute(page: &mut Page, name: &str, number: usize) {
-    page.push(' ');
-    page.push_str(name);
-    page.push_str("=\"");
-    page.push_number(number);
-    page.push('"');
-}
-
-/// Adds the place of a text, and the end of the text's tag.
-fn add_text_place(page: &mut Page, x: usize, y: usize) {
-    add_attribute(page, "x", x);
-    add_attribute(page, "y", y);
-    page.push('>');
-}
-
-/// Adds the beginning of a text of a class at a place.
-pub fn begin_text(page: &mut Page, class: &str, x: usize, y: usize) {
-    begin_element(page, "<text", class);
-    add_text_place(page, x, y);
-}
-
-/// Adds the beginning of the number above the column of a step, whose middle is at `x`. A program finds the column by its
-/// attribute `data-step`.
-pub fn begin_step_number(page: &mut Page, step: usize, x: usize, y: usize) {
-    begin_element(page, "<text", "h n");
-    add_attribute(page, "data-step", step);
-    add_text_place(page, x, y);
+/// Adds a text of a class at a place. It has no character that SVG would interpret.
+pub fn add_text<D: Display + Drop>(page: &mut Page, class: &str, x: usize, y: usize, words: D) {
+    write!(page, "<text class=\"{class}\" x=\"{x}\" y=\"{y}\">{words}</text>\n");
 }
 
 /// How a mark looks: the class of its box, the class of its words, and the radius of the box's corners.
@@ -83,17 +44,30 @@ pub fn size_of(mark: Mark<'_>) -> (usize, usize) {
         Sign::Over => (0, 0),
         Sign::Nothing => (10, 10),
         _ => {
-            let width = pixels(words_width(mark.words)).saturating_add(12);
+            let width = pixels(width_of(mark.words)).saturating_add(12);
             (width.max(26), 26)
         }
     }
 }
 
+/// The hue of the first value, in degrees: a blue.
+const FIRST_HUE: usize = 205;
+
+/// The distance from the hue of a value to that of the next one. Neighbours differ much, and no two of 360 values have
+/// the same hue.
+const HUE_STEP: usize = 137;
+
+/// The values of a picture, in the order in which they are drawn. Each has a colour.
+pub type Colours = IndexSet<i64>;
+
 /// Adds the colour of a value that was taken.
 fn add_colour(page: &mut Page, colours: &mut Colours, mark: Mark<'_>) {
     if let (Sign::Value, Words::Number(value)) = (mark.sign, mark.words) {
-        match colours.hue(value) {
-            Ok(hue) => write!(page, " fill=\"hsl({hue},85%,83%)\""),
+        match colours.insert_full(value) {
+            Ok((place, _)) => {
+                let hue = (place % 360).wrapping_mul(HUE_STEP).wrapping_add(FIRST_HUE) % 360;
+                write!(page, " fill=\"hsl({hue},85%,83%)\"");
+            }
             Err(_) => page.fail(),
         }
     }
@@ -103,70 +77,40 @@ fn add_colour(page: &mut Page, colours: &mut Colours, mark: Mark<'_>) {
 fn add_box(page: &mut Page, colours: &mut Colours, mark: Mark<'_>, x: usize, y: usize) {
     let (shape, _, corner) = look_of(mark);
     let (width, height) = size_of(mark);
-    begin_element(page, "<rect", shape);
+    let top = y.saturating_sub(height / 2);
+    write!(page, "<rect class=\"{shape}\"");
     add_colour(page, colours, mark);
-    add_attribute(page, "x", x);
-    add_attribute(page, "y", y.saturating_sub(height / 2));
-    add_attribute(page, "width", width);
-    add_attribute(page, "height", height);
-    add_attribute(page, "rx", corner);
-    page.push_str(END_ELEMENT);
+    write!(page, " x=\"{x}\" y=\"{top}\" width=\"{width}\" height=\"{height}\" rx=\"{corner}\"/>\n");
 }
 
-/// Crosses out the box of a mark, from corner to corner.
-fn add_cross(page: &mut Page, width: usize, x: usize, y: usize) {
-    begin_element(page, "<line", "z");
-    add_attribute(page, "x1", x.saturating_add(2));
-    add_attribute(page, "y1", y.saturating_add(11));
-    add_attribute(page, "x2", x.saturating_add(width).saturating_sub(2));
-    add_attribute(page, "y2", y.saturating_sub(11));
-    page.push_str(END_ELEMENT);
+/// Adds a line of a class between two places.
+fn add_line(page: &mut Page, class: &str, from: (usize, usize), to: (usize, usize)) {
+    let ((x1, y1), (x2, y2)) = (from, to);
+    write!(page, "<line class=\"{class}\" x1=\"{x1}\" y1=\"{y1}\" x2=\"{x2}\" y2=\"{y2}\"/>\n");
 }
 
-/// Adds a mark whose box begins at `x`, on the line at `y`.
+/// Adds a mark whose box begins at `x`, on the line at `y`. A value that is lost is crossed out, from corner to corner,
+/// and a note is to the right of the mark.
 pub fn add_mark(page: &mut Page, colours: &mut Colours, mark: Mark<'_>, x: usize, y: usize) {
     let (_, class, _) = look_of(mark);
     let (width, _) = size_of(mark);
+    let end = x.saturating_add(width);
     add_box(page, colours, mark, x, y);
     if matches!(mark.sign, Sign::Lost) {
-        add_cross(page, width, x, y);
+        let (left, right) = (x.saturating_add(2), end.saturating_sub(2));
+        let (low, high) = (y.saturating_add(11), y.saturating_sub(11));
+        add_line(page, "z", (left, low), (right, high));
     }
-    begin_text(
-        page,
-        class,
-        x.saturating_add(width / 2),
-        y.saturating_add(5),
-    );
-    add_words(page, mark.words);
-    page.push_str(END_TEXT);
-    add_note_at(page, mark.note, x.saturating_add(width), y);
-}
-
-/// Adds a note to the right of its mark.
-fn add_note_at(page: &mut Page, note: Note, x: usize, y: usize) {
-    if matches!(note, Note::None) {
-        return;
+    let middle = x.saturating_add(width / 2);
+    add_text(page, class, middle, y.saturating_add(5), mark.words);
+    if !matches!(mark.note, Note::None) {
+        let (right, above) = (end.saturating_add(3), y.saturating_sub(5));
+        add_text(page, "h", right, above, mark.note);
     }
-    begin_text(page, "h", x.saturating_add(3), y.saturating_sub(5));
-    add_note(page, note);
-    page.push_str(END_TEXT);
 }
 
-/// Adds the line of a lane through a column from `x` on. `middle` is the middle of the column's mark, or the place
-/// where a mark would begin if there is none.
-fn add_line(page: &mut Page, cell: Cell<'_>, x: usize, middle: usize, y: usize) {
-    let end = x.saturating_add(pixels(cell.width));
-    let from = if cell.comes { x } else { middle };
-    let to = if cell.goes_on { end } else { middle };
-    begin_element(page, "<line", if cell.waits { "x d" } else { "x" });
-    add_attribute(page, "x1", from);
-    add_attribute(page, "y1", y);
-    add_attribute(page, "x2", to);
-    add_attribute(page, "y2", y);
-    page.push_str(END_ELEMENT);
-}
-
-/// Adds a column of a lane from `x` on: its line, and its mark.
+/// Adds a column of a lane from `x` on: its line, and its mark. A line that begins or ends in the column does so at the
+/// middle of the mark, or where a mark would begin.
 pub fn add_cell(page: &mut Page, colours: &mut Colours, cell: Cell<'_>, x: usize, y: usize) {
     let begin = x.saturating_add(CHARACTER);
     if cell.has_line {
@@ -174,7 +118,10 @@ pub fn add_cell(page: &mut Page, colours: &mut Colours, cell: Cell<'_>, x: usize
             Some(mark) => begin.saturating_add(size_of(mark).0 / 2),
             None => begin,
         };
-        add_line(page, cell, x, middle, y);
+        let end = x.saturating_add(pixels(cell.width));
+        let from = if cell.comes { x } else { middle };
+        let to = if cell.goes_on { end } else { middle };
+        add_line(page, if cell.waits { "x d" } else { "x" }, (from, y), (to, y));
     }
     if let Some(mark) = cell.mark {
         add_mark(page, colours, mark, begin, y);
