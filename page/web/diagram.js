@@ -1,8 +1,6 @@
 // The marble diagram of the drawer, and the column of a step in it.
 import { byId, element } from "./dom.js";
 
-const SVG = "http://www.w3.org/2000/svg";
-
 const STYLE = `
 :host { display: block }
 svg { display: block }
@@ -32,10 +30,7 @@ export const diagram = () => drawn;
 export function showDiagram({ svg, columns: boxes, lanes }) {
   drawn = svg;
   root.innerHTML = `<style>${STYLE}</style><div class="drawn">${svg}</div>`;
-  columns = [];
-  boxes.forEach((box) => {
-    columns[box.step] = box;
-  });
+  columns = boxes;
   root.querySelector("svg").before(namesOf(lanes));
 }
 
@@ -61,18 +56,14 @@ export function offerDiagram(words, draw) {
 /** Marks the column of a step, and returns the mark; undefined if the step has none. */
 export function markColumn(step) {
   root.querySelector(".chosen")?.remove();
-  const column = columns[step];
+  const column = columns.find((each) => each.step === step);
   if (!column) {
     return undefined;
   }
-  const mark = document.createElementNS(SVG, "rect");
-  const height = Math.max(20, column.bottom - column.y);
-  const box = { class: "chosen", x: column.x - BEFORE, y: column.y - 12, width: column.width, height, rx: 6 };
-  for (const [name, value] of Object.entries(box)) {
-    mark.setAttribute(name, value);
-  }
-  root.querySelector("svg > rect.p").after(mark);
-  return mark;
+  const { x, y, width, bottom } = column;
+  const box = `x="${x - BEFORE}" y="${y - 12}" width="${width}" height="${Math.max(20, bottom - y)}"`;
+  root.querySelector("svg > rect.p").insertAdjacentHTML("afterend", `<rect class="chosen" ${box} rx="6"/>`);
+  return root.querySelector(".chosen");
 }
 
 /** Calls `choose` with the step whose column is clicked. */
@@ -84,7 +75,7 @@ export function onColumnClick(choose) {
     }
     const { left, top } = svg.getBoundingClientRect();
     const [x, y] = [event.clientX - left + BEFORE, event.clientY - top];
-    const hit = (each) => each && each.x <= x && x < each.x + each.width && each.y - ABOVE <= y && y <= each.bottom;
-    choose(Math.max(0, columns.findIndex(hit)));
+    const hit = (each) => each.x <= x && x < each.x + each.width && each.y - ABOVE <= y && y <= each.bottom;
+    choose(columns.find(hit)?.step ?? 0);
   });
 }

@@ -2,13 +2,7 @@
 import { byId, element } from "./dom.js";
 
 /** Returns the number of line ends in a text. */
-function linesIn(text) {
-  let count = 0;
-  for (let at = text.indexOf("\n"); at >= 0; at = text.indexOf("\n", at + 1)) {
-    count += 1;
-  }
-  return count;
-}
+const linesIn = (text) => text.split("\n").length - 1;
 
 /** Returns the numbers from `first` to the one before `end`, each in a line. */
 const numbersOf = (first, end) => Array.from({ length: Math.max(0, end - first) }, (_, at) => `${first + at}\n`).join("");

@@ -3,17 +3,14 @@ import { byId, element } from "./dom.js";
 
 const rows = byId("rows");
 
-/** Returns an entry for each line of a trace: the number of its step, the step in words, the line, and its rule. The line of a flow that
- * was refused has no step. */
-export const entriesOf = ({ lines }) => lines.map(({ step = 0, words = "", line, rule = "" }) => ({ step, words, line, rule }));
-
 /** The most rows that are in the page at once. For a longer script these are the rows around the chosen step. */
 const MOST_ROWS = 400;
 
-let allEntries = [];
+let allLines = [];
 let firstRow = 0;
 
-function rowOf({ step, words, line, rule }) {
+/** Returns the row of a line. That of a flow that was refused has no step. */
+function rowOf({ step = 0, words = "", line, rule = "" }) {
   const cells = [words, line, rule].map((text) => element("td", {}, text));
   return element("tr", { "data-step": step }, element("th", { scope: "row" }, step || ""), ...cells);
 }
@@ -35,23 +32,23 @@ function furtherRows(count, words, start) {
 
 /** Shows the rows that begin at a place. */
 function showRows(start) {
-  firstRow = Math.max(0, Math.min(start, allEntries.length - MOST_ROWS));
-  const end = Math.min(firstRow + MOST_ROWS, allEntries.length);
+  firstRow = Math.max(0, Math.min(start, allLines.length - MOST_ROWS));
+  const end = Math.min(firstRow + MOST_ROWS, allLines.length);
   const earlier = furtherRows(firstRow, "earlier", firstRow - MOST_ROWS);
-  const later = furtherRows(allEntries.length - end, "later", end);
-  rows.replaceChildren(...earlier, ...allEntries.slice(firstRow, end).map(rowOf), ...later);
+  const later = furtherRows(allLines.length - end, "later", end);
+  rows.replaceChildren(...earlier, ...allLines.slice(firstRow, end).map(rowOf), ...later);
 }
 
-/** Shows a row for each line. */
-export function showEntries(entries) {
-  allEntries = entries;
+/** Shows a row for each line of a trace. */
+export function showLines(lines) {
+  allLines = lines;
   showRows(0);
 }
 
 /** Marks the row of a step, and returns it; undefined if the step has none. */
-export function markEntry(step) {
+export function markLine(step) {
   rows.querySelector("[aria-current]")?.removeAttribute("aria-current");
-  const at = step ? allEntries.findIndex((each) => each.step === step) : -1;
+  const at = step ? allLines.findIndex((each) => each.step === step) : -1;
   if (at < 0) {
     return undefined;
   }

@@ -3,7 +3,7 @@
 import { diagram, markColumn, offerDiagram, onColumnClick, showDiagram, widthOfNames } from "./diagram.js";
 import { bringInto, byId, element } from "./dom.js";
 import { Editor, showWhy } from "./editor.js";
-import { entriesOf, markEntry, showEntries, stepOfEvent } from "./lines.js";
+import { markLine, showLines, stepOfEvent } from "./lines.js";
 import { RECORD_LINK, SCRIPT_LINK, bytesOf, exampleOf, isRecordLink, linkOf, passed, stopOf, textIn } from "./link.js";
 import { Player, STATUS, hasWideMemories, textOf } from "./player.js";
 import { goToRefusal, judge, onRecordChange, openRecord, recordText } from "./record.js";
@@ -37,7 +37,7 @@ let examples = {};
 let records = {};
 let chosen = 0;
 /** The result of a script: its text and its trace, or the place at which it is refused. */
-const NOTHING = { text: undefined, trace: undefined, steps: [], entries: [], place: undefined };
+const NOTHING = { text: undefined, trace: undefined, steps: [], place: undefined };
 let shown = { ...NOTHING };
 
 const stepCount = () => shown.steps.length;
@@ -89,12 +89,11 @@ function offerToPlay() {
 
 /** Shows the trace of the script. Nothing of it is played again, whichever step is chosen. */
 function showPlayed(trace) {
-  const steps = trace.lines.filter(({ step }) => step);
-  shown = { text: editor.text, trace, steps, entries: entriesOf(trace), place: undefined };
+  shown = { text: editor.text, trace, steps: trace.lines.filter(({ step }) => step), place: undefined };
   setRefused(false);
   byId("count").textContent = `${trace.lines.length}`;
   slider.max = stepCount();
-  showEntries(shown.entries);
+  showLines(trace.lines);
   if (trace.picture) {
     showDiagram(trace.picture);
   } else {
@@ -132,14 +131,6 @@ function setRefused(isRefused) {
 
 // ---- the chosen step
 
-/** Shows the states after the chosen step. */
-function showChosenStates() {
-  if (shown.trace) {
-    showStates(statesAfter(shown.trace, chosen));
-    document.body.dataset.asked = chosen;
-  }
-}
-
 /** Chooses a step: marks it in the script, in the diagram and among the lines, and shows the states after it. */
 function choose(step, scrolls = true) {
   chosen = Math.max(0, Math.min(step, stepCount()));
@@ -148,16 +139,18 @@ function choose(step, scrolls = true) {
   slider.setAttribute("aria-valuetext", words);
   at.textContent = words;
   byId("after").textContent = chosen ? `after step ${chosen}` : "before the first step";
-  const row = markEntry(chosen);
+  const row = markLine(chosen);
   const mark = markColumn(chosen);
+  const line = shown.steps[chosen - 1];
   if (isPlayed()) {
-    const step = shown.steps[chosen - 1];
-    editor.showMarks(step && [step.from, step.to], "step", undefined);
+    editor.showMarks(line && [line.from, line.to], "step", undefined);
   }
-  showChosenStates();
+  if (shown.trace) {
+    showStates(statesAfter(shown.trace, chosen));
+    document.body.dataset.asked = chosen;
+  }
   if (scrolls) {
-    const entry = shown.entries.find((each) => each.step === chosen);
-    said.textContent = entry ? `${words}: ${entry.words}: ${entry.line}. ${entry.rule}` : words;
+    said.textContent = line ? `${words}: ${line.words}: ${line.line}. ${line.rule}` : words;
     if (row) {
       bringInto(byId("listing"), row);
     }
@@ -202,16 +195,15 @@ async function takeTab(isRecord) {
 }
 
 async function openLink() {
-  links += 1;
-  const mine = links;
+  const mine = (links += 1);
   const stop = stopOf(location.hash);
   if (stop !== undefined) {
     showStop(stop);
     return;
   }
   const isRecord = isRecordLink(location.hash);
-  const read = (all, letters) => textIn(location.hash, all, letters).catch(() => undefined);
-  const text = await (isRecord ? read(records, RECORD_LINK) : read(examples, SCRIPT_LINK));
+  const from = isRecord ? [records, RECORD_LINK] : [examples, SCRIPT_LINK];
+  const text = await textIn(location.hash, ...from).catch(() => undefined);
   if (mine !== links) {
     // Another link was opened meanwhile.
     return;
