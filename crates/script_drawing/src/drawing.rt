@@ -41,12 +41,7 @@ fn frame_of(alloc: Global, form: Form, played: Played<'_>) -> Result<Frame, Allo
 }
 
 /// Returns the frame around the lines of a script, with the rules beside the lines, if the form shows rules.
-fn framed(
-    alloc: Global,
-    form: Form,
-    frame: Frame,
-    played: Played<'_>,
-) -> Result<String, AllocError>
+fn framed(alloc: Global, form: Form, frame: Frame, played: Played<'_>) -> Result<String, AllocError>
     ensures { IfOk result (λ drawn.
         TellsInOrder (told played.entry.lines.now) (string_bytes drawn)) }
 {

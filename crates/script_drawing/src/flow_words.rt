@@ -40,10 +40,18 @@ fn add_shared(page: &mut Page, config: Config) {
         (0, 0) => page.push_str("without a buffer: an emitter waits until all have its value"),
         (0, extra) => write!(page, "with room for {}", Values(extra)),
         (replay, 0) => write!(page, "that replays {}", Values(replay)),
-        (replay, extra) => write!(page, "that replays {}, with room for {extra} more", Values(replay)),
+        (replay, extra) => write!(
+            page,
+            "that replays {}, with room for {extra} more",
+            Values(replay)
+        ),
     }
     if config.replay > 0 || config.extra > 0 {
-        write!(page, "; when it is full, {}", overflow_words(config.overflow));
+        write!(
+            page,
+            "; when it is full, {}",
+            overflow_words(config.overflow)
+        );
     }
 }
 
@@ -81,7 +89,11 @@ fn add_flow(page: &mut Page, flow: PlayedFlow<'_>) {
     match trace.head {
         FlowHead::Shared(config) => add_shared(page, config),
         FlowHead::State | FlowHead::StateIn(_) => {
-            write!(page, "a state flow whose first value is {}", number_at(value, "initial"));
+            write!(
+                page,
+                "a state flow whose first value is {}",
+                number_at(value, "initial")
+            );
         }
         FlowHead::Share(_, replay) => write!(page, "a shared flow that replays {}", Values(replay)),
     }
@@ -102,11 +114,7 @@ fn add_flows(page: &mut Page, flows: &[PlayedFlow<'_>]) {
 
 /// Returns a line for each flow of a script, ended by a line feed, and then these lines of flows that were refused. A
 /// script that only collects chains has no such line.
-pub fn heads_of(
-    alloc: Global,
-    played: Played<'_>,
-    refused: &[&str],
-) -> Result<String, AllocError> {
+pub fn heads_of(alloc: Global, played: Played<'_>, refused: &[&str]) -> Result<String, AllocError> {
     let mut page = Page::new(alloc);
     add_flows(&mut page, played.flows);
     for line in refused {

@@ -163,8 +163,16 @@ fn add_effects(page: &mut Page, one: &PlayedStep<'_>) {
         add_places(page, "ended", changes.ended.as_slice());
     }
     if let Some(after) = changes.after {
-        write!(page, ",\"emitted\":{},\"held\":{}", after.emitted, after.held);
-        write!(page, ",\"cached\":{},\"subscribers\":{}", after.cached, after.subscribers);
+        write!(
+            page,
+            ",\"emitted\":{},\"held\":{}",
+            after.emitted, after.held
+        );
+        write!(
+            page,
+            ",\"cached\":{},\"subscribers\":{}",
+            after.cached, after.subscribers
+        );
         if let Some(value) = after.value {
             write!(page, ",\"value\":\"{value}\"");
         }
@@ -189,11 +197,7 @@ fn add_step_members(page: &mut Page, one: &PlayedStep<'_>) {
 ///
 /// # Errors
 /// `AllocError`: out of memory.
-pub fn json_before(
-    alloc: Global,
-    played: Played<'_>,
-    place: usize,
-) -> Result<String, AllocError> {
+pub fn json_before(alloc: Global, played: Played<'_>, place: usize) -> Result<String, AllocError> {
     let mut page = Page::new(alloc);
     let is_last = place.saturating_add(1) >= played.lines.len();
     if let Some(before) = place.checked_sub(1) {
@@ -216,7 +220,11 @@ fn add_columns(page: &mut Page, columns: &[Column]) {
             width,
             bottom,
         } = *column;
-        write!(page, "{}{{\"step\":{step},\"x\":{x},\"y\":{y}", comma(index));
+        write!(
+            page,
+            "{}{{\"step\":{step},\"x\":{x},\"y\":{y}",
+            comma(index)
+        );
         write!(page, ",\"width\":{width},\"bottom\":{bottom}}}");
     }
 }

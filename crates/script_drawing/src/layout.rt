@@ -239,7 +239,12 @@ fn add_parts<'a>(
 /// `AllocError`: out of memory.
 pub fn parts_of<'a>(alloc: Global, played: Played<'a>) -> Result<Vec<Part<'a>>, AllocError> {
     let mut parts = Vec::new(alloc);
-    add_parts(alloc, &mut parts, steps_picture(alloc, played)?, played.steps)?;
+    add_parts(
+        alloc,
+        &mut parts,
+        steps_picture(alloc, played)?,
+        played.steps,
+    )?;
     for one in played.steps {
         if let Some(chain) = one.step.get("chain") {
             parts.push(Part::Collection(one.number, chain))?;

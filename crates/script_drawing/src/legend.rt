@@ -40,7 +40,12 @@ static ENTRIES: [Entry; 9] = [
     entry!(Value, TWO_VALUES, Note::None, "waiting values that got in"),
     entry!(Waits, THREE, Note::None, "its emitter waits"),
     entry!(Lost, THREE, Note::None, "not taken, cancelled or dropped"),
-    entry!(Over, Words::None, Note::Behind(2), "2 emitted values behind"),
+    entry!(
+        Over,
+        Words::None,
+        Note::Behind(2),
+        "2 emitted values behind"
+    ),
     entry!(Begins, Words::None, Note::None, "begins, or ends"),
     entry!(Told, THREE, Note::None, "what the flow answers"),
     entry!(Refused, THREE, Note::None, "refused, or failed"),
@@ -59,7 +64,8 @@ impl Entry {
                 mark: Some(mark),
                 ..
             },
-        ) = part else {
+        ) = part
+        else {
             return false;
         };
         match (self.mark.sign, mark.sign) {

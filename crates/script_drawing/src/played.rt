@@ -88,7 +88,10 @@ pub fn steps_of<'a>(
     let lines = lines.get(trace.answers.not_made.len()..).unwrap_or(&[]);
     let mut steps = Vec::new(alloc);
     for (place, step) in traced.steps().iter().enumerate() {
-        if let (Some(seen), Some(answer)) = (trace.steps.get(place), trace.answers.steps.get(place)) {
+        if let (Some(seen), Some(answer)) = (
+            trace.steps.get(place),
+            trace.answers.steps.get(place),
+        ) {
             steps.push(PlayedStep {
                 number: place.saturating_add(1),
                 step,

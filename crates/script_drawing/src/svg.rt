@@ -118,8 +118,14 @@ impl<'a> Canvas<'a> {
         };
         let middle = x.saturating_add(mark / 2);
         let word = text_at(numbered.step, "do");
-        write!(self.page, "<text class=\"h n\" data-step=\"{step}\" x=\"{middle}\" y=\"{y}\">{head}</text>\n");
-        write!(self.page, "<text class=\"h\" transform=\"translate({middle} {top}) rotate(-24)\">{word}</text>\n");
+        write!(
+            self.page,
+            "<text class=\"h n\" data-step=\"{step}\" x=\"{middle}\" y=\"{y}\">{head}</text>\n"
+        );
+        write!(
+            self.page,
+            "<text class=\"h\" transform=\"translate({middle} {top}) rotate(-24)\">{word}</text>\n"
+        );
         let column = Column {
             step,
             x,
@@ -251,7 +257,10 @@ pub fn svg_picture<'a>(
     } = canvas;
     let flows = heads_of(alloc, played, &[])?;
     let mut front = Page::new(alloc);
-    write!(front, "<svg xmlns=\"http://www.w3.org/2000/svg\" viewBox=\"0 0 {width} {height}\" width=\"{width}\" height=\"{height}\"{FRONT}{flows}");
+    write!(
+        front,
+        "<svg xmlns=\"http://www.w3.org/2000/svg\" viewBox=\"0 0 {width} {height}\" width=\"{width}\" height=\"{height}\"{FRONT}{flows}"
+    );
     let (before, after) = (front.finish()?, page.finish()?);
     Ok((Frame { before, after }, places))
 }

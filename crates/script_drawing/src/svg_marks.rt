@@ -16,7 +16,10 @@ pub fn pixels(characters: usize) -> usize {
 
 /// Adds a text of a class at a place. It has no character that SVG would interpret.
 pub fn add_text<D: Display + Drop>(page: &mut Page, class: &str, x: usize, y: usize, words: D) {
-    write!(page, "<text class=\"{class}\" x=\"{x}\" y=\"{y}\">{words}</text>\n");
+    write!(
+        page,
+        "<text class=\"{class}\" x=\"{x}\" y=\"{y}\">{words}</text>\n"
+    );
 }
 
 /// How a mark looks: the class of its box, the class of its words, and the radius of the box's corners.
@@ -80,13 +83,19 @@ fn add_box(page: &mut Page, colours: &mut Colours, mark: Mark<'_>, x: usize, y: 
     let top = y.saturating_sub(height / 2);
     write!(page, "<rect class=\"{shape}\"");
     add_colour(page, colours, mark);
-    write!(page, " x=\"{x}\" y=\"{top}\" width=\"{width}\" height=\"{height}\" rx=\"{corner}\"/>\n");
+    write!(
+        page,
+        " x=\"{x}\" y=\"{top}\" width=\"{width}\" height=\"{height}\" rx=\"{corner}\"/>\n"
+    );
 }
 
 /// Adds a line of a class between two places.
 fn add_line(page: &mut Page, class: &str, from: (usize, usize), to: (usize, usize)) {
     let ((x1, y1), (x2, y2)) = (from, to);
-    write!(page, "<line class=\"{class}\" x1=\"{x1}\" y1=\"{y1}\" x2=\"{x2}\" y2=\"{y2}\"/>\n");
+    write!(
+        page,
+        "<line class=\"{class}\" x1=\"{x1}\" y1=\"{y1}\" x2=\"{x2}\" y2=\"{y2}\"/>\n"
+    );
 }
 
 /// Adds a mark whose box begins at `x`, on the line at `y`. A value that is lost is crossed out, from corner to corner,
@@ -121,7 +130,12 @@ pub fn add_cell(page: &mut Page, colours: &mut Colours, cell: Cell<'_>, x: usize
         let end = x.saturating_add(pixels(cell.width));
         let from = if cell.comes { x } else { middle };
         let to = if cell.goes_on { end } else { middle };
-        add_line(page, if cell.waits { "x d" } else { "x" }, (from, y), (to, y));
+        add_line(
+            page,
+            if cell.waits { "x d" } else { "x" },
+            (from, y),
+            (to, y),
+        );
     }
     if let Some(mark) = cell.mark {
         add_mark(page, colours, mark, begin, y);

@@ -66,9 +66,7 @@ fn add_legend(page: &mut Page, entries: &[Entry]) {
     let mut taken = 0usize;
     for entry in entries {
         let Entry { mark, words } = *entry;
-        let width = width_of(mark)
-            .saturating_add(1)
-            .saturating_add(words.len());
+        let width = width_of(mark).saturating_add(1).saturating_add(words.len());
         let before = if taken > 0 { BETWEEN } else { "" };
         taken = taken.saturating_add(before.len()).saturating_add(width);
         if taken > MOST_WIDTH {

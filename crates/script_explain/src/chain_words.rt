@@ -96,38 +96,31 @@ const TO: Key = key!("to", Form::OneOf(&["range", "repeat"]), Need::Always);
 
 const WITH: Key = key!("with", Form::Chain, Need::Always);
 
-/// The row of an operator, which its tag names.
-macro_rules! operator {
-    ($word:literal, $keys:expr, $need:expr) => {
-        Row {
-            word: $word,
-            name: $word,
-            keys: $keys,
-            need: $need,
-        }
-    };
-}
-
 /// The operators, by their tags.
-static OPERATOR_ROWS: [Row; 12] = [
-    operator!("map", &[OP, BY_ARITHMETIC, K], Need::Always),
-    operator!("filter", &[OP, BY_TEST, MAYBE_K], Need::Always),
-    operator!("take_while", &[OP, BY_TEST, MAYBE_K], Need::Always),
-    operator!("transform", &[OP, ADD], Need::Always),
-    operator!("take", &[OP, N], Need::Always),
-    operator!("drop", &[OP, N], Need::Always),
-    operator!("scan", &[OP, INITIAL, BY_ARITHMETIC], Need::Always),
-    operator!("flat_map", &[OP, TO, SPREAD_N], Need::Always),
-    operator!("zip", &[OP, WITH, BY_JOINING], Need::Always),
-    operator!("distinct", &[OP], Need::Always),
-    operator!("drop_while", &[OP, BY_TEST, MAYBE_K], Need::OnlyInTwo),
-    operator!("running_reduce", &[OP, BY_ARITHMETIC], Need::OnlyInTwo),
+pub static OPERATOR_ROWS: [Row; 12] = [
+    row!("map", &[OP, BY_ARITHMETIC, K]),
+    row!("filter", &[OP, BY_TEST, MAYBE_K]),
+    row!("take_while", &[OP, BY_TEST, MAYBE_K]),
+    row!("transform", &[OP, ADD]),
+    row!("take", &[OP, N]),
+    row!("drop", &[OP, N]),
+    row!("scan", &[OP, INITIAL, BY_ARITHMETIC]),
+    row!("flat_map", &[OP, TO, SPREAD_N]),
+    row!("zip", &[OP, WITH, BY_JOINING]),
+    row!("distinct", &[OP]),
+    row!(
+        "drop_while",
+        "drop_while",
+        &[OP, BY_TEST, MAYBE_K],
+        Need::OnlyInTwo
+    ),
+    row!(
+        "running_reduce",
+        "running_reduce",
+        &[OP, BY_ARITHMETIC],
+        Need::OnlyInTwo
+    ),
 ];
-
-/// Returns the operators, by their tags.
-pub fn operator_rows() -> &'static [Row] {
-    &OPERATOR_ROWS
-}
 
 const PARITY_KEYS: &[Key] = &[OP, BY_TEST];
 

@@ -38,7 +38,7 @@ const SHARED_CHAIN: Key = key!("chain", Form::Chain, Need::Always);
 const STARTED: Key = key!("started", Form::Started, Need::Always);
 
 /// The flows, by their tags.
-static FLOW_ROWS: [Row; 5] = [
+pub static FLOW_ROWS: [Row; 5] = [
     row!("none", "a script without a flow", &[KIND], Need::OnlyInOne),
     row!(
         "shared",
@@ -65,11 +65,6 @@ static FLOW_ROWS: [Row; 5] = [
         Need::Always
     ),
 ];
-
-/// Returns the flows, by their tags.
-pub fn flow_rows() -> &'static [Row] {
-    &FLOW_ROWS
-}
 
 /// The words that say when a shared chain runs.
 pub const STARTED_WORDS: &[&str] = &["eagerly", "lazily"];

@@ -36,14 +36,6 @@ fn is_short(value: Option<&Value>) -> bool {
     }
 }
 
-/// A size, and the greatest size that is allowed.
-#[derive(Clone, Copy)]
-pub struct Limited {
-    pub size: u64,
-    pub most: u64,
-    pub unit: &'static str,
-}
-
 impl Form {
     /// Returns whether a value has the form. Looks at what a list or an object contains only for a range and a fault.
     pub fn fits(self, value: &Value) -> bool {
@@ -108,21 +100,21 @@ impl Form {
         }
     }
 
-    /// Returns the size of a value, with its limit, if the form has a limit.
-    pub fn limited(self, value: &Value) -> Option<Limited> {
-        let (size, most, unit) = match self {
-            Form::Numbers(most) => (items_of(value).len() as u64, most, "items"),
-            Form::Entries => (items_of(value).len() as u64, MOST_ITEMS, "entries"),
-            Form::Steps => (items_of(value).len() as u64, MOST_STEPS, "steps"),
-            Form::Flows => (members_len(value) as u64, MOST_FLOWS, "flows"),
-            Form::Range => (range_len(value).unwrap_or(0), MOST_ITEMS, "numbers"),
-            Form::Spread => (value.as_u64().unwrap_or(0), MOST_SPREAD, "items of one"),
-            _ => return None,
-        };
-        Some(Limited {
-            size,
-            most: most as u64,
-            unit,
-        })
+    /// Returns the size of a value, the greatest size that is allowed, and its unit, if the form has a limit.
+    pub fn limited(self, value: &Value) -> Option<(u64, u64, &'static str)> {
+        let items = items_of(value).len() as u64;
+        match self {
+            Form::Numbers(most) => Some((items, most as u64, "items")),
+            Form::Entries => Some((items, MOST_ITEMS as u64, "entries")),
+            Form::Steps => Some((items, MOST_STEPS as u64, "steps")),
+            Form::Flows => Some((members_len(value) as u64, MOST_FLOWS as u64, "flows")),
+            Form::Range => Some((range_len(value).unwrap_or(0), MOST_ITEMS as u64, "numbers")),
+            Form::Spread => Some((
+                value.as_u64().unwrap_or(0),
+                MOST_SPREAD as u64,
+                "items of one",
+            )),
+            _ => None,
+        }
     }
 }

@@ -14,14 +14,6 @@ pub fn items_of(value: &Value) -> &[Value] {
     }
 }
 
-/// Returns the flow of a script that a step acts on.
-pub fn flow_of<'a>(script: &'a Value, step: &Value) -> Option<&'a Value> {
-    match script.get("flows") {
-        Some(flows) => flows.get(text_at(step, "flow")),
-        None => script.get("flow"),
-    }
-}
-
 /// A script whose text is JSON.
 #[derive(Clone, Copy)]
 pub struct Script<'a> {
@@ -48,10 +40,10 @@ impl<'a> Script<'a> {
 
     /// Returns the steps before the one at an index, counted from 0.
     pub fn steps_before(self, index: usize) -> &'a [Value] {
-        let Some(steps) = self.root.value.get("steps") else {
-            return &[];
-        };
-        items_of(steps).get(..index).unwrap_or(&[])
+        match self.root.value.get("steps") {
+            Some(steps) => items_of(steps).get(..index).unwrap_or(&[]),
+            None => &[],
+        }
     }
 
     /// Returns the step at an index, counted from 0.
@@ -64,6 +56,9 @@ impl<'a> Script<'a> {
 
     /// Returns the flow that a step acts on.
     pub fn flow_of(self, step: &Value) -> Option<&'a Value> {
-        flow_of(self.root.value, step)
+        match self.root.value.get("flows") {
+            Some(flows) => flows.get(text_at(step, "flow")),
+            None => self.root.value.get("flow"),
+        }
     }
 }

@@ -13,20 +13,15 @@
 #![tactic(auto)]
 
 mod chain_words;
-mod choices;
 mod flow_words;
 mod form;
 mod head;
-mod introduced;
 mod names;
-mod not_allowed;
 mod refusal;
 mod report;
 mod rules;
 mod search;
 mod step_words;
-mod tags;
-mod tasks;
 mod words;
 
 pub use refusal::explain_refusal;

@@ -1,13 +1,13 @@
 //! Why a script is refused, in words.
 
-use crate::flow_words::{SCRIPT, VERSION};
+use crate::flow_words::{FLOW_ROWS, SCRIPT, VERSION};
 use crate::head::Script;
 use crate::names::{look_at_new_name, look_at_uses};
-use crate::not_allowed::tell_not_allowed;
-use crate::report::{EXPECTED, Ended, Looked, Owner, Report};
-use crate::search::{Aim, look_into};
-use crate::tasks::Task;
-use crate::words::Form;
+use crate::report::{Ended, Looked, Owner, Report};
+use crate::search::{Aim, Task, look_into};
+use crate::step_words::steps_of;
+use crate::words::{Form, Version, row_named};
+use flow_script::text_at;
 use json_places::{Spot, Text, not_json};
 use script_format::{MOST_BYTES, ScriptFault};
 use serde_json::Value;
@@ -25,13 +25,49 @@ fn part_of(fault: ScriptFault) -> Option<u64> {
     }
 }
 
+/// Reports why a flow does not allow a step of the right form.
+fn tell_not_allowed<'a>(script: Script<'a>, step: Spot<'a>, report: &mut Report<'a>) -> Looked {
+    let Some(flow) = script.flow_of(step.value) else {
+        return Ok(());
+    };
+    let kind = text_at(flow, "kind");
+    let name = match row_named(&FLOW_ROWS, kind) {
+        Some(row) => row.name,
+        None => "this flow",
+    };
+    if matches!(script.version, Version::Two)
+        && kind != "shared"
+        && let Some(first) = script.text.member(step, "first")?
+    {
+        report.begin(first.at);
+        write!(report, "{name} gives no subscriber first values of its own");
+        write!(
+            report,
+            "\n  expected: no \"first\", which is for a shared flow"
+        );
+        return report.end();
+    }
+    let Some(found) = script.text.member(step, "do")? else {
+        return Ok(());
+    };
+    let steps = steps_of(script.text.alloc, kind)?;
+    report.begin(found.at);
+    write!(
+        report,
+        "{name} has no step {}\n  expected: one of ",
+        text_at(step.value, "do")
+    );
+    report.add_choices(steps.as_slice());
+    report.end()
+}
+
 /// Reports what is wrong in a step, or why its flow does not allow it.
 fn look_at_step<'a>(
     script: Script<'a>,
     index: usize,
     step: Spot<'a>,
     fault: ScriptFault,
-    report: &mut Report,
+    report: &mut Report<'a>,
 ) -> Looked {
     let task = Task {
         spot: step,
@@ -49,41 +85,38 @@ fn look_at_step<'a>(
     }
 }
 
-/// Reports what is wrong with the version.
-fn tell_version(script: Script<'_>, report: &mut Report) -> Looked {
-    let (text, root) = (script.text, script.root);
-    match text.member(root, "version")? {
-        Some(found) => report.tell_form(text, Owner::Member("version"), found, Form::Version),
-        None => report.tell_missing(text, root.at, SCRIPT.name, VERSION),
-    }
-}
-
 /// Reports what is wrong in the head.
-fn look_at_head(script: Script<'_>, fault: ScriptFault, report: &mut Report) -> Looked {
+fn look_at_head<'a>(script: Script<'a>, fault: ScriptFault, report: &mut Report<'a>) -> Looked {
+    let root = script.root;
     let aim = match fault {
-        ScriptFault::BadVersion => return tell_version(script, report),
+        ScriptFault::BadVersion => {
+            return match script.text.member(root, "version")? {
+                Some(found) => report.tell_form(Owner::Member("version"), found, Form::Version),
+                None => report.tell_missing(root.at, SCRIPT.name, VERSION),
+            };
+        }
         ScriptFault::TooLarge(_) => Aim::Limit,
         _ => Aim::Shape,
     };
     let task = Task {
-        spot: script.root,
+        spot: root,
         owner: Owner::Script,
         form: Form::Script,
     };
     look_into(script, aim, task, report)
 }
 
-/// Returns the step of a part of a script, unless the part is the head.
-fn step_of<'a>(script: Script<'a>, part: u64) -> Result<Option<Spot<'a>>, AllocError> {
-    if part == 0 {
-        return Ok(None);
-    }
-    script.step(part.saturating_sub(1) as usize)
-}
-
 /// Reports what is wrong in a part of a script, or at least where that part begins.
-fn tell_part(script: Script<'_>, part: u64, fault: ScriptFault, report: &mut Report) -> Looked {
-    let step = step_of(script, part)?;
+fn tell_part<'a>(
+    script: Script<'a>,
+    part: u64,
+    fault: ScriptFault,
+    report: &mut Report<'a>,
+) -> Looked {
+    let step = match part.checked_sub(1) {
+        Some(index) => script.step(index as usize)?,
+        None => None,
+    };
     match step {
         Some(step) => {
             let index = part.saturating_sub(1) as usize;
@@ -91,53 +124,44 @@ fn tell_part(script: Script<'_>, part: u64, fault: ScriptFault, report: &mut Rep
         }
         None => look_at_head(script, fault, report)?,
     }
-    report.begin(script.text, step.unwrap_or(script.root).at);
+    report.begin(step.unwrap_or(script.root).at);
     tell_fault(fault, report)
 }
 
 /// Reports where the text stops being JSON.
-fn tell_stop(text: Text<'_>, report: &mut Report) -> Looked {
-    match not_json(text)? {
+fn tell_stop(report: &mut Report<'_>) -> Looked {
+    match not_json(report.text)? {
         Some(stop) => {
             if stop.shows_value {
-                report.begin_value(text, stop.at);
+                report.begin_value(stop.at);
             } else {
-                report.begin(text, stop.at);
+                report.begin(stop.at);
             }
-            report.add(&[stop.what, EXPECTED, stop.expected]);
+            write!(report, "{}\n  expected: {}", stop.what, stop.expected);
         }
         None => {
-            report.begin(text, 0);
-            report.add(&["the text is JSON"]);
+            report.begin(0);
+            write!(report, "the text is JSON");
         }
     }
     report.end()
 }
 
 /// Reports that a script has too many bytes.
-fn tell_size(text: Text<'_>, report: &mut Report) -> Looked {
-    report.begin(text, MOST_BYTES);
-    report.add(&["the script has "]);
-    report.add_number(text.bytes.len() as u64);
-    report.add(&[" bytes", EXPECTED, "at most "]);
-    report.add_number(MOST_BYTES as u64);
+fn tell_size(report: &mut Report<'_>) -> Looked {
+    let size = report.text.bytes.len();
+    report.begin(MOST_BYTES);
+    write!(
+        report,
+        "the script has {size} bytes\n  expected: at most {MOST_BYTES}"
+    );
     report.end()
 }
 
 /// Reports the fault in its own words.
-fn tell_fault(fault: ScriptFault, report: &mut Report) -> Looked {
-    let added = write!(report.lines, "{fault}");
-    report.note(added);
+fn tell_fault(fault: ScriptFault, report: &mut Report<'_>) -> Looked {
+    write!(report, "{fault}");
     report.end()
-}
-
-/// Reports why a script whose text is JSON is refused.
-fn tell_reason(text: Text<'_>, part: u64, fault: ScriptFault, report: &mut Report) -> Looked {
-    match Value::from_slice(text.alloc, text.bytes) {
-        Ok(value) => tell_part(Script::new(text, &value), part, fault, report),
-        Err(error) if error.is_memory() => Err(Ended::OutOfMemory),
-        Err(_) => tell_fault(fault, report),
-    }
 }
 
 /// Returns a few lines that say where and why the script of these bytes is refused with this fault:
@@ -157,16 +181,25 @@ pub fn explain_refusal(
     fault: ScriptFault,
 ) -> Result<String, AllocError> {
     let text = Text { alloc, bytes };
+    let part = part_of(fault);
+    let value = match part {
+        Some(_) if bytes.len() <= MOST_BYTES => Some(Value::from_slice(alloc, bytes)),
+        _ => None,
+    };
     let mut report = Report {
-        part: part_of(fault),
+        text,
+        part,
         lines: String::new(alloc),
         is_out_of_memory: false,
     };
-    let looked = match report.part {
-        Some(0) if bytes.len() > MOST_BYTES => tell_size(text, &mut report),
-        Some(part) => tell_reason(text, part, fault, &mut report),
-        None if fault == ScriptFault::NotJson => tell_stop(text, &mut report),
-        None => tell_fault(fault, &mut report),
+    let looked = match (part, &value) {
+        (Some(part), Some(Ok(value))) => {
+            tell_part(Script::new(text, value), part, fault, &mut report)
+        }
+        (_, Some(Err(error))) if error.is_memory() => Err(Ended::OutOfMemory),
+        (Some(0), None) => tell_size(&mut report),
+        (None, _) if fault == ScriptFault::NotJson => tell_stop(&mut report),
+        _ => tell_fault(fault, &mut report),
     };
     match looked {
         Err(Ended::OutOfMemory) => Err(AllocError),

@@ -1,9 +1,9 @@
 //! The message about what is wrong in a script, and where.
 
-use crate::choices::Choices;
 use crate::words::{Form, Key};
-use json_places::{Place, Spot, Text};
-use std::alloc::{AllocError, Global};
+use json_places::{Place, Spot, Text, nearest};
+use std::alloc::AllocError;
+use std::fmt::Display;
 
 /// Where in a script a value is.
 #[derive(Clone, Copy)]
@@ -16,26 +16,6 @@ pub enum Owner {
     Item(&'static str),
     /// It is a key that is the name of a flow.
     FlowName,
-}
-
-impl Owner {
-    /// Returns the place of the items of a list that has this place.
-    pub fn of_items(self) -> Self {
-        match self {
-            Owner::Member(key) => Owner::Item(key),
-            other => other,
-        }
-    }
-
-    /// Returns the words after a value that say that it is wrong in this place.
-    fn denied(self) -> [&'static str; 3] {
-        match self {
-            Owner::Script => [" is no script", "", ""],
-            Owner::FlowName => [" is no name of a flow", "", ""],
-            Owner::Member(key) => [" is no value of \"", key, "\""],
-            Owner::Item(key) => [" is no item of \"", key, "\""],
-        }
-    }
 }
 
 /// Why the check of a part of a script ended before all of it was checked.
@@ -55,83 +35,55 @@ impl From<AllocError> for Ended {
 /// The result of checking a part of a script: `Ok` if nothing is wrong.
 pub type Looked = Result<(), Ended>;
 
-/// The words before what was expected.
-pub const EXPECTED: &str = "\n  expected: ";
-
 /// The message about a script. It begins with `begin` or `begin_value`, which add the place of what is wrong, unless
 /// the fault has no place, and ends with `end` or `end_near`. If memory is refused, words are missing, and the end
 /// returns `OutOfMemory`.
 #[derive(Drop)]
-pub struct Report {
+pub struct Report<'a> {
+    pub text: Text<'a>,
     /// The part of the script that has the fault, if it is known: 0 is the head, and steps are numbered from 1.
     pub part: Option<u64>,
     pub lines: String,
     pub is_out_of_memory: bool,
 }
 
-impl Report {
-    /// Records whether memory was refused.
-    pub fn note(&mut self, added: Result<(), AllocError>) {
-        if added.is_err() {
-            self.is_out_of_memory = true;
-        }
+impl<'a> Report<'a> {
+    /// Adds what `write!` writes.
+    pub fn write_fmt<D: Display + Drop>(&mut self, words: D) {
+        let added = self.lines.write_fmt(words);
+        self.is_out_of_memory = self.is_out_of_memory || added.is_err();
     }
 
-    /// Adds some words, one after the other.
-    pub fn add(&mut self, words: &[&str]) {
-        for word in words {
-            let added = self.lines.push_str(word);
-            self.note(added);
-        }
-    }
-
-    pub fn add_number(&mut self, number: u64) {
-        let added = write!(self.lines, "{number}");
-        self.note(added);
-    }
-
-    /// Adds the line and the column of an offset.
-    pub fn add_place(&mut self, text: Text<'_>, at: usize) {
-        let place = Place::at(text.bytes, at);
-        let added = write!(self.lines, "{place}");
-        self.note(added);
+    /// Returns the line and the column of an offset.
+    pub fn place(&self, at: usize) -> Place {
+        Place::at(self.text.bytes, at)
     }
 
     /// Begins with the place of an offset, and the part of the script that it is in.
-    pub fn begin(&mut self, text: Text<'_>, at: usize) {
-        self.add_place(text, at);
+    pub fn begin(&mut self, at: usize) {
+        let place = self.place(at);
         match self.part {
-            Some(0) => self.add(&[": head: "]),
-            Some(step) => {
-                self.add(&[": step "]);
-                self.add_number(step);
-                self.add(&[": "]);
-            }
-            None => self.add(&[": "]),
+            Some(0) => write!(self, "{place}: head: "),
+            Some(step) => write!(self, "{place}: step {step}: "),
+            None => write!(self, "{place}: "),
         }
     }
 
     /// Begins with the place and the text of the key or the value at an offset.
-    pub fn begin_value(&mut self, text: Text<'_>, at: usize) {
-        self.begin(text, at);
-        let (shown, after) = text.shown(at);
-        match String::from_utf8_lossy(text.alloc, shown) {
-            Ok(shown) => self.add(&[shown.as_str(), after]),
+    pub fn begin_value(&mut self, at: usize) {
+        self.begin(at);
+        let (shown, after) = self.text.shown(at);
+        match String::from_utf8_lossy(self.text.alloc, shown) {
+            Ok(shown) => write!(self, "{}{after}", shown.as_str()),
             Err(_) => self.is_out_of_memory = true,
         }
     }
 
     /// Adds the words that may be chosen, in quotes, as a list in a sentence.
-    pub fn add_choices(&mut self, choices: Choices<'_>) {
-        let mut opening = "\"";
-        for index in 0..usize::MAX {
-            let Some((word, is_right)) = choices.at(index) else {
-                break;
-            };
-            if is_right {
-                self.add(&[opening, word, "\""]);
-                opening = ", \"";
-            }
+    pub fn add_choices(&mut self, choices: &[&str]) {
+        for (index, word) in choices.iter().enumerate() {
+            let before = if index > 0 { ", " } else { "" };
+            write!(self, "{before}\"{word}\"");
         }
     }
 
@@ -139,22 +91,22 @@ impl Report {
     fn add_form(&mut self, form: Form) {
         match form {
             Form::OneOf(words) => {
-                self.add(&["one of "]);
-                self.add_choices(Choices::Words(words));
+                write!(self, "one of ");
+                self.add_choices(words);
             }
-            _ => self.add(&[form.words()]),
+            _ => write!(self, "{}", form.words()),
         }
     }
 
     /// Adds a key that is missing, and the form of its value.
     pub fn add_key(&mut self, key: Key) {
-        self.add(&["\"", key.word, "\", "]);
+        write!(self, "\"{}\", ", key.word);
         self.add_form(key.form);
     }
 
     /// Ends the last line.
     pub fn end(&mut self) -> Looked {
-        self.add(&["\n"]);
+        write!(self, "\n");
         if self.is_out_of_memory {
             Err(Ended::OutOfMemory)
         } else {
@@ -163,47 +115,39 @@ impl Report {
     }
 
     /// Adds the choice that is nearest to a word, if one is near.
-    pub fn add_near(&mut self, alloc: Global, word: &str, choices: Choices<'_>) {
-        match choices.nearest_to(alloc, word) {
-            Ok(Some(near)) => self.add(&["\n  nearest: \"", near, "\""]),
+    pub fn add_near(&mut self, word: &str, choices: &[&str]) {
+        match nearest(self.text.alloc, word, choices) {
+            Ok(Some(near)) => write!(self, "\n  nearest: \"{near}\""),
             Ok(None) => {}
             Err(_) => self.is_out_of_memory = true,
         }
     }
 
     /// Ends with the choice that is nearest to a word, if one is near.
-    pub fn end_near(&mut self, alloc: Global, word: &str, choices: Choices<'_>) -> Looked {
-        self.add_near(alloc, word, choices);
+    pub fn end_near(&mut self, word: &str, choices: &[&str]) -> Looked {
+        self.add_near(word, choices);
         self.end()
     }
 
     /// Reports that the object of a name, which begins at an offset, lacks a key.
-    pub fn tell_missing(
-        &mut self,
-        text: Text<'_>,
-        at: usize,
-        name: &'static str,
-        key: Key,
-    ) -> Looked {
-        self.begin(text, at);
-        self.add(&[name, " has no \"", key.word, "\"", EXPECTED]);
+    pub fn tell_missing(&mut self, at: usize, name: &'static str, key: Key) -> Looked {
+        self.begin(at);
+        write!(self, "{name} has no \"{}\"\n  expected: ", key.word);
         self.add_key(key);
         self.end()
     }
 
     /// Reports a value that does not have the right form.
-    pub fn tell_form(
-        &mut self,
-        text: Text<'_>,
-        owner: Owner,
-        found: Spot<'_>,
-        form: Form,
-    ) -> Looked {
-        self.begin_value(text, found.at);
-        self.add(&owner.denied());
-        self.add(&[EXPECTED]);
+    pub fn tell_form(&mut self, owner: Owner, found: Spot<'_>, form: Form) -> Looked {
+        self.begin_value(found.at);
+        match owner {
+            Owner::Script => write!(self, " is no script"),
+            Owner::FlowName => write!(self, " is no name of a flow"),
+            Owner::Member(key) => write!(self, " is no value of \"{key}\""),
+            Owner::Item(key) => write!(self, " is no item of \"{key}\""),
+        }
+        write!(self, "\n  expected: ");
         self.add_form(form);
-        let word = found.value.as_str().unwrap_or("");
-        self.end_near(text.alloc, word, Choices::Words(form.choices()))
+        self.end_near(found.value.as_str().unwrap_or(""), form.choices())
     }
 }

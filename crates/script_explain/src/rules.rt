@@ -3,21 +3,19 @@
 //! Nothing is decided here: a rule says in words which case of its documented flow a step took, and the case is in the
 //! trace.
 
-mod every_flow;
-mod losses;
-mod shared;
-mod states;
+mod flows;
 mod turns;
 
-use every_flow::subscribe_rule;
+use flow_law::FlowFault;
 use flow_script::{
-    Act, Answer, Case, FlowHead, FlowStep, Seen, SubscriberNames, Trace, TracedScript,
+    Act, Answer, Case, FlowHead, FlowStep, Loss, Seen, SubscriberNames, Trace, TracedScript,
 };
-use losses::write_loss;
-use shared::shared_rule;
-use states::state_rule;
+use flows::{EXHAUSTED, shared_rule, state_rule};
 use std::alloc::{AllocError, Global};
 use turns::{collect_rule, turn_rule};
+
+/// The most subscribers that a rule names.
+const MOST_NAMED: usize = 16;
 
 /// Returns the rule by which a step on a flow has its answer. It is empty if the step cannot have this answer.
 fn flow_rule(head: FlowHead, step: FlowStep, case: Case, answer: &Answer) -> &'static str {
@@ -35,15 +33,41 @@ fn rule_of(trace: &Trace, seen: &Seen, answer: &Answer) -> &'static str {
     match (seen.act, answer) {
         (Act::Collects, _) => collect_rule(answer),
         (_, Answer::NoFlow) => "the flow was refused when it was made, so it answers nothing",
-        (Act::SubscribesWith(_, _), _) => subscribe_rule(
-            answer,
-            "a new subscriber gets its own first values, then the replay cache, and then what is emitted afterwards",
-        ),
+        (Act::SubscribesWith(_, _), Answer::Subscribed) => {
+            "a new subscriber gets its own first values, then the replay cache, and then what is emitted afterwards"
+        }
+        (Act::SubscribesWith(_, _), Answer::Refused(FlowFault::Exhausted)) => EXHAUSTED,
+        (Act::SubscribesWith(_, _), _) => "",
         (Act::OnFlow(flow, step), _) => match trace.flows.get(flow) {
             Some(flow) => flow_rule(flow.head, step, seen.case, answer),
             None => "",
         },
     }
+}
+
+/// Writes the rule by which subscribers of a flow lose a value.
+fn write_loss(
+    words: &mut String,
+    names: &SubscriberNames<'_>,
+    flow: usize,
+    loss: &Loss,
+) -> Result<(), AllocError> {
+    let value = loss.value;
+    write!(
+        words,
+        "taken: the buffer was full, so {value} is dropped, which "
+    )?;
+    for (before, loser) in loss.losers.iter().take(MOST_NAMED + 1).enumerate() {
+        let name = names.name(flow, *loser);
+        if before == 0 {
+            words.push_str(name)?;
+        } else if before < MOST_NAMED {
+            write!(words, ", {name}")?;
+        } else {
+            words.push_str(" and others")?;
+        }
+    }
+    words.push_str(" had not received yet")
 }
 
 /// Returns the rules by which the steps of a script have their answers, each in one sentence. A rule is empty if its

@@ -1,7 +1,8 @@
 //! The steps of scripts and their keys.
 
-use crate::words::{Form, Key, Need, Row, key};
+use crate::words::{Form, Key, Need, Row, key, row};
 use script_format::MOST_FIRST;
+use std::alloc::{AllocError, Global};
 
 /// The tag of a step.
 const DO: Key = key!("do", Form::Tag, Need::Always);
@@ -22,41 +23,24 @@ const FIRST: Key = key!("first", Form::Numbers(MOST_FIRST), Need::MaybeInTwo);
 
 const CHAIN: Key = key!("chain", Form::Chain, Need::Always);
 
-/// The row of a step, which its tag names.
-macro_rules! step {
-    ($word:literal, $keys:expr) => {
-        Row {
-            word: $word,
-            name: $word,
-            keys: $keys,
-            need: Need::Always,
-        }
-    };
-}
-
 /// The steps, by their tags.
-static STEP_ROWS: [Row; 15] = [
-    step!("try_emit", &[DO, VALUE, ON_FLOW]),
-    step!("emit", &[DO, NAME, VALUE, ON_FLOW]),
-    step!("poll", &[DO, NAME, ON_FLOW]),
-    step!("cancel", &[DO, NAME, ON_FLOW]),
-    step!("subscribe", &[DO, NAME, FIRST, ON_FLOW]),
-    step!("next", &[DO, NAME, ON_FLOW]),
-    step!("unsubscribe", &[DO, NAME, ON_FLOW]),
-    step!("cache", &[DO, ON_FLOW]),
-    step!("count", &[DO, ON_FLOW]),
-    step!("reset", &[DO, ON_FLOW]),
-    step!("value", &[DO, ON_FLOW]),
-    step!("set", &[DO, VALUE, ON_FLOW]),
-    step!("compare_and_set", &[DO, EXPECT, UPDATE, ON_FLOW]),
-    step!("turn", &[DO, AT, ON_FLOW]),
-    step!("collect", &[DO, CHAIN]),
+pub static STEP_ROWS: [Row; 15] = [
+    row!("try_emit", &[DO, VALUE, ON_FLOW]),
+    row!("emit", &[DO, NAME, VALUE, ON_FLOW]),
+    row!("poll", &[DO, NAME, ON_FLOW]),
+    row!("cancel", &[DO, NAME, ON_FLOW]),
+    row!("subscribe", &[DO, NAME, FIRST, ON_FLOW]),
+    row!("next", &[DO, NAME, ON_FLOW]),
+    row!("unsubscribe", &[DO, NAME, ON_FLOW]),
+    row!("cache", &[DO, ON_FLOW]),
+    row!("count", &[DO, ON_FLOW]),
+    row!("reset", &[DO, ON_FLOW]),
+    row!("value", &[DO, ON_FLOW]),
+    row!("set", &[DO, VALUE, ON_FLOW]),
+    row!("compare_and_set", &[DO, EXPECT, UPDATE, ON_FLOW]),
+    row!("turn", &[DO, AT, ON_FLOW]),
+    row!("collect", &[DO, CHAIN]),
 ];
-
-/// Returns the steps, by their tags.
-pub fn step_rows() -> &'static [Row] {
-    &STEP_ROWS
-}
 
 /// The steps that not every kind of flow allows, each with the kinds that do.
 static LIMITED: [(&str, &[&str]); 9] = [
@@ -72,11 +56,22 @@ static LIMITED: [(&str, &[&str]); 9] = [
 ];
 
 /// Returns whether a step is allowed in a script with a flow of this kind.
-pub fn is_allowed(step: &str, kind: &str) -> bool {
+fn is_allowed(step: &str, kind: &str) -> bool {
     for (word, kinds) in &LIMITED {
         if *word == step {
             return kinds.contains(&kind);
         }
     }
     step == "collect" || kind != "none"
+}
+
+/// Returns the steps that are allowed in a script with a flow of this kind.
+pub fn steps_of(alloc: Global, kind: &str) -> Result<Vec<&'static str>, AllocError> {
+    let mut steps = Vec::new(alloc);
+    for row in &STEP_ROWS {
+        if is_allowed(row.word, kind) {
+            steps.push(row.word)?;
+        }
+    }
+    Ok(steps)
 }

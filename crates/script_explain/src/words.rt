@@ -2,6 +2,7 @@
 
 use crate::form::members_len;
 use serde_json::Value;
+use std::alloc::{AllocError, Global};
 
 /// The versions of the format.
 #[derive(Clone, Copy)]
@@ -64,28 +65,18 @@ pub enum Need {
     MaybeInTwo,
 }
 
-/// Whether a word is known, and whether it is required.
-#[derive(Clone, Copy)]
-pub enum Presence {
-    Unknown,
-    Optional,
-    Required,
-}
-
 impl Need {
-    /// Returns whether a version knows the word, and whether it requires it.
-    pub fn within(self, version: Version) -> Presence {
-        match (self, version) {
-            (Need::OnlyInOne, Version::Two) | (Need::OnlyInTwo | Need::MaybeInTwo, Version::One) =>
-                Presence::Unknown,
-            (Need::Maybe | Need::MaybeInTwo, _) => Presence::Optional,
-            _ => Presence::Required,
+    /// Returns whether a version knows the word.
+    pub fn is_known(self, version: Version) -> bool {
+        match version {
+            Version::One => !matches!(self, Need::OnlyInTwo | Need::MaybeInTwo),
+            Version::Two => !matches!(self, Need::OnlyInOne),
         }
     }
 
-    /// Returns whether a version knows the word.
-    pub fn is_known(self, version: Version) -> bool {
-        !matches!(self.within(version), Presence::Unknown)
+    /// Returns whether a version requires the word.
+    fn is_required(self, version: Version) -> bool {
+        self.is_known(version) && !matches!(self, Need::Maybe | Need::MaybeInTwo)
     }
 }
 
@@ -110,16 +101,6 @@ macro_rules! key {
 
 pub(crate) use key;
 
-/// Returns the key with this word, in any version.
-pub fn key_named(keys: &'static [Key], word: &str) -> Option<Key> {
-    for key in keys {
-        if key.word == word {
-            return Some(*key);
-        }
-    }
-    None
-}
-
 /// An object of scripts: its name in messages, and its keys.
 #[derive(Clone, Copy)]
 pub struct Shape {
@@ -128,12 +109,15 @@ pub struct Shape {
 }
 
 impl Shape {
+    /// Returns the key with this word, in any version.
+    pub fn key_named(&self, word: &str) -> Option<Key> {
+        self.keys.iter().find(|key| key.word == word).copied()
+    }
+
     /// Returns the first required key that is missing.
     pub fn missing(&self, version: Version, object: &Value) -> Option<Key> {
         for key in self.keys {
-            if matches!(key.need.within(version), Presence::Required)
-                && object.get(key.word).is_none()
-            {
+            if key.need.is_required(version) && object.get(key.word).is_none() {
                 return Some(*key);
             }
         }
@@ -152,6 +136,21 @@ impl Shape {
     }
 }
 
+/// Returns the words of the keys that a version knows.
+pub fn known_keys(
+    alloc: Global,
+    keys: &'static [Key],
+    version: Version,
+) -> Result<Vec<&'static str>, AllocError> {
+    let mut words = Vec::new(alloc);
+    for key in keys {
+        if key.need.is_known(version) {
+            words.push(key.word)?;
+        }
+    }
+    Ok(words)
+}
+
 /// A row of a table: the word of a tag, and the object that has it.
 #[derive(Clone, Copy)]
 pub struct Row {
@@ -163,17 +162,30 @@ pub struct Row {
 
 /// Returns the row with this word, in any version.
 pub fn row_named(rows: &'static [Row], word: &str) -> Option<Row> {
+    rows.iter().find(|row| row.word == word).copied()
+}
+
+/// Returns the words of the rows that a version knows.
+pub fn known_tags(
+    alloc: Global,
+    rows: &'static [Row],
+    version: Version,
+) -> Result<Vec<&'static str>, AllocError> {
+    let mut words = Vec::new(alloc);
     for row in rows {
-        if row.word == word {
-            return Some(*row);
+        if row.need.is_known(version) {
+            words.push(row.word)?;
         }
     }
-    None
+    Ok(words)
 }
 
 /// A row of a table: the word of a tag, the name of the object that has it, the object's keys, and the versions that
-/// know both.
+/// know both. Without name and versions, the word is the name, and each version knows it.
 macro_rules! row {
+    ($word:literal, $keys:expr) => {
+        row!($word, $word, $keys, Need::Always)
+    };
     ($word:expr, $name:expr, $keys:expr, $need:expr) => {
         Row {
             word: $word,

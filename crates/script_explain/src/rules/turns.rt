@@ -15,39 +15,30 @@ fn start_rule(started: Started) -> &'static str {
     }
 }
 
-/// Returns the rule by which the chain does not run. One that is started eagerly always runs.
-fn idle_rule(started: Started) -> &'static str {
-    match started {
-        Started::Eagerly => "",
-        Started::Lazily => {
+/// Returns the rule of a turn: that of its command, unless that is `Keep`: then that of its event. A chain that is
+/// started eagerly always runs.
+fn report_rule(started: Started, report: &Report) -> &'static str {
+    match (report.command, report.event, started) {
+        (Command::Start, _, _) => start_rule(started),
+        (Command::Keep, Event::Put, _) => {
+            "a turn puts one item at most: the next one went into the flow"
+        }
+        (Command::Keep, Event::Queued, _) => "the item waits in the queue for slow subscribers",
+        (Command::Keep, Event::Waiting, _) => {
+            "the item of an earlier turn still waits, so the chain is not asked"
+        }
+        (Command::Keep, Event::Pending, _) => "the chain has no item yet",
+        (Command::Keep, Event::Completed, _) => "the chain has ended, which affects no subscriber",
+        (Command::Keep, Event::Idle, Started::Lazily) => {
             "started lazily, the chain does not run before the first turn with a subscriber"
         }
-        Started::WhileSubscribed { .. } => "the chain does not run without subscribers",
-    }
-}
-
-/// Returns the rule for the event of a turn whose command is `Keep`.
-fn event_rule(started: Started, event: Event) -> &'static str {
-    match event {
-        Event::Put => "a turn puts one item at most: the next one went into the flow",
-        Event::Queued => "the item waits in the queue for slow subscribers",
-        Event::Waiting => { "the item of an earlier turn still waits, so the chain is not asked" }
-        Event::Pending => "the chain has no item yet",
-        Event::Completed => "the chain has ended, which affects no subscriber",
-        Event::Idle => idle_rule(started),
-        Event::Busy => "",
-    }
-}
-
-/// Returns the rule of a turn: that of its command, unless that is `Keep`: then that of its event.
-fn report_rule(started: Started, report: &Report) -> &'static str {
-    match (report.command, report.event) {
-        (Command::Start, _) => start_rule(started),
-        (Command::Keep, event) => event_rule(started, event),
-        (Command::Stop, Event::Idle) => {
+        (Command::Keep, Event::Idle, Started::WhileSubscribed { .. }) => {
+            "the chain does not run without subscribers"
+        }
+        (Command::Stop, Event::Idle, _) => {
             "the stop time has passed without a subscriber: what waits is cancelled, and a kept item is dropped"
         }
-        (Command::StopAndReset, Event::Idle) => {
+        (Command::StopAndReset, Event::Idle, _) => {
             "the times of stop and expire have passed without a subscriber: the flow forgets what it replays"
         }
         _ => "",
@@ -74,23 +65,18 @@ pub fn turn_rule(started: Started, answer: &Answer) -> &'static str {
     }
 }
 
-/// Returns the rule by which a collection ends.
-fn end_rule(end: &End) -> &'static str {
-    match end {
-        End::Completed => {
-            "a collection runs the chain from its beginning, and gives what it emits up to its end"
-        }
-        End::Failed(ChainFault::Overflow) => {
-            "a result that does not fit in 64 bits ends the chain, and nothing is given for its item"
-        }
-        End::Failed(_) => "a fault of the source ends the chain; the items before it are given",
-    }
-}
-
 /// Returns the rule by which a collection has its answer. It is empty if no collection has this answer.
 pub fn collect_rule(answer: &Answer) -> &'static str {
     match answer {
-        Answer::Collected(_, end) => end_rule(end),
+        Answer::Collected(_, End::Completed) => {
+            "a collection runs the chain from its beginning, and gives what it emits up to its end"
+        }
+        Answer::Collected(_, End::Failed(ChainFault::Overflow)) => {
+            "a result that does not fit in 64 bits ends the chain, and nothing is given for its item"
+        }
+        Answer::Collected(_, End::Failed(_)) => {
+            "a fault of the source ends the chain; the items before it are given"
+        }
         Answer::NotBuilt(ChainFault::NotPositive) => {
             "a take of nothing is refused when the chain is built"
         }
