@@ -164,6 +164,30 @@ fn tell_fault(fault: ScriptFault, report: &mut Report<'_>) -> Looked {
     report.end()
 }
 
+/// Returns the message about a script with this fault. `value` is the script, if its text is JSON.
+fn message<'a>(
+    text: Text<'a>,
+    value: Option<&'a Value>,
+    fault: ScriptFault,
+) -> Result<String, AllocError> {
+    let mut report = Report {
+        text,
+        part: part_of(fault),
+        lines: String::new(text.alloc),
+        is_out_of_memory: false,
+    };
+    let looked = match (report.part, value) {
+        (Some(part), Some(value)) => tell_part(Script::new(text, value), part, fault, &mut report),
+        (Some(0), None) if text.bytes.len() > MOST_BYTES => tell_size(&mut report),
+        (None, _) if fault == ScriptFault::NotJson => tell_stop(&mut report),
+        _ => tell_fault(fault, &mut report),
+    };
+    match looked {
+        Err(Ended::OutOfMemory) => Err(AllocError),
+        _ => Ok(report.lines),
+    }
+}
+
 /// Returns a few lines that say where and why the script of these bytes is refused with this fault:
 ///
 /// ```text
@@ -181,28 +205,12 @@ pub fn explain_refusal(
     fault: ScriptFault,
 ) -> Result<String, AllocError> {
     let text = Text { alloc, bytes };
-    let part = part_of(fault);
-    let value = match part {
-        Some(_) if bytes.len() <= MOST_BYTES => Some(Value::from_slice(alloc, bytes)),
-        _ => None,
-    };
-    let mut report = Report {
-        text,
-        part,
-        lines: String::new(alloc),
-        is_out_of_memory: false,
-    };
-    let looked = match (part, &value) {
-        (Some(part), Some(Ok(value))) => {
-            tell_part(Script::new(text, value), part, fault, &mut report)
-        }
-        (_, Some(Err(error))) if error.is_memory() => Err(Ended::OutOfMemory),
-        (Some(0), None) => tell_size(&mut report),
-        (None, _) if fault == ScriptFault::NotJson => tell_stop(&mut report),
-        _ => tell_fault(fault, &mut report),
-    };
-    match looked {
-        Err(Ended::OutOfMemory) => Err(AllocError),
-        _ => Ok(report.lines),
+    if part_of(fault).is_none() || bytes.len() > MOST_BYTES {
+        return message(text, None, fault);
+    }
+    match Value::from_slice(alloc, bytes) {
+        Ok(value) => message(text, Some(&value), fault),
+        Err(error) if error.is_memory() => Err(AllocError),
+        Err(_) => message(text, None, fault),
     }
 }
