@@ -49,4 +49,9 @@ mod text;
 
 pub use drawing::drawing_of;
 pub use form::Form;
+pub use page::Frame;
+pub use played::{Played, PlayedFlow, PlayedStep, flows_of, steps_of};
 pub use program::{refuse_arguments, run};
+pub use script_words::items_of;
+pub use svg::{Column, LaneName, Places, svg_picture};
+pub use text::{explained_frame, text_frame};

@@ -119,17 +119,17 @@ fn rule_at(rules: &[String], place: usize) -> &str {
 
 impl<'a> Played<'a> {
     /// Returns how many lines precede that of the first step: one for each flow that was refused.
-    pub fn refused(&self) -> usize {
+    pub(crate) fn refused(&self) -> usize {
         self.traced.trace.answers.not_made.len()
     }
 
     /// Returns the lines of the flows that were refused.
-    pub fn refused_lines(&self) -> &'a [&'a str] {
+    pub(crate) fn refused_lines(&self) -> &'a [&'a str] {
         self.lines.get(..self.refused()).unwrap_or(&[])
     }
 
     /// Returns the step that wrote the line at a place. The line of a flow that was refused has no step.
-    pub fn step_of_line(&self, place: usize) -> Option<&'a PlayedStep<'a>> {
+    pub(crate) fn step_of_line(&self, place: usize) -> Option<&'a PlayedStep<'a>> {
         self.steps.get(place.checked_sub(self.refused())?)
     }
 }
