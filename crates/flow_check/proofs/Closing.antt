@@ -7,13 +7,15 @@ use Rattle.flow_check.specs.Looks.{IsKept}
 use Rattle.flow_check.specs.PrivateCalls.{ArePrivate}
 use Rattle.flow_check.specs.Reached.{Reached}
 use Rattle.flow_check.specs.Settling.{SettlesIn}
+use Rattle.flow_check.specs.Twins.{KeepSwapped}
 use Rattle.flow_check.specs.Tables.{IsInTable, SettlesInTable, IsFollowedAt, IsClosedTable}
 use Rattle.flow_check.proofs.Exchanging.{begins_free}
 use Rattle.flow_check.proofs.Leaving.{make_first, sound_after}
 
 module _ {S C : Type 0} (stepped : S → ℕ → C → Option S) (may_skip is_private : C → Bool) (IsSound : S → Type 0) (kept : IsKept stepped IsSound) (Ahead : ℕ → C → S → S → Type 0)
     (private_calls : ArePrivate stepped may_skip IsSound is_private Ahead)
-    (callers : CallsByCaller C) (well : IsWellTimed callers) (nodes : List (Reached S)) (closed : IsClosedTable stepped may_skip is_private callers nodes) where
+    (Swapped : ℕ → ℕ → C → C → S → S → Type 0) (swaps : KeepSwapped stepped may_skip Swapped)
+    (callers : CallsByCaller C) (well : IsWellTimed callers) (nodes : List (Reached S)) (closed : IsClosedTable stepped may_skip is_private callers nodes Swapped) where
   abbrev Goes : S → List ℕ → List ℕ → Type 0
   Goes = GoesThrough stepped may_skip callers
 
@@ -45,7 +47,7 @@ module _ {S C : Type 0} (stepped : S → ℕ → C → Option S) (may_skip is_pr
   none_within (suc most) (caller ∷ order) s placed fits sound found h =
       let n = found.1.0 in
       let here = subst (λ (t : S). Goes t n.placed (caller ∷ order)) (sym found.1.2) (subst (λ (p : List ℕ). Goes s p (caller ∷ order)) (sym found.1.3) h) in
-      let free = begins_free stepped may_skip callers well n.state n.placed (IsFollowedAt stepped may_skip is_private callers nodes n) (closed found.0 n found.1.1).0 caller order here in
+      let free = begins_free stepped may_skip Swapped swaps callers well n.state n.placed (IsFollowedAt stepped may_skip is_private callers nodes n) (closed found.0 n found.1.1).0 caller order here in
       let first = free.0 in
       let goes = free.2.2 in
       let next = goes.3.0 in

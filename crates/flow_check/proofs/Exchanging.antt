@@ -1,4 +1,4 @@
--- Of two callers' next calls that do the same, the one that ends first can come first. Begin with `exchange`.
+-- Of two callers' next calls that may be swapped, the one that ends first can come first. Begin with `exchange`.
 use Rattle.std.proofs.Common.{◌≡◌, ◌≢◌, ◌⊎◌, ℕ, suc, zero, ◌+◌, ◌<◌, ◌≤◌, Bool, true, false, List, [], ◌∷◌, length, get_or, Option, Some, None, refl, sym, ap, ◌∙◌, subst, inl, inr, arith}
 use Rattle.std.specs.Prelude.{slice_get, nat_lt}
 use Rattle.std.proofs.lemmas.Bool.{false≢true}
@@ -8,7 +8,7 @@ use Rattle.flow_law.proofs.Rows.{split}
 use Rattle.flow_check.specs.declared.timed.Timed.{Timed}
 use Rattle.flow_check.specs.Records.{CallsByCaller, recorded, is_over_before, IsWellTimed}
 use Rattle.flow_check.specs.Remaining.{placing, next_at, next_call_of, MayComeNext, OwesNothing, IsStep, GoesThrough}
-use Rattle.flow_check.specs.Twins.{AreTwins, BeginsAfter, IsTwinOf, IsEarlierTwin, HasEarlierTwin}
+use Rattle.flow_check.specs.Twins.{KeepSwapped, IsEarlierTwin, HasEarlierTwin}
 use Rattle.flow_check.proofs.Leaving.{get-set_else, placing_comm, next_else, not_over_later, may_still}
 use Rattle.flow_check.proofs.Parts.{placed_at}
 use Rattle.flow_check.proofs.Places.{get-set_same}
@@ -25,15 +25,7 @@ not_over : (one : Option ℕ) (end moment : ℕ) → is_over_before one end ≡ 
 not_over one end moment h free = split (nat_lt end moment) (λ b. nat_lt end moment ≡ b → b ≡ false)
     (λ _ over. let less = (Decides-ltb end moment).0 over in absurd (false≢true (sym free ∙ over_before_later one end moment h (omega arith)))) (λ _ _. refl) refl
 
-module _ {S C : Type 0} (stepped : S → ℕ → C → Option S) (may_skip : C → Bool) where
-  twin_step : (s after : S) (one other : ℕ) (c d : C) → AreTwins stepped may_skip c d → IsStep stepped may_skip s one c after → IsStep stepped may_skip s other d after
-  twin_step s after one other c d twins (inl step) = inl (sym (twins.1 s one other) ∙ step)
-  twin_step s after one other c d twins (inr skip) = inr (sym twins.0 ∙ skip.0, skip.1)
-
-  twin_back : (s after : S) (one other : ℕ) (c d : C) → AreTwins stepped may_skip c d → IsStep stepped may_skip s other d after → IsStep stepped may_skip s one c after
-  twin_back s after one other c d twins (inl step) = inl (twins.1 s one other ∙ step)
-  twin_back s after one other c d twins (inr skip) = inr (twins.0 ∙ skip.0, skip.1)
-
+module _ {S C : Type 0} (stepped : S → ℕ → C → Option S) (may_skip : C → Bool) (Swapped : ℕ → ℕ → C → C → S → S → Type 0) (swaps : KeepSwapped stepped may_skip Swapped) where
   module _ (callers : CallsByCaller C) (well : IsWellTimed callers) where
     abbrev Goes : S → List ℕ → List ℕ → Type 0
     Goes = GoesThrough stepped may_skip callers
@@ -43,14 +35,14 @@ module _ {S C : Type 0} (stepped : S → ℕ → C → Option S) (may_skip : C �
     GoesInstead a s placed order = (rest : List ℕ) × (length rest ≡ length order) × Goes s (placing a placed) rest
 
     module _ (a b k moment : ℕ) (c d : Timed C) (apart : a ≢ b) (ends : c.end ≡ Some moment) (over : is_over_before d.end moment ≡ true)
-        (gap : (e : Timed C) → recorded callers b (k + 1) ≡ Some e → is_over_before d.end e.begin ≡ true) (twins : AreTwins stepped may_skip c.call d.call) where
+        (gap : (e : Timed C) → recorded callers b (k + 1) ≡ Some e → is_over_before d.end e.begin ≡ true) where
       apart' : b ≢ a
       apart' = λ e. apart (sym e)
 
       -- the twin happens: the call c of b happens at its turn
-      own_turn : (order placed : List ℕ) (s : S) → next_call_of callers placed b ≡ Some c → next_call_of callers placed a ≡ Some d → MayComeNext callers placed c
-          → Goes s (placing b placed) (a ∷ order) → GoesInstead a s placed (a ∷ order)
-      own_turn order placed s later first may h =
+      own_turn : (order placed : List ℕ) (s t : S) → Swapped b a c.call d.call s t → next_call_of callers placed b ≡ Some c → next_call_of callers placed a ≡ Some d → MayComeNext callers placed c
+          → Goes s (placing b placed) (a ∷ order) → GoesInstead a t placed (a ∷ order)
+      own_turn order placed s t swapped later first may h =
           let is : d ≡ h.0 = same_Some d h.0 (sym (next_else callers placed b a apart' ∙ first) ∙ h.1) in
           let step = subst (λ (x : Timed C). IsStep stepped may_skip s a x.call h.3.0) (sym is) h.3.1 in (
             b ∷ order,
@@ -59,7 +51,7 @@ module _ {S C : Type 0} (stepped : S → ℕ → C → Option S) (may_skip : C �
               c,
               next_else callers placed a b apart ∙ later,
               may_still callers well placed a d c first may,
-              (h.3.0, twin_back s h.3.0 b a c.call d.call twins step, subst (λ (p : List ℕ). Goes h.3.0 p order) (placing_comm a b placed apart) h.3.2),
+              (h.3.0, swaps.ends s t h.3.0 b a c.call d.call apart' swapped step, subst (λ (p : List ℕ). Goes h.3.0 p order) (placing_comm a b placed apart) h.3.2),
             ),
           )
 
@@ -89,20 +81,21 @@ module _ {S C : Type 0} (stepped : S → ℕ → C → Option S) (may_skip : C �
           ]
 
       -- if an order goes through the rest after the call c of b, one of as many turns does after the call d of a
-      swap_in : (order placed : List ℕ) (s : S) → slice_get placed b ≡ Some k → next_call_of callers placed b ≡ Some c → next_call_of callers placed a ≡ Some d → MayComeNext callers placed c
-          → Goes s (placing b placed) order → GoesInstead a s placed order
-      swap_in [] placed s at later first may h =
+      swap_in : (order placed : List ℕ) (s t : S) → Swapped b a c.call d.call s t → slice_get placed b ≡ Some k → next_call_of callers placed b ≡ Some c → next_call_of callers placed a ≡ Some d → MayComeNext callers placed c
+          → Goes s (placing b placed) order → GoesInstead a t placed order
+      swap_in [] placed s t swapped at later first may h =
           absurd (false≢true (subst (λ (o : Option ℕ). is_over_before o moment ≡ true) (h a d (next_else callers placed b a apart' ∙ first)) over))
-      swap_in (x ∷ order) placed s at later first may h = elim (eqb_tells a x) [
+      swap_in (x ∷ order) placed s t swapped at later first may h = elim (eqb_tells a x) [
         | inl same ↦
-            subst (λ (j : ℕ). Goes s (placing b placed) (j ∷ order) → GoesInstead a s placed (j ∷ order)) same.1 (own_turn order placed s later first may) h
+            subst (λ (j : ℕ). Goes s (placing b placed) (j ∷ order) → GoesInstead a t placed (j ∷ order)) same.1 (own_turn order placed s t swapped later first may) h
         | inr other ↦ elim (eqb_tells b x) [
           | inl same ↦ absurd (not_yet placed h.0 at first (subst (λ (j : ℕ). next_call_of callers (placing b placed) j ≡ Some h.0) (sym same.1) h.1) h.2)
           | inr z ↦
               let from_a : x ≢ a = λ e. other.1 (sym e) in
               let from_b : x ≢ b = λ e. z.1 (sym e) in
               let next = sym (next_else callers placed b x z.1) ∙ h.1 in
-              let more = swap_in order (placing x placed) h.3.0 (get-set_else placed x b (get_or placed x 0 + 1) from_b ∙ at) (next_else callers placed x b from_b ∙ later)
+              let then = swaps.keeps s t h.3.0 b a x c.call d.call h.0.call from_b from_a swapped h.3.1 in
+              let more = swap_in order (placing x placed) h.3.0 then.0 then.2 (get-set_else placed x b (get_or placed x 0 + 1) from_b ∙ at) (next_else callers placed x b from_b ∙ later)
               (next_else callers placed x a from_a ∙ first) (may_still callers well placed x h.0 c next may)
               (subst (λ (p : List ℕ). Goes h.3.0 p order) (placing_comm x b placed from_b) h.3.2) in
               let count = more.1 in (
@@ -112,7 +105,7 @@ module _ {S C : Type 0} (stepped : S → ℕ → C → Option S) (may_skip : C �
                   h.0,
                   next_else callers placed a x other.1 ∙ next,
                   may_instead placed h.0 later first h.2,
-                  (h.3.0, h.3.1, subst (λ (p : List ℕ). Goes h.3.0 p more.0) (placing_comm a x placed other.1) more.2),
+                  (then.0, then.1, subst (λ (p : List ℕ). Goes then.0 p more.0) (placing_comm a x placed other.1) more.2),
                 ),
               )
         ]
@@ -129,7 +122,7 @@ module _ {S C : Type 0} (stepped : S → ℕ → C → Option S) (may_skip : C �
         let early = (Decides-ltb moment moment).0 (subst (λ (o : Option ℕ). is_over_before o moment ≡ true) ends (subst (λ (x : Timed C). is_over_before x.end moment ≡ true) is over)) in
         absurd (omega arith)
 
-    pub exchange : (a b : ℕ) (order placed : List ℕ) (s : S) → IsEarlierTwin stepped may_skip callers placed b a → Goes s placed (b ∷ order) → GoesFirst a s placed order
+    pub exchange : (a b : ℕ) (order placed : List ℕ) (s : S) → IsEarlierTwin stepped may_skip Swapped callers s placed b a → Goes s placed (b ∷ order) → GoesFirst a s placed order
     exchange a b order placed s found h =
         let c = found.0 in
         let d = found.2.0 in
@@ -139,8 +132,9 @@ module _ {S C : Type 0} (stepped : S → ℕ → C → Option S) (may_skip : C �
         let may = subst (λ (x : Timed C). MayComeNext callers placed x) is h.2 in
         let step = subst (λ (x : Timed C). IsStep stepped may_skip s b x.call h.3.0) is h.3.1 in
         let apart = apart_from_twin a b twin.0.0 c d placed found.1 found.2.1 twin.0.1 twin.0.2 in
-        let more = swap_in a b at.0 twin.0.0 c d apart twin.0.1 twin.0.2 (λ e. twin.1 at.0 e at.1) twin.3 order placed h.3.0 at.1 found.1 found.2.1 may h.3.2 in
-        (more.0, more.1, (d, found.2.1, twin.2, (h.3.0, twin_step s h.3.0 b a c.call d.call twin.3 step, more.2)))
+        let instead = twin.3 h.3.0 step in
+        let more = swap_in a b at.0 twin.0.0 c d apart twin.0.1 twin.0.2 (λ e. twin.1 at.0 e at.1) order placed h.3.0 instead.0 instead.2 at.1 found.1 found.2.1 may h.3.2 in
+        (more.0, more.1, (d, found.2.1, twin.2, (instead.0, instead.1, more.2)))
 
     -- ---- the first of several twins
 
@@ -160,7 +154,7 @@ module _ {S C : Type 0} (stepped : S → ℕ → C → Option S) (may_skip : C �
     none_before_zero None moment over low = false≢true over
     none_before_zero (Some end) moment over low = let less = (Decides-ltb end moment).0 over in absurd (omega arith)
 
-    module _ (s : S) (placed : List ℕ) (IsFree : ℕ → Type 0) (each : (caller : ℕ) → HasEarlierTwin stepped may_skip callers placed caller ⊎ IsFree caller) where
+    module _ (s : S) (placed : List ℕ) (IsFree : ℕ → Type 0) (each : (caller : ℕ) → HasEarlierTwin stepped may_skip Swapped callers s placed caller ⊎ IsFree caller) where
       -- an order of as many turns begins with a caller whose call has no earlier twin
       abbrev pub BeginsFree : List ℕ → Type 0
       BeginsFree order = (first : ℕ) × IsFree first × GoesFirst first s placed order

@@ -40,12 +40,6 @@ module _ {C : Type 0} (callers : CallsByCaller C) where
   OwesNothingBelow bound placed = (caller : ℕ) (d : Timed C) → caller < bound → next_call_of callers placed caller ≡ Some d → d.end ≡ None
 
 module _ {S C : Type 0} (stepped : S → ℕ → C → Option S) (may_skip is_private : C → Bool) (callers : CallsByCaller C) (nodes : List (Reached S)) where
-  abbrev pub IsCoveredBelow : ℕ → Reached S → Type 0
-  IsCoveredBelow bound n = (caller : ℕ) → caller < bound → IsCovered stepped may_skip is_private callers nodes n caller
-
-  abbrev pub IsClosedBelow : ℕ → Type 0
-  IsClosedBelow bound = (k : ℕ) → k < bound → (n : Reached S) → slice_get nodes k ≡ Some n → IsFollowed stepped may_skip is_private callers nodes n × (OwesNothing callers n.placed → ⊥)
-
   abbrev Settles_in : S → List ℕ → Type 0
   Settles_in = SettlesInTable stepped may_skip is_private callers nodes
 
@@ -59,23 +53,30 @@ module _ {S C : Type 0} (stepped : S → ℕ → C → Option S) (may_skip is_pr
         | inr f ↦ subst (λ (x : S). Settles_in x (placing caller n.placed)) (sym f.1) (skipped (ap (λ (x : Timed C). may_skip x.call) is ∙ f.0))
       ]
 
-  -- beyond the last caller there is no call
-  pub all_covered : (n : Reached S) (bound : ℕ) → length callers ≤ bound → IsCoveredBelow bound n → (caller : ℕ) → IsCovered stepped may_skip is_private callers nodes n caller
-  all_covered n bound upto below caller = elim (leb_tells (suc caller) bound) [
-    | inl e ↦ below caller e.1
-    | inr e ↦ inr (λ c after next m f.
-        let near = next_within callers n.placed caller c next in
-        let far = e.1 in absurd (omega arith))
-  ]
+  module _ (Swapped : ℕ → ℕ → C → C → S → S → Type 0) where
+    abbrev pub IsCoveredBelow : ℕ → Reached S → Type 0
+    IsCoveredBelow bound n = (caller : ℕ) → caller < bound → IsCovered stepped may_skip is_private callers nodes Swapped n caller
 
-  pub all_closed : (bound : ℕ) → length nodes ≤ bound → IsClosedBelow bound → IsClosedTable stepped may_skip is_private callers nodes
-  all_closed bound upto below = λ k n e.
-      let near = slice_get_within nodes k n e in
-      let low : k < bound = omega arith in below k low n e
+    abbrev pub IsClosedBelow : ℕ → Type 0
+    IsClosedBelow bound = (k : ℕ) → k < bound → (n : Reached S) → slice_get nodes k ≡ Some n → IsFollowed stepped may_skip is_private callers nodes Swapped n × (OwesNothing callers n.placed → ⊥)
 
-  pub closed_more : (k : ℕ) (n : Reached S) → IsClosedBelow k → slice_get nodes k ≡ Some n → IsFollowed stepped may_skip is_private callers nodes n × (OwesNothing callers n.placed → ⊥) → IsClosedBelow (k + 1)
-  closed_more k n below e here = below_more _ _ below (λ m e'.
-      subst (λ (x : Reached S). IsFollowed stepped may_skip is_private callers nodes x × (OwesNothing callers x.placed → ⊥)) (same_Some n m (sym e ∙ e')) here)
+    -- beyond the last caller there is no call
+    pub all_covered : (n : Reached S) (bound : ℕ) → length callers ≤ bound → IsCoveredBelow bound n → (caller : ℕ) → IsCovered stepped may_skip is_private callers nodes Swapped n caller
+    all_covered n bound upto below caller = elim (leb_tells (suc caller) bound) [
+      | inl e ↦ below caller e.1
+      | inr e ↦ inr (λ c after next m f.
+          let near = next_within callers n.placed caller c next in
+          let far = e.1 in absurd (omega arith))
+    ]
+
+    pub all_closed : (bound : ℕ) → length nodes ≤ bound → IsClosedBelow bound → IsClosedTable stepped may_skip is_private callers nodes Swapped
+    all_closed bound upto below = λ k n e.
+        let near = slice_get_within nodes k n e in
+        let low : k < bound = omega arith in below k low n e
+
+    pub closed_more : (k : ℕ) (n : Reached S) → IsClosedBelow k → slice_get nodes k ≡ Some n → IsFollowed stepped may_skip is_private callers nodes Swapped n × (OwesNothing callers n.placed → ⊥) → IsClosedBelow (k + 1)
+    closed_more k n below e here = below_more _ _ below (λ m e'.
+        subst (λ (x : Reached S). IsFollowed stepped may_skip is_private callers nodes Swapped x × (OwesNothing callers x.placed → ⊥)) (same_Some n m (sym e ∙ e')) here)
 
 module _ {S C : Type 0} (stepped : S → ℕ → C → Option S) (may_skip : C → Bool) (callers : CallsByCaller C) where
   pub explain_more : (s after : S) (placed later order rest : List ℕ) (caller : ℕ) (c : Timed C) → order ≡ caller ∷ rest

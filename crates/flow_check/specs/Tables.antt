@@ -39,14 +39,16 @@ module _ {S C : Type 0} (stepped : S → ℕ → C → Option S) (may_skip is_pr
   IsFollowedAt n caller = (c : Timed C) (after : S) → next_call_of callers n.placed caller ≡ Some c → MayComeNext callers n.placed c
       → IsStep stepped may_skip n.state caller c.call after → SettlesInTable after (placing caller n.placed)
 
-  -- some caller's call comes before this caller's, or the table has what follows this one's
-  abbrev pub IsCovered : Reached S → ℕ → Type 0
-  IsCovered n caller = HasEarlierTwin stepped may_skip callers n.placed caller ⊎ IsFollowedAt n caller
+  -- `Swapped` says when two calls may be swapped
+  module _ (Swapped : ℕ → ℕ → C → C → S → S → Type 0) where
+    -- some caller's call comes before this caller's, or the table has what follows this one's
+    abbrev pub IsCovered : Reached S → ℕ → Type 0
+    IsCovered n caller = HasEarlierTwin stepped may_skip Swapped callers n.state n.placed caller ⊎ IsFollowedAt n caller
 
-  -- each step that may come next leads to nodes of the table
-  abbrev pub IsFollowed : Reached S → Type 0
-  IsFollowed n = (caller : ℕ) → IsCovered n caller
+    -- each step that may come next leads to nodes of the table
+    abbrev pub IsFollowed : Reached S → Type 0
+    IsFollowed n = (caller : ℕ) → IsCovered n caller
 
-  -- the table has the nodes that follow each of its nodes, and none of them is an end
-  abbrev pub IsClosedTable : Type 0
-  IsClosedTable = (k : ℕ) (n : Reached S) → slice_get nodes k ≡ Some n → IsFollowed n × (OwesNothing callers n.placed → ⊥)
+    -- the table has the nodes that follow each of its nodes, and none of them is an end
+    abbrev pub IsClosedTable : Type 0
+    IsClosedTable = (k : ℕ) (n : Reached S) → slice_get nodes k ≡ Some n → IsFollowed n × (OwesNothing callers n.placed → ⊥)

@@ -2,6 +2,7 @@
 ghost use Rattle.std.specs.Prelude.{◌≡◌, ℕ, List, IfOk};
 ghost use Rattle.flow_check.specs.Records.{IsWellTimed};
 ghost use Rattle.flow_check.specs.PrivateCalls.{MayMakePrivate};
+ghost use Rattle.flow_check.specs.Twins.{KeepSwapped};
 ghost use Rattle.flow_check.specs.Remaining.{GoesThroughAll};
 ghost use Rattle.flow_check.specs.Verdicts.{Judges};
 
@@ -24,6 +25,7 @@ pub fn check<C: Copy, M: Machine<C>>(
     requires well { IsWellTimed callers.now }
     requires early { MayMakePrivate
         M.stepped M.may_skip M.IsSound M.is_private M.Ahead first.now }
+    requires swapped { KeepSwapped M.stepped M.may_skip M.Swapped }
     ensures { IfOk result (λ verdict.
         Judges (GoesThroughAll M.stepped M.may_skip callers.now first.now) verdict) }
 {

@@ -41,6 +41,7 @@ mod state_answers;
 mod state_calls;
 mod state_checking;
 mod state_machine;
+mod state_twins;
 mod subscribed;
 mod table;
 mod timed;

@@ -19,6 +19,9 @@ pub trait Machine<C>: Drop {
     /// Whether one state is another one, in which a caller's private call has happened already.
     ghost Ahead: { ℕ → C → Self → Self → Type 0 };
 
+    /// Whether one state is another one, but that the other caller's call has happened in it instead of the caller's.
+    ghost Swapped: { ℕ → ℕ → C → C → Self → Self → Type 0 };
+
     /// What holds of each state that the flow reaches.
     ghost IsSound: { Self → Type 0 };
 
@@ -37,9 +40,10 @@ pub trait Machine<C>: Drop {
     fn is_private(&self, call: &C) -> bool
         ensures { result ≡ is_private call.now };
 
-    /// Returns true only if both calls do the same in each state, whoever makes them.
-    fn are_twins(&self, one: &C, other: &C) -> bool
-        ensures { IsTrue result → AreTwins stepped may_skip one.now other.now };
+    /// Returns true only if it does not matter which of a caller's call and another caller's twin of it comes first.
+    fn are_twins(&self, caller: usize, call: &C, other: usize, twin: &C) -> bool
+        ensures { IsTrue result →
+            AreTwins stepped may_skip Swapped self.now caller other call.now twin.now };
 
     /// Returns whether the flow may give the recorded answer. This is not proved.
     fn may_answer(&self, caller: usize, call: &C) -> bool;

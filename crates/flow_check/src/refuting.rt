@@ -2,6 +2,7 @@
 ghost use Rattle.std.specs.Prelude.{◌≡◌, ℕ, List, true, Some, IsTrue, IfOk};
 ghost use Rattle.flow_check.specs.Records.{IsWellTimed};
 ghost use Rattle.flow_check.specs.PrivateCalls.{MayMakePrivate};
+ghost use Rattle.flow_check.specs.Twins.{KeepSwapped};
 ghost use Rattle.flow_check.specs.Remaining.{GoesThroughAll, none_placed, placing, OwesNothing};
 ghost use Rattle.flow_check.specs.Reached.{reached};
 ghost use Rattle.flow_check.specs.Tables.{nodes_of, IsInTable, SettlesInTable};
@@ -125,7 +126,7 @@ impl<'a, C: Copy, M: Machine<C>> Claim<'a, C, M> {
     fn is_covered(&self, node: &Node<M>, caller: usize) -> Result<bool, AllocError>
         ensures { IfOk result (λ yes. IsTrue yes →
             IsCovered M.stepped M.may_skip M.is_private self.now.callers.now
-            (nodes_of M.read self.now.table.now) (reached node.now) caller) }
+            (nodes_of M.read self.now.table.now) M.Swapped (reached node.now) caller) }
     {
         if has_earlier_twin(self.callers, node, caller) {
             return Ok(true);
@@ -138,7 +139,7 @@ impl<'a, C: Copy, M: Machine<C>> Claim<'a, C, M> {
     fn is_each_covered(&self, node: &Node<M>) -> Result<bool, AllocError>
         ensures { IfOk result (λ yes. IsTrue yes → (caller : ℕ) →
             IsCovered M.stepped M.may_skip M.is_private self.now.callers.now
-            (nodes_of M.read self.now.table.now) (reached node.now) caller) }
+            (nodes_of M.read self.now.table.now) M.Swapped (reached node.now) caller) }
     {
         for caller in 0..self.callers.len() {
             let yes = self.is_covered(node, caller)?;
@@ -153,7 +154,7 @@ impl<'a, C: Copy, M: Machine<C>> Claim<'a, C, M> {
     fn is_followed(&self, node: &Node<M>) -> Result<bool, AllocError>
         ensures { IfOk result (λ yes. IsTrue yes →
             IsFollowed M.stepped M.may_skip M.is_private self.now.callers.now
-            (nodes_of M.read self.now.table.now) (reached node.now)
+            (nodes_of M.read self.now.table.now) M.Swapped (reached node.now)
             × (OwesNothing self.now.callers.now node.now.placed.items → ⊥)) }
     {
         if owes_nothing(self.callers, &node.placed) {
@@ -167,7 +168,7 @@ impl<'a, C: Copy, M: Machine<C>> Claim<'a, C, M> {
     fn is_closed(&self) -> Result<bool, AllocError>
         ensures { IfOk result (λ yes. IsTrue yes →
             IsClosedTable M.stepped M.may_skip M.is_private self.now.callers.now
-            (nodes_of M.read self.now.table.now)) }
+            (nodes_of M.read self.now.table.now) M.Swapped) }
     {
         for place in 0..self.table.len() {
             let found = self.table.at(self.alloc, place)?;
@@ -206,6 +207,7 @@ pub fn refutes<C: Copy, M: Machine<C>>(
     requires well { IsWellTimed callers.now }
     requires early { MayMakePrivate
         M.stepped M.may_skip M.IsSound M.is_private M.Ahead first.now }
+    requires swapped { KeepSwapped M.stepped M.may_skip M.Swapped }
     ensures { IfOk result (λ yes. IsTrue yes →
         (order : List ℕ) → GoesThroughAll M.stepped M.may_skip callers.now first.now order → ⊥) }
 {

@@ -70,6 +70,8 @@ impl<'a> Machine<SharedEntry<'a>> for SharedMachine {
 
     ghost Ahead = { λ caller call state ahead. ahead ≡ state };
 
+    ghost Swapped = { λ caller other call twin state instead. ⊥ };
+
     ghost IsSound = { KeepsWhatIsNeeded };
 
     fn is_private(&self, call: &SharedEntry<'a>) -> bool {
@@ -83,7 +85,13 @@ impl<'a> Machine<SharedEntry<'a>> for SharedMachine {
         }
     }
 
-    fn are_twins(&self, _one: &SharedEntry<'a>, _other: &SharedEntry<'a>) -> bool {
+    fn are_twins(
+        &self,
+        _caller: usize,
+        _call: &SharedEntry<'a>,
+        _other: usize,
+        _twin: &SharedEntry<'a>,
+    ) -> bool {
         false
     }
 

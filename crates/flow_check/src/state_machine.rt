@@ -1,7 +1,7 @@
 //! A state flow as the checker keeps it.
 ghost use Rattle.std.specs.Prelude.{◌≡◌, IsTrue, IfOk};
 ghost use Rattle.flow_check.specs.Subscribed.{none_subscribed};
-ghost use Rattle.flow_check.specs.StateTwins.{is_same_write};
+ghost use Rattle.flow_check.specs.StateTwins.{is_out};
 ghost use Rattle.flow_check.specs.StateMachine.{reader_of, with_reader};
 ghost use Rattle.flow_check.specs.StateMachine.{state_own_answer, state_moved, state_agrees, reader_in, read_state_kept};
 
@@ -132,21 +132,6 @@ impl Same for Option<Option<u64>> {
     }
 }
 
-/// Returns whether both calls change the value in the same way.
-fn is_same_write(one: StateEntry, other: StateEntry) -> bool
-    ensures { result ≡ is_same_write one other }
-{
-    match (one.operation, one.answer, other.operation, other.answer) {
-        (
-            StateOperation::Set(v),
-            Some(StateAnswer::Done),
-            StateOperation::Set(w),
-            Some(StateAnswer::Done),
-        ) => v == w,
-        _ => false,
-    }
-}
-
 /// Returns what a caller has received, as words encode it.
 fn reader_in(words: &[u32]) -> Option<Option<u64>>
     ensures { result ≡ reader_in words.now }
@@ -189,6 +174,7 @@ impl Machine<StateEntry> for StateMachine {
     ghost use Rattle.flow_check.specs.StateMachine.{state_stepped, state_may_skip, read_state_kept};
     ghost use Rattle.flow_check.specs.StateLooks.{IsAlwaysSound};
     ghost use Rattle.flow_check.specs.StatePrivate.{is_state_private, IsStateAhead};
+    ghost use Rattle.flow_check.specs.StateTwins.{IsStateSwapped};
 
     ghost stepped = { state_stepped };
 
@@ -216,6 +202,8 @@ impl Machine<StateEntry> for StateMachine {
 
     ghost Ahead = { IsStateAhead };
 
+    ghost Swapped = { IsStateSwapped };
+
     ghost IsSound = { IsAlwaysSound };
 
     fn is_private(&self, call: &StateEntry) -> bool {
@@ -231,8 +219,8 @@ impl Machine<StateEntry> for StateMachine {
     }
 
     #[tactic(auto, using(crate::proofs::StateTwins::twins))]
-    fn are_twins(&self, one: &StateEntry, other: &StateEntry) -> bool {
-        is_same_write(*one, *other)
+    fn are_twins(&self, caller: usize, call: &StateEntry, other: usize, twin: &StateEntry) -> bool {
+        self.may_swap(caller, *call, other, *twin)
     }
 
     fn may_answer(&self, caller: usize, call: &StateEntry) -> bool {
@@ -280,6 +268,13 @@ impl Machine<StateEntry> for StateMachine {
 }
 
 impl StateMachine {
+    /// Returns whether a caller is not subscribed.
+    pub fn is_out(&self, caller: usize) -> bool
+        ensures { result ≡ is_out caller self.now }
+    {
+        matches!(self.readers.as_slice().get(caller), Some(None))
+    }
+
     /// Makes a state flow with this value, to which none of these callers is subscribed.
     pub fn new<C>(alloc: Global, value: u64, callers: &[C]) -> Result<Self, AllocError>
         ensures { IfOk result (λ made.

@@ -1,4 +1,4 @@
-//! Calls of two callers that do the same, such as to set the same value. Of these the one that ends first comes first.
+//! Calls of two callers that may be swapped, such as to set the same value. Of these the one that ends first comes first.
 ghost use Rattle.std.specs.Prelude.{◌≡◌, ℕ, IsTrue};
 ghost use Rattle.flow_check.specs.Twins.{BeginsAfter, IsEarlierTwin, HasEarlierTwin};
 
@@ -25,7 +25,7 @@ fn begins_after<C: Copy>(
     }
 }
 
-/// Returns whether the other caller's next call does the same as this caller's, and comes first: an order that begins
+/// Returns whether the other caller's next call may be swapped with this caller's, and comes first: an order that begins
 /// with this caller's call can begin with the other one.
 fn is_earlier_twin<C: Copy, M: Machine<C>>(
     callers: &[Vec<Timed<C>>],
@@ -34,7 +34,8 @@ fn is_earlier_twin<C: Copy, M: Machine<C>>(
     other: usize,
 ) -> bool
     ensures { IsTrue result →
-        IsEarlierTwin M.stepped M.may_skip callers.now node.now.placed.items caller other }
+        IsEarlierTwin M.stepped M.may_skip M.Swapped
+        callers.now node.now.state node.now.placed.items caller other }
 {
     let Some(call) = next_call(callers, &node.placed, caller) else {
         return false;
@@ -48,7 +49,7 @@ fn is_earlier_twin<C: Copy, M: Machine<C>>(
     if !is_over_before(twin.end, end) {
         return false;
     }
-    if !node.state.are_twins(&call.call, &twin.call) {
+    if !node.state.are_twins(caller, &call.call, other, &twin.call) {
         return false;
     }
     if !may_come_next(callers, &node.placed, twin.begin) {
@@ -57,20 +58,21 @@ fn is_earlier_twin<C: Copy, M: Machine<C>>(
     begins_after(callers, &node.placed, caller, twin.end)
 }
 
-/// Returns whether some caller's next call does the same as this caller's, and comes first.
+/// Returns whether some caller's next call may be swapped with this caller's, and comes first.
 pub fn has_earlier_twin<C: Copy, M: Machine<C>>(
     callers: &[Vec<Timed<C>>],
     node: &Node<M>,
     caller: usize,
 ) -> bool
     ensures { IsTrue result →
-        HasEarlierTwin M.stepped M.may_skip callers.now node.now.placed.items caller }
+        HasEarlierTwin M.stepped M.may_skip M.Swapped
+        callers.now node.now.state node.now.placed.items caller }
 {
     let Some(call) = next_call(callers, &node.placed, caller) else {
         return false;
     };
     // A call that has a twin is one of itself.
-    if !node.state.are_twins(&call.call, &call.call) {
+    if !node.state.are_twins(caller, &call.call, caller, &call.call) {
         return false;
     }
     for other in 0..callers.len() {

@@ -28,6 +28,16 @@ fn read(value: u64, begin: u64, end: u64) -> Timed<StateEntry> {
     Timed { call, begin, end }
 }
 
+/// Returns a `subscribe` that began at 0 and ended at this moment.
+fn subscribe(end: u64) -> Timed<StateEntry> {
+    let call = StateEntry {
+        operation: StateOperation::Subscribe,
+        answer: Some(StateAnswer::Done),
+    };
+    let end = Some(end);
+    Timed { call, begin: 0, end }
+}
+
 /// Returns the record of the calls of these callers.
 fn record_of(
     rt: &impl Abort,
@@ -60,6 +70,27 @@ fn judges_equal_sets_among_calls_of_one_moment(rt: HostRuntime) {
     let verdict = check_state(rt.alloc(), 0, &record, 1000).expect(&rt, "memory");
     let is_legal = matches!(verdict, Verdict::Legal(_));
     compare(&rt, "it is legal", is_legal, true);
+}
+
+/// Of callers that subscribe meanwhile the one that ends first comes first, so 100 turns are enough: 1 was never set.
+#[test]
+fn judges_many_that_subscribe_at_once(rt: HostRuntime) {
+    let callers: [&[Timed<StateEntry>]; 11] = [
+        &[subscribe(20)],
+        &[subscribe(21)],
+        &[subscribe(22)],
+        &[subscribe(23)],
+        &[subscribe(24)],
+        &[subscribe(25)],
+        &[subscribe(26)],
+        &[subscribe(27)],
+        &[subscribe(28)],
+        &[subscribe(29)],
+        &[read(1, 10, 50)],
+    ];
+    let record = record_of(&rt, rt.alloc(), &callers);
+    let verdict = check_state(rt.alloc(), 0, &record, 100).expect(&rt, "memory");
+    compare(&rt, "it is illegal", matches!(verdict, Verdict::Illegal), true);
 }
 
 /// The moments at which two calls ended: None if the call had not begun, Some(None) if it had not ended.

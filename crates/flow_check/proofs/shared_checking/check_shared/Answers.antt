@@ -22,6 +22,12 @@ check-requires-clause-well c = subst IsWellTimed (sym c.callers-callers.ensures.
 pub check-requires-clause-early : goal.check-requires-clause-early
 check-requires-clause-early c = (subst KeepsWhatIsNeeded (sym c.in_ok-machine.ensures) (begun_sound c.callers-callers.result.now c.args.config), kept, of_looks stepped may_skip KeepsWhatIsNeeded is_look looks)
 
+pub check-requires-clause-swapped : goal.check-requires-clause-swapped
+check-requires-clause-swapped c = record {
+  keeps = λ s t after caller other third call twin e from_caller from_other swapped step. absurd swapped;
+  ends = λ s t after caller other call twin apart swapped step. absurd swapped;
+}
+
 pub returns : goal.returns
 returns c = judged c.args.calls.now c.args.config c.in_ok-verdict.verdict (fault_free (config_fault c.args.config) (sym c.has_fault.ensures ∙ c.if-has_fault.false)) c.callers-callers.ensures.well (
     subst (λ (calls : CallsByCaller SharedEntry). Judges (GoesThroughAll stepped may_skip calls (begun calls c.args.config)) c.in_ok-verdict.verdict) c.callers-callers.ensures.same (

@@ -8,6 +8,7 @@ use Rattle.flow_check.specs.Verdicts.{Judges}
 use Rattle.flow_check.proofs.StateJudging.{judged}
 use Rattle.flow_check.proofs.StateLooking.{kept}
 use Rattle.flow_check.proofs.StatePrivately.{private_calls}
+use Rattle.flow_check.proofs.StateTwins.{keep_swapped}
 use Rattle.flow_check.proofs.state_checking.check_state.Goals as goal
 
 pub check-requires-clause-well : goal.check-requires-clause-well
@@ -15,6 +16,9 @@ check-requires-clause-well c = subst IsWellTimed (sym c.callers-callers.ensures.
 
 pub check-requires-clause-early : goal.check-requires-clause-early
 check-requires-clause-early c = (tt, kept, private_calls)
+
+pub check-requires-clause-swapped : goal.check-requires-clause-swapped
+check-requires-clause-swapped c = keep_swapped
 
 pub returns : goal.returns
 returns c = judged c.args.calls.now c.args.initial c.in_ok-verdict.verdict c.callers-callers.ensures.well (
