@@ -41,22 +41,22 @@ out_of (Some None) out = refl
 out_of (Some (Some last)) out = absurd (false≢true out)
 
 module _ (v : StateKept) (caller other : ℕ) (out : slice_get v.readers caller ≡ Some None) (other_out : slice_get v.readers other ≡ Some None) where
-  abbrev s : StateKept
-  s = with_reader caller (Some None) v
+  abbrev mine : StateKept
+  mine = with_reader caller (Some None) v
 
-  abbrev t : StateKept
-  t = with_reader other (Some None) v
+  abbrev theirs : StateKept
+  theirs = with_reader other (Some None) v
 
   -- ---- calls of others meanwhile
 
-  counts_same : present t.readers ≡ present s.readers
+  counts_same : present theirs.readers ≡ present mine.readers
   counts_same = present-set_more v.readers other None other_out ∙ sym (present-set_more v.readers caller None out)
 
   module _ (third : ℕ) (from_caller : caller ≢ third) (from_other : other ≢ third) where
-    sees_same : reader_of third t.readers ≡ reader_of third s.readers
+    sees_same : reader_of third theirs.readers ≡ reader_of third mine.readers
     sees_same = ap kept_in (get-set_else v.readers other third (Some None) from_other ∙ sym (get-set_else v.readers caller third (Some None) from_caller))
 
-    answers_same : (op : StateOperation) → state_own_answer third op t ≡ state_own_answer third op s
+    answers_same : (op : StateOperation) → state_own_answer third op theirs ≡ state_own_answer third op mine
     answers_same operation.Value = refl
     answers_same (operation.Set w) = refl
     answers_same (operation.TryEmit w) = refl
@@ -68,7 +68,7 @@ module _ (v : StateKept) (caller other : ℕ) (out : slice_get v.readers caller 
     answers_same operation.ReplayCache = refl
 
     -- the states after a call that sets what is kept of the third caller
-    set_apart : (kept : Option (Option ℕ)) → SubscribedInstead caller other (with_reader third kept s) (with_reader third kept t)
+    set_apart : (kept : Option (Option ℕ)) → SubscribedInstead caller other (with_reader third kept mine) (with_reader third kept theirs)
     set_apart kept = (
       with_reader third kept v,
       get-set_else v.readers third caller kept (λ e. from_caller (sym e)) ∙ out,
@@ -78,30 +78,30 @@ module _ (v : StateKept) (caller other : ℕ) (out : slice_get v.readers caller 
     )
 
     -- the states after a call that sets the value
-    value_set : (w : ℕ) → SubscribedInstead caller other (record s { value = w }) (record t { value = w })
+    value_set : (w : ℕ) → SubscribedInstead caller other (record mine { value = w }) (record theirs { value = w })
     value_set w = (record v { value = w }, out, other_out, refl, refl)
 
-    unchanged : SubscribedInstead caller other s t
+    unchanged : SubscribedInstead caller other mine theirs
     unchanged = (v, out, other_out, refl, refl)
 
-    stays_swapped : (op : StateOperation) → SubscribedInstead caller other (state_moved third op s) (state_moved third op t)
+    stays_swapped : (op : StateOperation) → SubscribedInstead caller other (state_moved third op mine) (state_moved third op theirs)
     stays_swapped operation.Value = unchanged
     stays_swapped (operation.Set w) = value_set w
     stays_swapped (operation.TryEmit w) = value_set w
     stays_swapped (operation.CompareAndSet a b) =
-        split (v.value == a) (λ c. SubscribedInstead caller other (cond c (record s { value = b }) s) (cond c (record t { value = b }) t)) (λ _. value_set b) (λ _. unchanged)
+        split (v.value == a) (λ c. SubscribedInstead caller other (cond c (record mine { value = b }) mine) (cond c (record theirs { value = b }) theirs)) (λ _. value_set b) (λ _. unchanged)
     stays_swapped operation.Subscribe = set_apart (Some None)
     stays_swapped operation.Next = set_apart (Some (Some v.value))
     stays_swapped operation.Unsubscribe = set_apart None
     stays_swapped operation.SubscriptionCount = unchanged
     stays_swapped operation.ReplayCache = unchanged
 
-    steps_swapped : (e : StateEntry) (after : StateKept) → state_stepped s third e ≡ Some after → (u : StateKept) × (state_stepped t third e ≡ Some u) × SubscribedInstead caller other after u
+    steps_swapped : (e : StateEntry) (after : StateKept) → state_stepped mine third e ≡ Some after → (u : StateKept) × (state_stepped theirs third e ≡ Some u) × SubscribedInstead caller other after u
     steps_swapped e after step =
-        let told = cond_some (state_agrees (state_own_answer third e.operation s) e.answer) (state_moved third e.operation s) after step in (
-          state_moved third e.operation t,
-          ap (λ (b : Bool). cond b (Some (state_moved third e.operation t)) None) (ap (λ (a : Option StateAnswer). state_agrees a e.answer) (answers_same e.operation) ∙ told.0),
-          subst (λ (x : StateKept). SubscribedInstead caller other x (state_moved third e.operation t)) told.1 (stays_swapped e.operation),
+        let told = cond_some (state_agrees (state_own_answer third e.operation mine) e.answer) (state_moved third e.operation mine) after step in (
+          state_moved third e.operation theirs,
+          ap (λ (b : Bool). cond b (Some (state_moved third e.operation theirs)) None) (ap (λ (a : Option StateAnswer). state_agrees a e.answer) (answers_same e.operation) ∙ told.0),
+          subst (λ (x : StateKept). SubscribedInstead caller other x (state_moved third e.operation theirs)) told.1 (stays_swapped e.operation),
         )
 
   -- ---- the call that is swapped
@@ -111,10 +111,10 @@ module _ (v : StateKept) (caller other : ℕ) (out : slice_get v.readers caller 
   subscribes u one none = ap (λ (r : Option (Option ℕ)). cond (state_agrees (subscribe_answer r) (Some answer.Done)) (Some (with_reader one (Some None) u)) None) none
 
   ends_by : (o : StateOperation) (w : Option StateAnswer) (p : StateOperation) (x : Option StateAnswer) (after : StateKept) → caller ≢ other → subscribe_by o w p x ≡ true
-      → stepped_by p x s other ≡ Some after → stepped_by o w t caller ≡ Some after
+      → stepped_by p x mine other ≡ Some after → stepped_by o w theirs caller ≡ Some after
   ends_by operation.Subscribe (Some answer.Done) operation.Subscribe (Some answer.Done) after apart both step =
-      let told = cond_some (state_agrees (state_own_answer other operation.Subscribe s) (Some answer.Done)) (state_moved other operation.Subscribe s) after step in
-      subscribes t caller (ap kept_in (get-set_else v.readers other caller (Some None) (λ e. apart (sym e)) ∙ out))
+      let told = cond_some (state_agrees (state_own_answer other operation.Subscribe mine) (Some answer.Done)) (state_moved other operation.Subscribe mine) after step in
+      subscribes theirs caller (ap kept_in (get-set_else v.readers other caller (Some None) (λ e. apart (sym e)) ∙ out))
       ∙ ap Some (ap (λ (readers : Readers). record v { readers = readers }) (set_comm v.readers other caller (Some None) (Some None) (λ e. apart (sym e))) ∙ told.1)
   ends_by _ _ _ _ after apart both step = absurd (false≢true both)
 
@@ -122,15 +122,15 @@ module _ (v : StateKept) (caller other : ℕ) (out : slice_get v.readers caller 
       → stepped_by o w v caller ≡ Some after → (u : StateKept) × (stepped_by p x v other ≡ Some u) × SubscribedInstead caller other after u
   begins_by operation.Subscribe (Some answer.Done) operation.Subscribe (Some answer.Done) after both step =
       let told = cond_some (state_agrees (state_own_answer caller operation.Subscribe v) (Some answer.Done)) (state_moved caller operation.Subscribe v) after step in
-      (t, subscribes v other (ap kept_in other_out), (v, out, other_out, sym told.1, refl))
+      (theirs, subscribes v other (ap kept_in other_out), (v, out, other_out, sym told.1, refl))
   begins_by _ _ _ _ after both step = absurd (false≢true both)
 
 -- ---- all calls
 
 pub twins : (caller other : ℕ) (c d : StateEntry) (s : StateKept) → are_state_twins caller other c d s ≡ true → AreTwins state_stepped state_may_skip IsStateSwapped s caller other c d
-twins caller other c d s yes = λ after step. elim step [
+twins caller other c d s may = λ after step. elim step [
   | inr skipped ↦ absurd (false≢true skipped.0)
-  | inl made ↦ elim (or_cases (is_same_write c d) (both_subscribe c d && are_out caller other s) yes) [
+  | inl made ↦ elim (or_cases (is_same_write c d) (both_subscribe c d && are_out caller other s) may) [
     | inl same ↦ (after, inl (sym (same_by c.operation c.answer d.operation d.answer s caller other same) ∙ made), inl (same, refl))
     | inr both ↦
         let parts = and_parts (both_subscribe c d) (are_out caller other s) both in

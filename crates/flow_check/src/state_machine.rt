@@ -218,7 +218,6 @@ impl Machine<StateEntry> for StateMachine {
         }
     }
 
-    #[tactic(auto, using(crate::proofs::StateTwins::twins))]
     fn are_twins(&self, caller: usize, call: &StateEntry, other: usize, twin: &StateEntry) -> bool {
         self.may_swap(caller, *call, other, *twin)
     }
