@@ -1,7 +1,7 @@
 //! The flows of a script in words: a sentence for each.
 
 use crate::page::Page;
-use crate::played::{Played, PlayedFlow};
+use crate::played::{DrawnFlow, Played};
 use crate::script_words::add_chain;
 use flow_law::{Config, NEVER, Overflow, Started};
 use flow_script::{FlowHead, number_at};
@@ -83,8 +83,8 @@ fn add_sharing(page: &mut Page, value: &Value, started: Started) {
 }
 
 /// Adds a flow in words, in a line of its own.
-fn add_flow(page: &mut Page, flow: PlayedFlow<'_>) {
-    let PlayedFlow { name, value, trace } = flow;
+fn add_flow(page: &mut Page, flow: DrawnFlow<'_>) {
+    let DrawnFlow { name, value, trace } = flow;
     write!(page, "{name}: ");
     match trace.head {
         FlowHead::Shared(config) => add_shared(page, config),
@@ -106,7 +106,7 @@ fn add_flow(page: &mut Page, flow: PlayedFlow<'_>) {
     page.push_str("\n");
 }
 
-fn add_flows(page: &mut Page, flows: &[PlayedFlow<'_>]) {
+fn add_flows(page: &mut Page, flows: &[DrawnFlow<'_>]) {
     for flow in flows {
         add_flow(page, *flow);
     }

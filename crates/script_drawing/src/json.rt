@@ -8,7 +8,7 @@
 //! character that JSON would escape: names, words and rules have letters, digits, spaces and a few signs.
 
 use crate::page::{Frame, Page};
-use crate::played::{Played, PlayedFlow, PlayedStep};
+use crate::played::{DrawnFlow, Played, PlayedStep};
 use crate::script_words::{add_step, items_of};
 use crate::svg::{Column, LaneName, Places};
 use flow_law::Next;
@@ -68,8 +68,8 @@ fn case_word(case: Case) -> Option<&'static str> {
 
 /// Adds a flow: its name, what the script says of it, its first value if it is a state flow, whether it was refused when
 /// it was made, and the values that it emitted.
-fn add_flow(page: &mut Page, flow: PlayedFlow<'_>, refused: bool) {
-    let PlayedFlow { name, value, trace } = flow;
+fn add_flow(page: &mut Page, flow: DrawnFlow<'_>, refused: bool) {
+    let DrawnFlow { name, value, trace } = flow;
     write!(page, "{{\"name\":\"{name}\",\"head\":{value}");
     if value.get("initial").is_some() {
         write!(page, ",\"value\":\"{}\"", number_at(value, "initial"));

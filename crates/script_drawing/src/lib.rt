@@ -50,7 +50,7 @@ mod text;
 pub use drawing::drawing_of;
 pub use form::Form;
 pub use page::Frame;
-pub use played::{Played, PlayedFlow, PlayedStep, flows_of, steps_of};
+pub use played::{DrawnFlow, Played, PlayedStep, flows_of, steps_of};
 pub use program::{refuse_arguments, run};
 pub use script_words::items_of;
 pub use svg::{Column, LaneName, Places, svg_picture};

@@ -13,13 +13,13 @@ pub struct Played<'a> {
     /// The parts of the text between its line feeds: a line for each flow that was refused, and then one for each step.
     pub lines: &'a [&'a str],
     /// In the order in which they are made.
-    pub flows: &'a [PlayedFlow<'a>],
+    pub flows: &'a [DrawnFlow<'a>],
     pub steps: &'a [PlayedStep<'a>],
 }
 
 /// A flow of a script that was played.
 #[derive(Clone, Copy)]
-pub struct PlayedFlow<'a> {
+pub struct DrawnFlow<'a> {
     pub name: &'a str,
     /// The flow as the script has it.
     pub value: &'a Value,
@@ -49,21 +49,21 @@ pub struct PlayedStep<'a> {
 ///
 /// # Errors
 /// `AllocError`: out of memory.
-pub fn flows_of(alloc: Global, traced: &TracedScript) -> Result<Vec<PlayedFlow<'_>>, AllocError> {
+pub fn flows_of(alloc: Global, traced: &TracedScript) -> Result<Vec<DrawnFlow<'_>>, AllocError> {
     let TracedScript {
         value: script,
         trace,
     } = traced;
     let mut flows = Vec::new(alloc);
     if let (Some(value), Some(trace)) = (script.get("flow"), trace.flows.first()) {
-        flows.push(PlayedFlow {
+        flows.push(DrawnFlow {
             name: "flow",
             value,
             trace,
         })?;
     } else if let Some(Value::Object(heads)) = script.get("flows") {
         for ((name, value), trace) in heads.iter().zip(trace.flows.iter()) {
-            flows.push(PlayedFlow {
+            flows.push(DrawnFlow {
                 name: name.as_str(),
                 value,
                 trace,
