@@ -35,7 +35,11 @@ fn subscribe(end: u64) -> Timed<StateEntry> {
         answer: Some(StateAnswer::Done),
     };
     let end = Some(end);
-    Timed { call, begin: 0, end }
+    Timed {
+        call,
+        begin: 0,
+        end,
+    }
 }
 
 /// Returns the record of the calls of these callers.
@@ -90,7 +94,12 @@ fn judges_many_that_subscribe_at_once(rt: HostRuntime) {
     ];
     let record = record_of(&rt, rt.alloc(), &callers);
     let verdict = check_state(rt.alloc(), 0, &record, 100).expect(&rt, "memory");
-    compare(&rt, "it is illegal", matches!(verdict, Verdict::Illegal), true);
+    compare(
+        &rt,
+        "it is illegal",
+        matches!(verdict, Verdict::Illegal),
+        true,
+    );
 }
 
 /// The moments at which two calls ended: None if the call had not begun, Some(None) if it had not ended.
