@@ -1,4 +1,5 @@
-"""`./judge --shrink` finds a small illegal record in an illegal one, and what it may leave out never makes a legal record illegal.
+"""`./judge --shrink` finds a small illegal record in an illegal one, which goes wrong at the same moment, and what it may leave out never
+makes a legal record illegal.
 
 The numbers of calls that are left were counted by hand: without any of them the record is legal, or another value has no source."""
 import json
@@ -12,10 +13,10 @@ from wumsnair_tools.built import top
 from wumsnair_tools.judging.leaving_out import Case
 from recorded_calls import MAY_BE_PENDING, records as random_records
 from running import SECONDS, program, records, run, tries
-from wumsnair_tools.judging.shrinking import shrink, text_of
+from wumsnair_tools.judging.shrinking import shrink, text_of, wrong_from
 
 ILLEGAL = {name: path for name, path in records().items() if name.startswith("illegal")}
-# The calls that are left of each record, by their numbers.
+# The calls that are left of each record, by their numbers. Before a stale look the state may begin with the value that it has then.
 LEFT = {
     "illegal_shared_first_leaves_unserved": [1, 2, 3],
     "illegal_shared_first_loses_its_place": [1, 2, 3],
@@ -24,7 +25,7 @@ LEFT = {
     "illegal_shared_returned_too_early": [1, 2],
     "illegal_state_goes_back": [1, 2, 3],
     "illegal_state_stale": [1, 2],
-    "illegal_state_stale_among_looks": [1, 2],
+    "illegal_state_stale_among_looks": [2],
     "illegal_state_torn_exchange": [1, 2],
 }
 # How often a test tries the number of examples of the profile.
@@ -37,7 +38,7 @@ def calls_of(text):
     return oracle.remedies.calls_of(text)
 
 
-def judge(text):
+def judge(text, _seconds=None):
     came = run(program("flow_judge"), text=text)
     return came.status, came.printed.decode()
 
@@ -53,7 +54,7 @@ def test_small_record(name):
     text = ILLEGAL[name].read_bytes()
     ran = subprocess.run(["./judge", "--shrink", ILLEGAL[name]], cwd=top, capture_output=True, timeout=SECONDS)
     whole, small = calls_of(text), calls_of(ran.stdout)
-    assert ran.returncode == 1 and judge(ran.stdout)[0] == 1
+    assert ran.returncode == 1 and wrong_from(judge(ran.stdout)[1]) == wrong_from(judge(text)[1]) is not None
     assert ran.stderr.decode() == f"{len(small)} of {len(whole)} calls are left\n"
     assert [call for call in small if bare(call) not in map(bare, whole)] == []
     if name in LEFT:
@@ -74,6 +75,33 @@ def test_long_record():
     stale = {"by": "t3", "call": "value", "begin": 500, "end": 501, "answer": {"value": 0}}
     status, _, small = shrink(judge, text_of({"kind": "state", "initial": 0}, (*changes, *looks, stale)))
     assert status == 1 and len(calls_of(small)) == 2 and stale in calls_of(small)
+
+
+def test_few_values():
+    """Of two exchanges that both succeed from the same 0 those are left, and not an earlier one whose value another call gave."""
+    own = [("set", 2, None), ("compare_and_set", 0, 2), ("compare_and_set", 1, 0), ("compare_and_set", 2, 1), ("set", 0, None)]
+    calls = [{"by": "t1", "call": call, "value": value, "begin": 2 * at, "end": 2 * at + 1, "answer": True if call != "set" else "done"}
+             | ({} if expect is None else {"expect": expect}) for at, (call, value, expect) in enumerate(own)]
+    calls += [{"by": by, "call": "compare_and_set", "expect": 0, "value": 1, "begin": 10, "end": end, "answer": True}
+              for by, end in (("t1", 11), ("t2", 12))]
+    text = text_of({"kind": "state", "initial": 7}, calls)
+    status, _, small = shrink(judge, text)
+    assert status == 1 and wrong_from(judge(small)[1]) == wrong_from(judge(text)[1]) == 12
+
+
+@pytest.mark.parametrize("kind", MAY_BE_PENDING)
+def test_random_small_records(kind, request):
+    """The small record of a random illegal one goes wrong at the same moment."""
+    @tries(1, request.node.nodeid)
+    @given(random_records(kind))
+    def check(record):
+        text = text_of(record.flow, record.calls)
+        status, words = judge(text)
+        if status == 1:
+            _, _, small = shrink(judge, text)
+            assert wrong_from(judge(small)[1]) == wrong_from(words), (text.decode(), small.decode())
+
+    check()
 
 
 def smaller(case):
@@ -98,6 +126,9 @@ def test_random_parts(kind, request):
         if judge(text_of(case.flow, case.calls))[0] != 0:
             return
         legal.append(case)
+        for moment in case.quiet_moments():
+            rests = [case.after(moment, value) for value in case.values()]
+            assert any(judge(text_of(rest.flow, rest.calls))[0] in (0, 3) for rest in rests), (moment, json.dumps(record.calls))
         for once in smaller(case):
             text = text_of(once.flow, once.calls + once.optional)
             assert judge(text)[0] in (0, 3), (json.dumps(record.calls), text.decode())

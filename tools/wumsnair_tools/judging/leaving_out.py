@@ -8,11 +8,16 @@ is made smaller only in ways that explain no less than before:
 - a change becomes one that may have happened or not: it is `optional`, and judged with the rest, but not printed. A change that gives a
   value which another call found is kept, since without it the record would be illegal for another reason;
 - a subscription is left out with all its calls, if the rest does not depend on how many subscribers there are and how slow they are;
-- of a state flow, a value is left out with all calls that name it.
+- of a state flow, a value is left out with all calls that name it;
+- the calls of a state flow before a moment at which no call and no subscription is open are left out, if the rest is illegal whatever
+  value the state has then. One that it may have becomes the initial one.
 
 tests/programs/test_shrinking.py tries each way on random legal records."""
 from dataclasses import dataclass, field
+from math import inf
 
+# The greatest value of a record.
+MOST = 9_223_372_036_854_775_807
 LOOKS = "value", "subscription_count", "replay_cache"
 OF_SUBSCRIBERS = "subscribe", "next", "unsubscribe"
 
@@ -141,6 +146,33 @@ class Case:
         names = (f"left out {len(self.optional) + number}" for number, _ in enumerate(changes))
         more = tuple(optional(call, name, self.is_shared) for call, name in zip(changes, names))
         return Case(self.flow, left, self.optional + more)
+
+    def quiet_moments(self):
+        """The moments at which no call of a state flow and no subscription is open, and before and after which there are calls."""
+        if self.is_shared or self.optional or any(call["call"] == "first" for call in self.calls):
+            return []
+        spans = [(call["begin"], call.get("end", inf)) for call in self.calls if not is_of_subscriber(call)]
+        for session in map(sorted, self.sessions()):
+            first, last = self.calls[session[0]], self.calls[session[-1]]
+            spans.append((first["begin"], last.get("end", inf) if last["call"] == "unsubscribe" else inf))
+        found, over = [], -1
+        for begin, end in sorted(spans):
+            if -1 < over < begin:
+                found.append(begin)
+            over = max(over, end)
+        return found
+
+    def before(self, moment):
+        return tuple(call for call in self.calls if call["begin"] < moment)
+
+    def values(self):
+        """All values that the state may have had, and one more."""
+        known = set().union({self.flow["initial"]}, *map(values_of, self.calls))
+        return [*sorted(known), max(known) + 1 if max(known) < MOST else min(known) - 1]
+
+    def after(self, moment, value):
+        """The case without the calls before a moment at which the state has a value."""
+        return Case({**self.flow, "initial": value}, tuple(call for call in self.calls if call["begin"] >= moment))
 
     def without_value(self, value):
         """The case of a state flow without the calls that name a value; None if they cannot be left out."""

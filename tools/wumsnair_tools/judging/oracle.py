@@ -1,5 +1,6 @@
 """Judges the bytes of records by the fastest way that is there."""
 import importlib.util
+import select
 import signal
 import subprocess
 import time
@@ -83,23 +84,35 @@ class Stream:
     """A process of wumsnair.mjs that judges one record after another."""
 
     def __init__(self, words):
-        self.process = subprocess.Popen([*words, "--stream"], stdin=subprocess.PIPE, stdout=subprocess.PIPE)
+        self.words = [*words, "--stream"]
+        self.begin()
 
-    def __call__(self, text):
+    def begin(self):
+        self.process = subprocess.Popen(self.words, stdin=subprocess.PIPE, stdout=subprocess.PIPE)
+
+    def __call__(self, text, seconds=None):
         self.process.stdin.write(b"%d\n" % len(text) + text)
         self.process.stdin.flush()
+        if not select.select([self.process.stdout], [], [], seconds)[0]:
+            self.process.kill()
+            self.process.communicate()
+            self.begin()
+            return 3, "gave up\n"
         status, length = map(int, self.process.stdout.readline().split())
         return status, self.process.stdout.read(length).decode()
 
 
 def many():
-    """A function that judges the bytes of one record after another, and returns the status and the words."""
+    """A function that judges the bytes of one record after another, and returns the status and the words. Its second argument is the most
+    seconds that a search may take, except in the library."""
     module = library()
     if module:
-        def call(text):
+        def call(text, _seconds=None):
             status, words = module.check(text)
             return 1 if status == ILLEGAL_IN_LIBRARY else status, words.decode()
 
         return call
     words = ways.command("flow_judge")
-    return Stream(words) if ways.is_node(words) else lambda text: run(words, text)[:2]
+    if ways.is_slow(words):
+        launch.say(ways.SLOW)
+    return Stream(words) if ways.is_node(words) else lambda text, seconds=None: run(words, text, seconds)[:2]

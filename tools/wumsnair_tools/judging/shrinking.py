@@ -1,7 +1,7 @@
 """Finds a small illegal record in an illegal one: ./judge --shrink.
 
-It leaves out parts for as long as the judge finds the rest illegal, larger parts before smaller ones. leaving_out.py says which parts may
-be left out. The record is judged again before it is printed."""
+It leaves out parts for as long as the judge finds the rest illegal, and illegal from the same moment on as the whole record: larger parts
+before smaller ones. leaving_out.py says which parts may be left out. The record is judged again before it is printed."""
 import json
 import time
 
@@ -9,7 +9,9 @@ from wumsnair_tools.judging import remedies
 from wumsnair_tools.judging.leaving_out import Case, values_of
 from wumsnair_tools.judging.reports import moment_in
 
-ILLEGAL = 1
+LEGAL, ILLEGAL = 0, 1
+# The most values of a record of which each may be that of the state at a moment.
+MOST_VALUES = 50
 # The most seconds that the search for a smaller record may take, unless --seconds says otherwise.
 SECONDS = 60
 
@@ -19,31 +21,76 @@ def text_of(flow, calls):
     return "".join(json.dumps(line, ensure_ascii=False) + "\n" for line in ({"flow": flow}, *calls)).encode()
 
 
+def wrong_from(words):
+    """The moment from which on no order explains a record, if the verdict names it."""
+    return moment_in(words, r"^by moment (\d+) ")
+
+
 class Search:
     """The search for a smaller record, which ends by a time."""
 
     def __init__(self, judge, end):
-        self.judge, self.end = judge, end
+        self.judge, self.end, self.moment = judge, end, None
 
     def is_over(self):
         return time.monotonic() > self.end
 
-    def is_illegal(self, case):
-        return case is not None and not self.is_over() and self.judge(text_of(case.flow, case.calls + case.optional))[0] == ILLEGAL
+    def verdict(self, flow, calls):
+        return self.judge(text_of(flow, calls), max(0.1, self.end - time.monotonic()))
 
-    def cut(self, case, moment):
-        """The case up to the first moment, from this one on, by which it is illegal."""
+    def is_illegal(self, case):
+        """Whether a case is illegal, and without its optional calls from no other moment on than the whole record."""
+        if case is None or self.is_over() or self.verdict(case.flow, case.calls + case.optional)[0] != ILLEGAL:
+            return False
+        return not case.optional or self.goes_wrong(case)
+
+    def goes_wrong(self, case):
+        """Whether a case, without its optional calls, is illegal from the same moment on as the whole record."""
+        status, words = self.verdict(case.flow, case.calls)
+        return status == ILLEGAL and wrong_from(words) in (None, self.moment)
+
+    def first_moment(self, case):
+        """The first moment by which a case is illegal."""
         begins = {call["begin"] for call in case.calls}
-        ends = {call["end"] for call in case.calls if "end" in call}
-        moments = sorted(each for each in begins | ends if each >= moment)
-        low, high = 0, len(moments)
+        moments = sorted(begins | {call["end"] for call in case.calls if "end" in call})
+        low, high = 0, len(moments) - 1
         while low < high:
             middle = (low + high) // 2
             if self.is_illegal(case.cut(moments[middle])):
                 high = middle
             else:
                 low = middle + 1
-        return case.cut(moments[low]) if low < len(moments) else case
+        return moments[low]
+
+    def cut(self, case, moment):
+        """The case up to the first moment by which it is illegal, which may be known."""
+        self.moment = self.first_moment(case) if moment is None else moment
+        return case.cut(self.moment)
+
+    def is_illegal_with_any(self, case, moment):
+        """Whether a case is illegal by the calls from a moment on, whatever value the state has then."""
+        return all(self.is_illegal(case.after(moment, value)) for value in case.values())
+
+    def may_have(self, case, moment, value):
+        """Whether the state may have a value at a moment."""
+        look = {"by": "at the moment", "call": "value", "begin": moment, "end": moment, "answer": {"value": value}}
+        return not self.is_over() and self.verdict(case.flow, (*case.before(moment), look))[0] == LEGAL
+
+    def without_front(self, case):
+        """The case without the calls before the last moment that it stays illegal without."""
+        moments = case.quiet_moments()
+        if not moments or len(case.values()) > MOST_VALUES:
+            return case
+        low, high = 0, len(moments)
+        while low < high:
+            middle = (low + high) // 2
+            if self.is_illegal_with_any(case, moments[middle]):
+                low = middle + 1
+            else:
+                high = middle
+        values = case.values() if low else []
+        rests = [case.after(moments[low - 1], value) for value in values if self.may_have(case, moments[low - 1], value)]
+        return next((rest for rest in rests if self.goes_wrong(rest)), case)
 
     def without_values(self, case, values):
         """The case without the values that it stays illegal without, of these; first it tries to leave out all at once."""
@@ -89,9 +136,10 @@ def shrink(judge, text, seconds=None):
         return status, words, None
     flow, calls = remedies.record_of(text)
     search = Search(judge, time.monotonic() + (seconds or SECONDS))
-    case = search.cut(Case(flow, tuple(calls)), moment_in(words, r"^by moment (\d+) ") or 0)
+    case = search.without_front(search.cut(Case(flow, tuple(calls)), wrong_from(words)))
     small = search.smallest(case)
     kept = next((each for each in (small, case) if judge(text_of(each.flow, each.calls))[0] == ILLEGAL), None)
     if kept is None:
         return status, "no smaller record was found", text
-    return status, f"{len(kept.calls)} of {len(calls)} calls are left", text_of(kept.flow, kept.calls)
+    late = ": the time was up, and --seconds sets more" if search.is_over() else ""
+    return status, f"{len(kept.calls)} of {len(calls)} calls are left{late}", text_of(kept.flow, kept.calls)
