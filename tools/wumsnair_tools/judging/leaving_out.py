@@ -14,10 +14,9 @@ is made smaller only in ways that explain no less than before:
 
 tests/programs/test_shrinking.py tries each way on random legal records."""
 from dataclasses import dataclass, field
+from itertools import count
 from math import inf
 
-# The greatest value of a record.
-MOST = 9_223_372_036_854_775_807
 LOOKS = "value", "subscription_count", "replay_cache"
 OF_SUBSCRIBERS = "subscribe", "next", "unsubscribe"
 
@@ -168,7 +167,7 @@ class Case:
     def values(self):
         """All values that the state may have had, and one more."""
         known = set().union({self.flow["initial"]}, *map(values_of, self.calls))
-        return [*sorted(known), max(known) + 1 if max(known) < MOST else min(known) - 1]
+        return [*sorted(known), next(value for value in count() if value not in known)]
 
     def after(self, moment, value):
         """The case without the calls before a moment at which the state has a value."""
