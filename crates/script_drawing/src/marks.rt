@@ -3,7 +3,7 @@
 use crate::mark::{Sign, Words};
 use crate::played::PlayedStep;
 use flow_law::Next;
-use flow_script::{Act, Answer, Case, FlowStep};
+use flow_script::{Act, Answer, Case, FlowStep, Seen};
 
 /// What becomes of the lane of the subscriber or the emission that a step names.
 #[derive(Clone, Copy)]
@@ -41,7 +41,7 @@ fn taken(is_taken: bool) -> Sign {
 
 /// Returns the marks of a step on a flow whose answer is `true` or `false`. `emission` is the value of the step's
 /// emission, if that has a lane that has not ended: otherwise there was nothing to cancel.
-fn tested_marks(act: Act, test: bool, case: Case, emission: Option<i64>) -> Marks<'static> {
+fn tested_marks<'a>(act: Act, test: bool, case: Case, emission: Option<i64>) -> Marks<'a> {
     let Act::OnFlow(_, step) = act else {
         return NONE;
     };
@@ -61,6 +61,24 @@ fn tested_marks(act: Act, test: bool, case: Case, emission: Option<i64>) -> Mark
     }
 }
 
+/// Returns the marks of a poll, by whether the emission still waits.
+fn wait_marks(waits: bool, line: Words<'_>) -> Marks<'_> {
+    if waits {
+        on_named(Sign::Waits, Words::None)
+    } else {
+        on_named(Sign::Told, line)
+    }
+}
+
+/// Returns the marks of a `next`.
+fn next_marks<'a>(next: &Next<i64>, line: Words<'a>) -> Marks<'a> {
+    match next {
+        Next::Value(value) => on_named(Sign::Value, Words::Number(*value)),
+        Next::Empty => NOTHING,
+        Next::Gone => on_named(Sign::Refused, line),
+    }
+}
+
 /// Returns the marks of a step that was refused.
 fn refused_marks(act: Act, line: Words<'_>) -> Marks<'_> {
     match act {
@@ -76,37 +94,56 @@ fn refused_marks(act: Act, line: Words<'_>) -> Marks<'_> {
 }
 
 /// Returns the value that a step emits or sets.
-fn value_of(act: Act) -> Words<'static> {
+fn value_of(act: Act) -> i64 {
     match act {
         Act::OnFlow(_, FlowStep::TryEmit(value) | FlowStep::Emit(value) | FlowStep::Set(value)) => {
-            Words::Number(value)
+            value
         }
-        _ => Words::Number(0),
+        _ => 0,
     }
+}
+
+/// Returns the marks of an emission that was done at once.
+fn done_marks<'a>(value: i64, case: Case) -> Marks<'a> {
+    let sign = taken(case != Case::DropsLatest);
+    Marks(Some(sign), Named::Ended(sign), Words::Number(value))
+}
+
+/// Returns the marks of an emission whose emitter waits.
+fn waiting_marks<'a>(value: i64) -> Marks<'a> {
+    Marks(
+        Some(Sign::Waits),
+        Named::Marked(Sign::Waits),
+        Words::Number(value),
+    )
 }
 
 /// Returns the marks of a step. `emission` is the value of its emission, if that has a lane that has not ended.
 pub fn marks_of<'a>(one: PlayedStep<'a>, emission: Option<i64>) -> Marks<'a> {
-    let (act, case, line) = (one.seen.act, one.seen.case, Words::Text(one.line));
-    match one.answer {
-        Answer::Tested(test) => tested_marks(act, *test, case, emission),
-        Answer::Waits(true) => on_named(Sign::Waits, Words::None),
-        Answer::Waits(false) => on_named(Sign::Told, line),
-        Answer::Done => {
-            let sign = taken(case != Case::DropsLatest);
-            Marks(Some(sign), Named::Ended(sign), value_of(act))
-        }
-        Answer::Queued => Marks(Some(Sign::Waits), Named::Marked(Sign::Waits), value_of(act)),
+    if let Answer::Tested(test) = one.answer {
+        return tested_marks(one.seen.act, *test, one.seen.case, emission);
+    }
+    if let Answer::Cached(_) = one.answer {
+        return on_flow(Sign::Told, Words::List(one.line));
+    }
+    untested_marks(one.seen, one.answer, Words::Text(one.line))
+}
+
+/// Returns the marks of a step whose answer is neither `true` or `false` nor a list.
+fn untested_marks<'a>(seen: &Seen, answer: &Answer, line: Words<'a>) -> Marks<'a> {
+    match answer {
+        Answer::Waits(waits) => wait_marks(*waits, line),
+        Answer::Done => done_marks(value_of(seen.act), seen.case),
+        Answer::Queued => waiting_marks(value_of(seen.act)),
         Answer::Subscribed => on_named(Sign::Begins, Words::None),
-        Answer::Received(Next::Value(value)) => on_named(Sign::Value, Words::Number(*value)),
-        Answer::Received(Next::Empty) => NOTHING,
-        Answer::Received(Next::Gone) => on_named(Sign::Refused, line),
-        Answer::Set => on_flow(Sign::Value, value_of(act)),
-        Answer::Cached(_) => on_flow(Sign::Told, Words::List(one.line)),
+        Answer::Received(next) => next_marks(next, line),
+        Answer::Set => on_flow(Sign::Value, Words::Number(value_of(seen.act))),
         Answer::Counted(_) | Answer::Got(_) | Answer::Reset | Answer::Turned(_) => {
             on_flow(Sign::Told, line)
         }
-        Answer::Refused(_) | Answer::TurnRefused(_) | Answer::NoFlow => refused_marks(act, line),
-        Answer::Collected(_, _) | Answer::NotBuilt(_) => NONE,
+        Answer::Refused(_) | Answer::TurnRefused(_) | Answer::NoFlow => {
+            refused_marks(seen.act, line)
+        }
+        _ => NONE,
     }
 }

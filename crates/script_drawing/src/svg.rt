@@ -142,8 +142,11 @@ impl<'a> Canvas<'a> {
     /// Ends a band of this width: the lanes below its columns end here.
     fn end_band(&mut self, width: usize) {
         self.width = self.width.max(pixels(width).saturating_add(MARGIN));
+        let height = self.height;
         for place in self.ended..self.places.columns.len() {
-            self.places.columns[place].bottom = self.height;
+            if let Some(column) = self.places.columns.get_mut(place) {
+                column.bottom = height;
+            }
         }
         self.ended = self.places.columns.len();
     }
