@@ -7,11 +7,11 @@ from worked_scripts import PLAYED, is_refused
 # The ways that have all flows and all calls.
 WHOLE = ("one-thread", "threads", "futures")
 WAYS = (*WHOLE, "word")
-# What flows of words do not have: sharing into a shared flow, the strategies of a shared flow, first values of a subscriber, and the steps
+# What flows of words do not have: sharing into a shared flow, the strategy of a shared flow that suspends, first values of a subscriber, and the steps
 # on a state flow for which they have no call.
-NO_KIND, NO_STRATEGIES, NO_KEY = "share", ("suspend", "drop_latest"), "first"
+NO_KIND, NO_STRATEGY, NO_KEY = "share", "suspend", "first"
 NO_STEPS = ("cache", "reset")
-LACKING = (NO_KIND, *NO_STRATEGIES, NO_KEY, *NO_STEPS)
+LACKING = (NO_KIND, NO_STRATEGY, NO_KEY, *NO_STEPS)
 NO_CALL = "no such call over word: "
 
 
@@ -25,7 +25,7 @@ def lacked_by_word(script, name, flow):
     """What `word` lacks of a flow that is not refused, if it does not have the flow. It lacks a sharing also if that is refused."""
     if flow["kind"] == NO_KIND:
         return NO_KIND
-    if flow["kind"] == "shared" and flow["overflow"] in NO_STRATEGIES:
+    if flow["kind"] == "shared" and flow["overflow"] == NO_STRATEGY:
         return flow["overflow"]
     if any(NO_KEY in step and step.get("flow", "") == name for step in script["steps"]):
         return NO_KEY

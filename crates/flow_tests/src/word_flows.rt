@@ -3,6 +3,7 @@ ghost use Rattle.std.specs.Prelude.{◌≡◌};
 
 mod asleep;
 mod calls;
+mod latest;
 mod quote;
 mod races;
 mod wide;

@@ -1,7 +1,7 @@
 -- The steps of `replay_cache` keep the rule of the table: the event comes first, and then the holder reads the cells.
-use Rattle.std.proofs.Common.{◌≡◌, ℕ, zero, suc, ◌+◌, ◌-◌, ◌<◌, ◌≤◌, true, ◌&&◌, List, [], ◌∷◌, ◌++◌, drop, length, get_or, set, Option, Some, refl, sym, ap, ◌∙◌, subst, append-nil, append_assoc, length-append, arith}
+use Rattle.std.proofs.Common.{◌≡◌, ℕ, zero, suc, ◌+◌, ◌-◌, ◌<◌, ◌≤◌, true, ◌&&◌, List, [], ◌∷◌, ◌++◌, drop, length, get_or, set, Option, Some, refl, sym, ap, ◌∙◌, subst, append-nil, append_assoc, length-append, arith, inr}
 use Rattle.std.specs.List.{slice_get}
-use Rattle.std.proofs.lemmas.List.{get_or-drop, length-drop, take_more}
+use Rattle.std.proofs.lemmas.List.{get_or-drop, length-drop, take_more, get_or-set_same, get_or-set_other, length-set}
 use Rattle.std.proofs.lemmas.Option.{slice_get_within, get_or_from_slice_get}
 use Rattle.std.specs.Prelude.{max, take, IsTrue}
 use mathlib.Core.Option.{none}
@@ -13,20 +13,22 @@ use Rattle.flow_law.specs.declared.call.SharedReply.{SharedReply}
 use Rattle.flow_law.specs.declared.call.SharedReply.TheVariants as reply
 use Rattle.flow_law.specs.declared.fault.FlowFault.TheVariants.{OutOfMemory}
 use Rattle.flow_law.specs.declared.states.SharedFlowState.{SharedFlowState}
-use Rattle.flow_law.specs.flow.SharedFlow.{values, cache, cache_start}
+use Rattle.flow_law.specs.flow.SharedFlow.{values, cache, cache_start, Replied, answer, issuing, is_exhausted, is_offering, entry, position_of, own_of, without}
 use Rattle.flow_law.specs.flow.SharedHistory.{History, Replies, hands_out, shared_flow}
 use Rattle.flow_law.proofs.Boxes.{length_values}
 use Rattle.flow_law.proofs.HistoryLemmas.{after_all-snoc}
 use Rattle.flow_word_shared.specs.declared.view.RingKnown.{RingKnown}
 use Rattle.flow_word_shared.specs.declared.view.Hold.{Hold}
 use Rattle.flow_word_shared.specs.declared.view.RingStart.{RingStart}
-use Rattle.flow_word_shared.specs.Rule.{capacity_of, cell_at, words_from, HasValue, IsIfKnown, HoldFits, RingHolds}
-use Rattle.flow_word_shared.specs.Steps.{IsBegun, StepCalls, caches, refuses_cache, reads_held, log_after}
-use Rattle.flow_word_shared.specs.View.{began_as, only}
-use Rattle.flow_word_shared.proofs.Cells.{Once, begun_more, begun_whole}
+use Rattle.flow_word_shared.specs.Rule.{capacity_of, cell_at, words_from, HasValue, IsIfKnown, HoldFits, RingHolds, WordsFit}
+use Rattle.flow_word_shared.specs.Steps.{IsBegun, StepCalls, caches, refuses_cache, reads_held, log_after, resets}
+use Rattle.flow_word_shared.specs.View.{began_as, only, holding}
+use Rattle.flow_word_shared.proofs.Cells.{Once, begun_more, begun_whole, head_kept}
 use Rattle.flow_word_shared.proofs.Oldest.{usual_after}
-use Rattle.flow_word_shared.proofs.Keeps.{same_some, now, more_by, event_by, turned, started, hold_at, event_step, still, loaded}
+use Rattle.flow_word_shared.proofs.PlaceRule.{drops, places_after_head, places_same, held_none}
+use Rattle.flow_word_shared.proofs.Keeps.{reads_at, stay, same_some, now, more_by, event_by, turned, started, hold_at, event_step, still, loaded, no_other, stay_set}
 use Rattle.flow_word_shared.proofs.ReadSteps.{log_now}
+use Rattle.flow_law.specs.flow.SharedStep.{forget}
 
 no_more : {A : Type 0} (xs : List A) → length xs ≡ 0 → xs ≡ []
 no_more [] e = refl
@@ -84,7 +86,7 @@ module _ (T : Type 0) (packs : List ℕ → Type 0) (value_of : List ℕ → T) 
       st : SharedFlowState T
       st = current r.history
 
-      f : HoldFits start st r.owner r.ahead s.words x.knows.name (Some h)
+      f : HoldFits start st r.owner r.hidden s.words x.knows.name (Some h)
       f = hold_at T packs value_of start s r id me.0 h is at has
 
       c : SharedCall T
@@ -98,7 +100,7 @@ module _ (T : Type 0) (packs : List ℕ → Type 0) (value_of : List ℕ → T) 
 
       done : Rule record { words = s.words; homes = s.homes; views = set s.views id (turned T packs value_of start x h' (Some h) x.reads ∷ []) }
           × StepCalls me c y (turned T packs value_of start x h' (Some h) x.reads ∷ [], me.1)
-      done = event_step T packs value_of start s r id me.0 me.1 c y is at r.owner r.ahead s.words (Some h) x.reads refl tt r.words f (λ z ne g. g)
+      done = event_step T packs value_of start s r id me.0 me.1 c y is at r.owner r.hidden s.words (Some h) x.reads refl tt r.words f (λ z ne g. g) (stay T packs value_of start s r) (reads_at T packs value_of start s r id me.0 is at)
 
       began : x.start ≡ start
       began = started T packs value_of start s r id me.0 is at
@@ -110,7 +112,7 @@ module _ (T : Type 0) (packs : List ℕ → Type 0) (value_of : List ℕ → T) 
       mark = sym (subst (λ o. IsIfKnown o st.reset_mark) marked f.4)
 
       replay : st.config.replay ≡ x.start.config.replay
-      replay = ap (λ (g : Config). g.replay) (usual_after T start.config r.starts.oldest r.starts.buffer r.history).config_is ∙ ap (λ (z : RingStart). z.config.replay) (sym began)
+      replay = ap (λ (g : Config). g.replay) (usual_after T start.config (drops start r.starts) r.starts.buffer r.history).config_is ∙ ap (λ (z : RingStart). z.config.replay) (sym began)
 
       cache_is : cache st ≡ drop (max k (h.length - x.start.config.replay)) (log_after x.start h')
       cache_is = λ i. drop (max (mark i) (sym f.1 i - replay i)) (sym log_is i)
@@ -128,9 +130,9 @@ module _ (T : Type 0) (packs : List ℕ → Type 0) (value_of : List ℕ → T) 
       let x : RingKnown T = only me.0 in let st = current r.history in let f = hold_at T packs value_of start s r id me.0 h is at has in
       let c : SharedCall T = call.ReplayCache in let y : SharedReply T = reply.Refused OutOfMemory in
       let mark : k ≡ st.reset_mark = subst (λ o. IsIfKnown o st.reset_mark) marked f.4 in
-      let replay : st.config.replay ≡ start.config.replay = ap (λ (g : Config). g.replay) (usual_after T start.config r.starts.oldest r.starts.buffer r.history).config_is in
+      let replay : st.config.replay ≡ start.config.replay = ap (λ (g : Config). g.replay) (usual_after T start.config (drops start r.starts) r.starts.buffer r.history).config_is in
       let replies : Replies st c y = given_out (cache_start st) (values st) (omega (arith, some_cached, mark, replay, f.1, length_values st)) in
-      let done = event_step T packs value_of start s r id me.0 me.1 c y is at r.owner r.ahead s.words (Some h) x.reads replies tt r.words f (λ z ne g. g) in (
+      let done = event_step T packs value_of start s r id me.0 me.1 c y is at r.owner r.hidden s.words (Some h) x.reads replies tt r.words f (λ z ne g. g) (stay T packs value_of start s r) (reads_at T packs value_of start s r id me.0 is at) in (
         turned T packs value_of start x (more_by T packs value_of start x r.history c y) (Some h) x.reads ∷ [],
         keeps,
         tt,
@@ -161,4 +163,32 @@ module _ (T : Type 0) (packs : List ℕ → Type 0) (value_of : List ℕ → T) 
             let next : IsBegun packs value_of log k (part ++ found ∷ []) =
             subst (λ j. IsBegun packs value_of log k (part ++ get_or s.words j 0 ∷ [])) (sym here) (begun_more packs value_of log k start.width s.words (cell_at start k) once value part (omega (arith, less_part, width)) begun) in
             (refl, next, λ whole. begun_whole packs value_of log k start.width s.words (cell_at start k) value (part ++ found ∷ []) (length-append part (found ∷ []) ∙ whole ∙ width) next),
+      )
+
+  -- a store of the reset mark by the holder
+  pub resetting : (slots id : ℕ) (me : Me Unit V) (h : Hold) (new : ℕ) → me.0 ≡ only me.0 ∷ [] → (only me.0).hold ≡ Some h → h.ahead ≡ 0 → new ≡ h.length
+      → Allows Rule slots id me 3 (λ _. new) (λ _. resets (step slots 3 new 0 none) me new)
+  resetting slots id me h new is has none_ahead at_end s r n at small =
+      let x : RingKnown T = only me.0 in let st = current r.history in let f = hold_at T packs value_of start s r id me.0 h is at has in let name : List ℕ = x.knows.name in
+      let c : SharedCall T = call.ResetReplayCache in let y : SharedReply T = reply.Reset in let w = r.words in let count = w.count in
+      let fit : WordsFit packs value_of start (forget st) r.owner r.hidden (set s.words 3 new) = record {
+        count = length-set s.words 3 new ∙ w.count;
+        word0 = get_or-set_other s.words 3 0 new 0 (λ e. absurd (omega arith)) ∙ w.word0;
+        few = w.few;
+        made = subst (λ m. m + length st.emitted ≡ st.issued + r.hidden.ahead) (sym (get_or-set_other s.words 3 1 new 0 (λ e. absurd (omega arith)))) w.made;
+        live = get_or-set_other s.words 3 2 new 0 (λ e. absurd (omega arith)) ∙ w.live;
+        mark = get_or-set_same s.words 3 new 0 (omega arith) ∙ at_end ∙ f.1;
+        cells = λ j a b. subst (HasValue packs value_of (Rattle.flow_law.specs.flow.SharedFlow.values st) j) (sym (head_kept start.width start s.words 3 new j (omega arith))) (w.cells j a b);
+        rested = w.rested;
+        places = places_same start st (forget st) r.hidden.owners s.words (set s.words 3 new) (places_after_head start s.words 3 new (omega arith)) refl (omega arith) (λ u. refl) w.places;
+      } in
+      let done = event_step T packs value_of start s r id me.0 me.1 c y is at r.owner r.hidden (set s.words 3 new) (Some (holding h.length)) x.reads refl tt fit
+      (f.0, f.1, sym none_ahead ∙ f.2, tt, tt, refl, held_none start r.hidden.owners (set s.words 3 new) name (holding h.length) refl refl refl refl)
+      (λ z ne g. no_other start st (forget st) r.owner r.owner r.hidden r.hidden s.words (set s.words 3 new) name z.knows.name z.hold ne (inr f.0) g)
+      (stay_set T packs value_of start s r 3 new (omega arith)) (reads_at T packs value_of start s r id me.0 is at) in (
+        turned T packs value_of start x (more_by T packs value_of start x r.history c y) (Some (holding h.length)) x.reads ∷ [],
+        keeps,
+        tt,
+        done.0,
+        (done.1, λ h2 has2. ap (λ (z : Hold). Some (holding z.length)) (same_some h h2 (sym has ∙ has2))),
       )

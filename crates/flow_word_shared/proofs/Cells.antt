@@ -1,13 +1,14 @@
 -- The cells of values of several words. Begin with `apart` (no cell of one place is one of another), `words_kept` (a store elsewhere leaves
 -- the words of a value), `begun_more` and `begun_whole` (a value whose words are read one by one).
-use Rattle.std.proofs.Common.{◌≡◌, ◌≢◌, ◌⊎◌, ℕ, zero, suc, ◌+◌, ◌-◌, ◌*◌, ◌/◌, ◌%◌, ◌<◌, ◌≤◌, List, [], ◌∷◌, ◌++◌, length, map, get_or, set, Some, refl, sym, ap, ◌∙◌, subst, inl, inr, ⊎_elim, length-append, arith}
+use Rattle.std.proofs.Common.{◌≡◌, ◌≢◌, ℕ, zero, suc, ◌+◌, ◌-◌, ◌*◌, ◌/◌, ◌%◌, ◌<◌, ◌≤◌, List, [], ◌∷◌, ◌++◌, length, map, get_or, set, Some, refl, sym, ap, ◌∙◌, subst, inl, inr, length-append, arith}
 use Rattle.std.specs.Prelude.{take, drop}
 use Rattle.std.specs.List.{slice_get, AllByRecursion}
 use Rattle.std.proofs.Math.Nat.{mod-lt, div-add-mod}
 use Rattle.std.proofs.lemmas.Bool.{cases_lt}
-use Rattle.std.proofs.lemmas.List.{get_or-set_same, get_or-set_other}
+use Rattle.std.proofs.lemmas.List.{get_or-set_other}
+use Rattle.atomic_table.proofs.Lists.{one_turn}
 use Rattle.flow_word_shared.specs.declared.view.RingStart.{RingStart}
-use Rattle.flow_word_shared.specs.Rule.{head, cell_at, IsStart, words_from, HasValue}
+use Rattle.flow_word_shared.specs.Rule.{head, capacity_of, cell_at, IsStart, words_from, HasValue}
 use Rattle.flow_word_shared.specs.Steps.{IsBegun, values_of}
 
 -- ---- places of values
@@ -27,6 +28,15 @@ apart width a b i j ne first second e = elim (cases_lt a b) as (λ _. Unit {0} �
 -- the cells of a position are within those of the flow
 pub cells_within : (start : RingStart) → IsStart start → (k : ℕ) → cell_at start k + start.width ≤ head + start.room * start.width
 cells_within start is k = let room = is.room in let l = mod-lt k {m = start.room} (omega arith) in let far = before start.width (k % start.room) start.room l in omega (arith, far)
+
+-- another position of the window, and the next one
+other_place : (start : RingStart) → IsStart start → (k n : ℕ) → k < n → n ≤ k + capacity_of start → k % start.room ≢ n % start.room
+other_place start is k n less kept same = let room = is.room in let one = one_turn k n start.room (omega arith) (omega arith) same in absurd (omega arith)
+
+-- the cells of another position of the window, and those of the next one
+pub other_cell : (start : RingStart) → IsStart start → (k n j : ℕ) → k < n → n ≤ k + capacity_of start → j < start.width → (i : ℕ) → cell_at start k ≤ i → i < cell_at start k + start.width → cell_at start n + j ≢ i
+other_cell start is k n j less kept there i from within e =
+    apart start.width (k % start.room) (n % start.room) (i - cell_at start k) j (other_place start is k n less kept) (omega (arith, from, within)) there (omega (arith, from, e))
 
 -- ---- words in cells
 
@@ -57,6 +67,20 @@ word_from (suc n) words p (suc j) less = word_from n words (p + 1) j (omega (ari
 pub words_more : (n : ℕ) (words : List ℕ) (p : ℕ) → words_from (n + 1) words p ≡ words_from n words p ++ get_or words (p + n) 0 ∷ []
 words_more zero words p = ap (λ q. get_or words q 0 ∷ []) (let e : p ≡ p + 0 = omega arith in e)
 words_more (suc n) words p = ap (λ k. words_from k words p) (let e : suc n + 1 ≡ suc (n + 1) = omega arith in e) ∙ ap (λ l. get_or words p 0 ∷ l) (words_more n words (p + 1) ∙ ap (λ q. words_from n words (p + 1) ++ get_or words q 0 ∷ []) (let e : p + 1 + n ≡ p + suc n = omega arith in e))
+
+-- ---- lists
+
+module _ {A : Type 0} where
+  pub slice_get_left : (xs ys : List A) (k : ℕ) → k < length xs → slice_get (xs ++ ys) k ≡ slice_get xs k
+  slice_get_left [] ys k l = absurd (omega arith)
+  slice_get_left (x ∷ xs) ys zero l = refl
+  slice_get_left (x ∷ xs) ys (suc k) l = slice_get_left xs ys k (omega arith)
+
+  pub slice_get_end : (xs : List A) (x : A) (k : ℕ) → k ≡ length xs → slice_get (xs ++ x ∷ []) k ≡ Some x
+  slice_get_end [] x zero e = refl
+  slice_get_end [] x (suc k) e = absurd (omega arith)
+  slice_get_end (y ∷ xs) x zero e = absurd (omega arith)
+  slice_get_end (y ∷ xs) x (suc k) e = slice_get_end xs x k (omega arith)
 
 -- ---- a value whose words are read one by one
 

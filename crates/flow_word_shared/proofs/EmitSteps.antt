@@ -9,6 +9,7 @@ use native.Mathlib.Decide.{ℕ_discrete}
 use prog.Atomic.{either}
 use Rattle.atomic_table.specs.Table.{State, Me, step, Act, keeps, carried_after, Valid, stepped, Allows}
 use Rattle.flow_law.specs.declared.config.Config.{Config}
+use Rattle.flow_law.specs.declared.config.Overflow.TheVariants.{DropLatest}
 use Rattle.flow_law.specs.declared.fault.FlowFault.TheVariants.{Exhausted}
 use Rattle.flow_law.specs.declared.call.SharedCall.{SharedCall}
 use Rattle.flow_law.specs.declared.call.SharedReply.{SharedReply}
@@ -16,18 +17,22 @@ use Rattle.flow_law.specs.declared.call.SharedReply.TheVariants as reply
 use Rattle.flow_law.specs.declared.states.Numbered.{Numbered}
 use Rattle.flow_law.specs.declared.states.SharedFlowState.{SharedFlowState}
 use Rattle.flow_law.specs.flow.EmitRule.{numbered}
-use Rattle.flow_law.specs.flow.SharedFlow.{values}
+use Rattle.flow_law.specs.flow.SharedFlow.{values, position_of}
 use Rattle.flow_law.specs.flow.SharedHistory.{History, answer_to, Replies, after}
 use Rattle.flow_law.proofs.Boxes.{length_values}
+use Rattle.flow_law.proofs.RowOrder.{always_in_order}
 use Rattle.flow_word_shared.specs.declared.view.RingKnown.{RingKnown}
 use Rattle.flow_word_shared.specs.declared.view.Hold.{Hold}
 use Rattle.flow_word_shared.specs.declared.view.RingStart.{RingStart}
-use Rattle.flow_word_shared.specs.Rule.{head, capacity_of, cell_at, words_from, IsStart, bit, HasValue, WordsFit, IsIfKnown, HoldFits, RingHolds}
+use Rattle.flow_word_shared.specs.Rule.{head, capacity_of, cell_at, words_from, low_at, IsStart, bit, HasValue, PlacesFit, Hidden, WordsFit, IsIfKnown, HoldPlaces, HoldFits, RingHolds}
+use Rattle.flow_word_shared.specs.PlaceSteps.{HasRoom}
 use Rattle.flow_word_shared.specs.Steps.{emission_of, emission_done, StepCalls, takes, counts_issued, fills, refuses, releases, publishes}
 use Rattle.flow_word_shared.specs.View.{with_hold, holding, only}
-use Rattle.flow_word_shared.proofs.Cells.{cells_within, words_kept, words_more, head_kept}
-use Rattle.flow_word_shared.proofs.Oldest.{Usual, usual_after, Added, emission_is, emission_full, emission_replies, emission_after, emission_may}
-use Rattle.flow_word_shared.proofs.Keeps.{same_some, other_cell, slice_get_left, slice_get_end, no_other, now, more_by, turned_by, turned, started, fits_at, hold_at, event_step, quiet_by, quiet_step, loaded, word0_set}
+use Rattle.flow_word_shared.proofs.Cells.{cells_within, words_kept, words_more, head_kept, other_cell, slice_get_left, slice_get_end}
+use Rattle.flow_word_shared.proofs.PlaceRule.{SamePlaces, at_places, drops, drops_oldest, drops_latest, places_beyond, places_after_head, places_same, places_more, no_places, held_same, held_none}
+use Rattle.flow_word_shared.proofs.Accepted.{Accepts, not_blocked, Added, emission_is, emission_full, emission_replies, emission_after, emission_may}
+use Rattle.flow_word_shared.proofs.Oldest.{Usual, usual_after}
+use Rattle.flow_word_shared.proofs.Keeps.{same_some, no_other, now, more_by, turned_by, turned, started, fits_at, hold_at, reads_at, stay, stay_set, event_step, quiet_by, quiet_step, loaded, word0_set}
 
 -- an even word 0 says that no caller holds the lock bit
 free_if_even : (owner : Option (List ℕ)) (n found old : ℕ) → found ≡ n * 2 + bit owner → found ≡ old → old % 2 ≡ 0 → owner ≡ None
@@ -60,17 +65,18 @@ module _ (T : Type 0) (packs : List ℕ → Type 0) (value_of : List ℕ → T) 
       (λ hit. let free : r.owner ≡ None = free_if_even r.owner (length st.emitted) found old r.words.word0 hit even in
       let half : found ≡ length st.emitted * 2 = half_free r.owner (length st.emitted) found r.words.word0 free in
       let rule : Rule (stepped s 0 new id me.1 (turned T packs value_of start x x.knows.seen (Some (holding (old / 2))) x.reads ∷ []) keeps) =
-      quiet_step T packs value_of start s r id me.0 is at x.knows.seen (Some name) r.ahead (set s.words 0 new) (Some (holding (old / 2))) x.reads (fits_at T packs value_of start s r id me.0 is at)
-      (word0_set T packs value_of start st r.owner (Some name) r.ahead s.words new r.words (omega arith) (λ e. absurd (cc)))
-      (refl, omega arith, sym (r.words.rested free), tt, tt, refl)
-      (λ y ne f. no_other start st st r.owner (Some name) r.ahead r.ahead s.words (set s.words 0 new) name y.knows.name y.hold ne (inl free) f) in
+      quiet_step T packs value_of start s r id me.0 is at x.knows.seen (Some name) r.hidden (set s.words 0 new) (Some (holding (old / 2))) x.reads (fits_at T packs value_of start s r id me.0 is at)
+      (word0_set T packs value_of start st r.owner (Some name) r.hidden s.words new r.words (omega arith) (λ e. absurd (cc)))
+      (refl, omega arith, sym (r.words.rested free), tt, tt, refl, held_none start r.hidden.owners (set s.words 0 new) name (holding (old / 2)) refl refl refl refl)
+      (λ y ne f. no_other start st st r.owner (Some name) r.hidden r.hidden s.words (set s.words 0 new) name y.knows.name y.hold ne (inl free) f)
+      (stay_set T packs value_of start s r 0 new (omega arith)) (reads_at T packs value_of start s r id me.0 is at) in
       subst G (sym (ap (λ b. either b new found) (eq-eqb found old hit)))
       (turned T packs value_of start x x.knows.seen (Some (holding (old / 2))) x.reads ∷ [], keeps, tt, rule, ((λ _. refl), λ miss. absurd (miss hit))))
       (λ miss. subst G (sym (ap (λ b. either b new found) (ne_eqb found old miss))) (
         turned_by T packs value_of start (x.knows.lost + 1) x x.knows.seen None x.reads ∷ [],
         keeps,
         tt,
-        loaded T packs value_of start s 0 _ (quiet_by T packs value_of start s r id me.0 is at (x.knows.lost + 1) x.knows.seen r.owner r.ahead s.words None x.reads (fits_at T packs value_of start s r id me.0 is at) r.words tt (λ y ne g. g)),
+        loaded T packs value_of start s 0 _ (quiet_by T packs value_of start s r id me.0 is at (x.knows.lost + 1) x.knows.seen r.owner r.hidden s.words None x.reads (fits_at T packs value_of start s r id me.0 is at) r.words tt (λ y ne g. g) (stay T packs value_of start s r) (reads_at T packs value_of start s r id me.0 is at)),
         ((λ hit. absurd (miss hit)), λ _. refl),
       )) in
       (flat.0, flat.1, flat.2, flat.3, flat.4)
@@ -87,31 +93,36 @@ module _ (T : Type 0) (packs : List ℕ → Type 0) (value_of : List ℕ → T) 
         turned T packs value_of start x x.knows.seen (Some h') x.reads ∷ [],
         keeps,
         tt,
-        loaded T packs value_of start s 1 _ (quiet_step T packs value_of start s r id me.0 is at x.knows.seen r.owner r.ahead s.words (Some h') x.reads (fits_at T packs value_of start s r id me.0 is at) r.words
-            (f.0, f.1, f.2, issued, f.4, f.5) (λ y ne g. g)),
+        loaded T packs value_of start s 1 _ (quiet_step T packs value_of start s r id me.0 is at x.knows.seen r.owner r.hidden s.words (Some h') x.reads (fits_at T packs value_of start s r id me.0 is at) r.words
+            (f.0, f.1, f.2, issued, f.4, f.5, record { low = f.6.low; checked = f.6.checked; taken = f.6.taken; filled = f.6.filled }) (λ y ne g. g) (stay T packs value_of start s r) (reads_at T packs value_of start s r id me.0 is at)),
         λ h2 has2 zero2. let same : h ≡ h2 = same_some h h2 (sym has ∙ has2) in let len : h.length ≡ h2.length = ap (λ (z : Hold). z.length) same in (
           ap (λ (z : Hold). (with_hold (Some (record z { issued = Some (found + z.length) })) x ∷ [], me.1)) same,
           omega arith,
         ),
       )
 
+  -- a cell comes before the words of places
+  cells_beyond : IsStart start → (words : List ℕ) (i w n j : ℕ) → i ≡ cell_at start n + j → j < start.width → SamePlaces start words (set words i w)
+  cells_beyond ok words i w n j is there = let within = cells_within start ok n in places_beyond start words i w (omega (arith, is, there, within))
+
   -- one of the free cells changes
-  cell_set : (s : SharedFlowState T) (owner : Option (List ℕ)) (ahead : ℕ) (words : List ℕ) (i w j : ℕ) → IsStart start → i ≡ cell_at start (length s.emitted) + j → j < start.width
-      → WordsFit packs value_of start s owner ahead words → WordsFit packs value_of start s owner ahead (set words i w)
-  cell_set s owner ahead words i w j ok is there f = record {
+  cell_set : (s : SharedFlowState T) (owner : Option (List ℕ)) (hidden : Hidden) (words : List ℕ) (i w j : ℕ) → IsStart start → i ≡ cell_at start (length s.emitted) + j → j < start.width
+      → WordsFit packs value_of start s owner hidden words → WordsFit packs value_of start s owner hidden (set words i w)
+  cell_set s owner hidden words i w j ok is there f = record {
     count = length-set words i w ∙ f.count;
     word0 = get_or-set_other words i 0 w 0 (λ e. absurd (omega arith)) ∙ f.word0;
     few = f.few;
-    made = subst (λ n. n + length s.emitted ≡ s.issued + ahead) (sym (get_or-set_other words i 1 w 0 (λ e. absurd (omega arith)))) f.made;
+    made = subst (λ n. n + length s.emitted ≡ s.issued + hidden.ahead) (sym (get_or-set_other words i 1 w 0 (λ e. absurd (omega arith)))) f.made;
     live = get_or-set_other words i 2 w 0 (λ e. absurd (omega arith)) ∙ f.live;
     mark = get_or-set_other words i 3 w 0 (λ e. absurd (omega arith)) ∙ f.mark;
     cells = λ k a b. subst (HasValue packs value_of (values s) k)
         (sym (words_kept start.width words i w (cell_at start k) (λ q from less e. other_cell start ok k (length s.emitted) j a b there q from less (sym is ∙ e)))) (f.cells k a b);
     rested = f.rested;
+    places = places_same start s s hidden.owners words (set words i w) (cells_beyond ok words i w (length s.emitted) j is there) refl (omega arith) (λ u. refl) f.places;
   }
 
   -- what the holder then knows of the cells
-  cell_holds : (words cells : List ℕ) (i w n : ℕ) → IsStart start → length words ≡ head + start.room * start.width → i ≡ cell_at start n + length cells → length cells < start.width
+  cell_holds : (words cells : List ℕ) (i w n : ℕ) → IsStart start → head + start.room * start.width ≤ length words → i ≡ cell_at start n + length cells → length cells < start.width
       → cells ≡ words_from (length cells) words (cell_at start n) → cells ++ w ∷ [] ≡ words_from (length (cells ++ w ∷ [])) (set words i w) (cell_at start n)
   cell_holds words cells i w n ok count is less old =
       let p = cell_at start n in let within = cells_within start ok n in
@@ -128,24 +139,72 @@ module _ (T : Type 0) (packs : List ℕ → Type 0) (value_of : List ℕ → T) 
         turned T packs value_of start x x.knows.seen (Some h') x.reads ∷ [],
         keeps,
         tt,
-        quiet_step T packs value_of start s r id me.0 is at x.knows.seen r.owner r.ahead (set s.words i w) (Some h') x.reads (fits_at T packs value_of start s r id me.0 is at)
-            (cell_set st r.owner r.ahead s.words i w (length h.cells) r.starts (place ∙ ap (λ k. cell_at start k + length h.cells) f.1) less r.words)
-            (f.0, f.1, f.2, f.3, f.4, cell_holds s.words h.cells i w h.length r.starts r.words.count place less f.5)
-            (λ y ne g. no_other start st st r.owner r.owner r.ahead r.ahead s.words (set s.words i w) name y.knows.name y.hold ne (inr f.0) g),
+        quiet_step T packs value_of start s r id me.0 is at x.knows.seen r.owner r.hidden (set s.words i w) (Some h') x.reads (fits_at T packs value_of start s r id me.0 is at)
+            (cell_set st r.owner r.hidden s.words i w (length h.cells) r.starts (place ∙ ap (λ k. cell_at start k + length h.cells) f.1) less r.words) (
+              f.0,
+              f.1,
+              f.2,
+              f.3,
+              f.4,
+              cell_holds s.words h.cells i w h.length r.starts (let count = r.words.count in omega (arith, count)) place less f.5,
+              filled_one s r name f.6,
+            )
+            (λ y ne g. no_other start st st r.owner r.owner r.hidden r.hidden s.words (set s.words i w) name y.knows.name y.hold ne (inr f.0) g) (refl, at_places start s.words (set s.words i w) (beyond s r)) (reads_at T packs value_of start s r id me.0 is at),
         λ h2 has2. ap (λ (z : Hold). (with_hold (Some (record z { cells = z.cells ++ w ∷ [] })) x ∷ [], me.1)) (same_some h h2 (sym has ∙ has2)),
       )
+    where
+      beyond : (s : St) → Rule s → SamePlaces start s.words (set s.words i w)
+      beyond s r = cells_beyond r.starts s.words i w h.length (length h.cells) place less
+
+      -- what the holder knows of places after it has filled one more cell
+      filled_one : (s : St) (r : Rule s) (name : List ℕ) → HoldPlaces start r.hidden.owners s.words name h → HoldPlaces start r.hidden.owners (set s.words i w) name (record h { cells = h.cells ++ w ∷ [] })
+      filled_one s r name f = let g = held_same start r.hidden.owners s.words (set s.words i w) name h (beyond s r) f in
+          record { low = g.low; checked = g.checked; taken = g.taken; filled = let more = length-append h.cells (w ∷ []) in omega (arith, more, less) }
+
+  -- ---- room
+
+  -- the flow has no places; or the lower bound of their positions says that no subscriber is a full buffer behind
+  abbrev pub Room : Hold → Type 0
+  Room h = (start.places ≡ 0) ⊎ ((0 < start.places) × HasRoom h (capacity_of start))
+
+  -- the lower bound that the holder knows is that of the table
+  low_known : (s : St) (r : Rule s) (name : List ℕ) (h : Hold) → HoldFits start (current r.history) r.owner r.hidden s.words name (Some h) → HasRoom h (capacity_of start)
+      → length (current r.history).emitted < get_or s.words (low_at start) 0 + capacity_of start
+  low_known s r name h f clear = let low : clear.0 ≡ get_or s.words (low_at start) 0 = subst (λ o. IsIfKnown o (get_or s.words (low_at start) 0)) clear.1 f.6.low in omega (arith, low, clear.2, f.1)
+
+  -- so no subscriber is a full buffer behind
+  near_all : (s : St) (r : Rule s) → 0 < start.places → length (current r.history).emitted < get_or s.words (low_at start) 0 + capacity_of start
+      → (u p : ℕ) → position_of u (current r.history).subscribers ≡ Some p → length (current r.history).emitted < p + capacity_of start
+  near_all s r some room u p at =
+      let c = r.words.places.covers some u p at in
+      ⊎_elim (λ none. absurd (omega (arith, c.3, none))) (λ shown. omega (arith, shown.1, c.3, room)) (r.words.places.each c.0 c.1)
+
+  -- the flow accepts the holder's value
+  accepts : (s : St) (r : Rule s) (name : List ℕ) (h : Hold) → HoldFits start (current r.history) r.owner r.hidden s.words name (Some h) → Room h
+      → Accepts T start.config (drops start r.starts) r.starts.buffer (current r.history)
+  accepts s r name h f clear latest = ⊎_elim (λ none. absurd (drops_oldest start r.starts none latest))
+      (λ room. not_blocked T start.config (drops start r.starts) r.starts.buffer (current r.history) (usual_after T start.config (drops start r.starts) r.starts.buffer r.history) (always_in_order start.config r.history)
+      (near_all s r room.0 (low_known s r name h f room.1))) clear
+
+  -- the places after the value was emitted
+  published : (s : St) (r : Rule s) (name : List ℕ) (h : Hold) (t : SharedFlowState T) (new : ℕ) → HoldFits start (current r.history) r.owner r.hidden s.words name (Some h) → Room h
+      → length t.emitted ≡ length (current r.history).emitted + 1 → (current r.history).issued ≤ t.issued → (start.config.overflow ≡ DropLatest → t.subscribers ≡ (current r.history).subscribers)
+      → PlacesFit start t r.hidden.owners (set s.words 0 new)
+  published s r name h t new f clear more issued rows = ⊎_elim (λ none. no_places start t r.hidden.owners (set s.words 0 new) none r.words.places.owned)
+      (λ room. places_more start (current r.history) t r.hidden.owners s.words (set s.words 0 new) (places_after_head start s.words 0 new (omega arith)) more issued
+      (λ u. ap (position_of u) (rows (drops_latest start r.starts room.0))) (low_known s r name h f room.1) r.words.places) clear
 
   -- a load of word 1 by the holder that has filled the free cells, if no number is left: a refused emission
-  pub refusing : (slots id : ℕ) (me : Me Unit V) (tries : Bool) (h : Hold) (m : ℕ) → me.0 ≡ only me.0 ∷ [] → (only me.0).hold ≡ Some h → h.issued ≡ Some m → start.config.limit ≤ m
+  pub refusing : (slots id : ℕ) (me : Me Unit V) (tries : Bool) (h : Hold) (m : ℕ) → me.0 ≡ only me.0 ∷ [] → (only me.0).hold ≡ Some h → h.issued ≡ Some m → start.config.limit ≤ m → Room h
       → Allows Rule slots id me 1 (λ n. n) (refuses value_of tries (step slots 1 0 0 none) me)
-  refusing slots id me tries h m is has counted full s r n at small =
+  refusing slots id me tries h m is has counted full clear s r n at small =
       let x : RingKnown T = only me.0 in let st = current r.history in let f = hold_at T packs value_of start s r id me.0 h is at has in let name : List ℕ = x.knows.name in
       let v : T = value_of h.cells in let c : SharedCall T = emission_of tries v in let y : SharedReply T = reply.Refused Exhausted in
-      let usual : Usual T start.config r.starts.oldest r.starts.buffer st = usual_after T start.config r.starts.oldest r.starts.buffer r.history in
+      let usual : Usual T start.config (drops start r.starts) r.starts.buffer st = usual_after T start.config (drops start r.starts) r.starts.buffer r.history in
       let issued : m ≡ st.issued = subst (λ o. IsIfKnown o st.issued) counted f.3 in let few = r.words.few in
       let limit : st.config.limit ≡ start.config.limit = ap (λ (g : Config). g.limit) usual.config_is in
-      let replies : Replies st c y = sym (emission_full T start.config r.starts.oldest r.starts.buffer tries st v usual (omega arith)) in
-      let done = event_step T packs value_of start s r id me.0 me.1 c y is at r.owner r.ahead s.words (Some h) x.reads replies (emission_may T start.config r.starts.oldest r.starts.buffer tries v name r.history) r.words f (λ z ne g. g) in (
+      let replies : Replies st c y = sym (emission_full T start.config (drops start r.starts) r.starts.buffer tries st v usual (accepts s r name h f clear) (omega arith)) in
+      let done = event_step T packs value_of start s r id me.0 me.1 c y is at r.owner r.hidden s.words (Some h) x.reads replies (emission_may T start.config (drops start r.starts) r.starts.buffer tries v name r.history) r.words f (λ z ne g. g) (stay T packs value_of start s r) (reads_at T packs value_of start s r id me.0 is at) in (
         turned T packs value_of start x (more_by T packs value_of start x r.history c y) (Some h) x.reads ∷ [],
         keeps,
         tt,
@@ -163,16 +222,16 @@ module _ (T : Type 0) (packs : List ℕ → Type 0) (value_of : List ℕ → T) 
         turned T packs value_of start x x.knows.seen None x.reads ∷ [],
         keeps,
         tt,
-        quiet_step T packs value_of start s r id me.0 is at x.knows.seen None r.ahead (set s.words 0 new) None x.reads (fits_at T packs value_of start s r id me.0 is at)
-            (word0_set T packs value_of start st r.owner None r.ahead s.words new r.words (omega arith) (λ _. omega arith)) tt
-            (λ y ne g. no_other start st st r.owner None r.ahead r.ahead s.words (set s.words 0 new) name y.knows.name y.hold ne (inr f.0) g),
+        quiet_step T packs value_of start s r id me.0 is at x.knows.seen None r.hidden (set s.words 0 new) None x.reads (fits_at T packs value_of start s r id me.0 is at)
+            (word0_set T packs value_of start st r.owner None r.hidden s.words new r.words (omega arith) (λ _. omega arith)) tt
+            (λ y ne g. no_other start st st r.owner None r.hidden r.hidden s.words (set s.words 0 new) name y.knows.name y.hold ne (inr f.0) g) (stay_set T packs value_of start s r 0 new (omega arith)) (reads_at T packs value_of start s r id me.0 is at),
         refl,
       )
 
   -- a store of word 0 by the holder, which emits the value in the free cells
   pub publishing : (slots id : ℕ) (me : Me Unit V) (tries : Bool) (h : Hold) (m new : ℕ) → me.0 ≡ only me.0 ∷ [] → (only me.0).hold ≡ Some h → h.ahead ≡ 0 → h.issued ≡ Some m → m < start.config.limit
-      → packs h.cells → length h.cells ≡ start.width → new ≡ h.length * 2 + 2 → Allows Rule slots id me 0 (λ _. new) (λ _. publishes value_of tries (step slots 0 new 0 none) me new)
-  publishing slots id me tries h m new is has none_ahead counted room packed whole word s r n at small = (
+      → packs h.cells → length h.cells ≡ start.width → new ≡ h.length * 2 + 2 → Room h → Allows Rule slots id me 0 (λ _. new) (λ _. publishes value_of tries (step slots 0 new 0 none) me new)
+  publishing slots id me tries h m new is has none_ahead counted room packed whole word clear s r n at small = (
     turned T packs value_of start x (more_by T packs value_of start x r.history c y) None x.reads ∷ [],
     keeps,
     tt,
@@ -199,11 +258,11 @@ module _ (T : Type 0) (packs : List ℕ → Type 0) (value_of : List ℕ → T) 
       y : SharedReply T
       y = emission_done tries
 
-      f : HoldFits start st r.owner r.ahead s.words name (Some h)
+      f : HoldFits start st r.owner r.hidden s.words name (Some h)
       f = hold_at T packs value_of start s r id me.0 h is at has
 
-      usual : Usual T start.config r.starts.oldest r.starts.buffer st
-      usual = usual_after T start.config r.starts.oldest r.starts.buffer r.history
+      usual : Usual T start.config (drops start r.starts) r.starts.buffer st
+      usual = usual_after T start.config (drops start r.starts) r.starts.buffer r.history
 
       issued : m ≡ st.issued
       issued = subst (λ o. IsIfKnown o st.issued) counted f.3
@@ -211,20 +270,23 @@ module _ (T : Type 0) (packs : List ℕ → Type 0) (value_of : List ℕ → T) 
       limit : st.config.limit ≡ start.config.limit
       limit = ap (λ (g : Config). g.limit) usual.config_is
 
-      ahead : r.ahead ≡ 0
+      ahead : r.hidden.ahead ≡ 0
       ahead = sym f.2 ∙ none_ahead
 
-      does : Added T start.config r.starts.oldest r.starts.buffer tries (value_of w) st (answer_to c st)
-      does = emission_is T start.config r.starts.oldest r.starts.buffer tries st (value_of w) usual (λ e. absurd (omega (arith, e, issued, limit, room)))
+      rests : Hidden
+      rests = record { ahead = 0; owners = r.hidden.owners }
+
+      does : Added T start.config (drops start r.starts) r.starts.buffer tries (value_of w) st (answer_to c st)
+      does = emission_is T start.config (drops start r.starts) r.starts.buffer tries st (value_of w) usual (accepts s r name h f clear) (λ e. absurd (omega (arith, e, issued, limit, room)))
 
       t : SharedFlowState T
       t = (answer_to c st).after
 
       replies : Replies st c y
-      replies = emission_replies T start.config r.starts.oldest r.starts.buffer tries st (value_of w) (sym does.reply_is)
+      replies = emission_replies T start.config (drops start r.starts) r.starts.buffer tries st (value_of w) (sym does.reply_is)
 
       then_is : after st c y ≡ t
-      then_is = emission_after T start.config r.starts.oldest r.starts.buffer tries st (value_of w)
+      then_is = emission_after T start.config (drops start r.starts) r.starts.buffer tries st (value_of w)
 
       more : length t.emitted ≡ length st.emitted + 1
       more = ap length does.emitted ∙ length_push st.emitted (numbered (value_of w) st)
@@ -245,7 +307,7 @@ module _ (T : Type 0) (packs : List ℕ → Type 0) (value_of : List ℕ → T) 
             subst (HasValue packs value_of (values t) k) here (packed, ap (λ l. slice_get l k) log ∙ slice_get_end (values st) (value_of w) k (omega (arith, last, count)))
       ])
 
-      fit : WordsFit packs value_of start t None 0 (set s.words 0 new)
+      fit : WordsFit packs value_of start t None rests (set s.words 0 new)
       fit = let count = r.words.count in let made = r.words.made in let few = r.words.few in let f1 = f.1 in record {
         count = length-set s.words 0 new ∙ r.words.count;
         word0 = get_or-set_same s.words 0 new 0 (omega arith) ∙ (let l : new ≡ length t.emitted * 2 + 0 = omega (arith, word, more, f1) in l);
@@ -255,10 +317,12 @@ module _ (T : Type 0) (packs : List ℕ → Type 0) (value_of : List ℕ → T) 
         mark = get_or-set_other s.words 0 3 new 0 (λ e. absurd (omega arith)) ∙ r.words.mark ∙ sym does.mark;
         cells = at_cell;
         rested = λ _. refl;
+        places = published s r name h t new f clear more (omega (arith, does.issued)) does.rows;
       }
 
       done : Rule record { words = set s.words 0 new; homes = s.homes; views = set s.views id (turned T packs value_of start x (more_by T packs value_of start x r.history c y) None x.reads ∷ []) }
           × StepCalls (me.0, me.1) c y (turned T packs value_of start x (more_by T packs value_of start x r.history c y) None x.reads ∷ [], me.1)
-      done = event_step T packs value_of start s r id me.0 me.1 c y is at None 0 (set s.words 0 new) None x.reads replies (emission_may T start.config r.starts.oldest r.starts.buffer tries (value_of w) name r.history)
-          (subst (λ z. WordsFit packs value_of start z None 0 (set s.words 0 new)) (sym then_is) fit) tt
-          (λ z ne g. no_other start st (after st c y) r.owner None r.ahead 0 s.words (set s.words 0 new) name z.knows.name z.hold ne (inr f.0) g)
+      done = event_step T packs value_of start s r id me.0 me.1 c y is at None rests (set s.words 0 new) None x.reads replies (emission_may T start.config (drops start r.starts) r.starts.buffer tries (value_of w) name r.history)
+          (subst (λ z. WordsFit packs value_of start z None rests (set s.words 0 new)) (sym then_is) fit) tt
+          (λ z ne g. no_other start st (after st c y) r.owner None r.hidden rests s.words (set s.words 0 new) name z.knows.name z.hold ne (inr f.0) g)
+          (refl, at_places start s.words (set s.words 0 new) (places_after_head start s.words 0 new (omega arith))) (reads_at T packs value_of start s r id me.0 is at)

@@ -1,11 +1,11 @@
 -- What was found in the cells stays found while the buffer moves on. Begin with `found_grows`, and `kept_packs`: what a reader may give.
+use Rattle.flow_word_shared.proofs.Cells.{slice_get_left}
 use Rattle.std.proofs.Common.{◌≡◌, ℕ, zero, suc, ◌+◌, ◌<◌, ◌≤◌, List, [], ◌∷◌, ◌++◌, drop, length, get_or, refl, inl, inr, sym, ap, subst, ◌∙◌, append-nil, length-append, arith}
 use Rattle.std.specs.Prelude.{min, take}
 use Rattle.std.proofs.lemmas.Bool.{cases_lt}
 use Rattle.std.specs.List.{AllByRecursion}
 use Rattle.flow_word_shared.specs.Rule.{HasValue}
 use Rattle.flow_word_shared.specs.Steps.{IsFound, AreFound}
-use Rattle.flow_word_shared.proofs.Keeps.{slice_get_left}
 
 module _ {T : Type 0} (packs : List ℕ → Type 0) (value_of : List ℕ → T) (c : ℕ) where
   abbrev Found : List T → ℕ → List (List ℕ) → Type 0

@@ -20,6 +20,7 @@ use Rattle.flow_word_shared.specs.declared.view.RingStart.{RingStart}
 use Rattle.flow_word_shared.specs.Closing.{StandsAsClosed, in_cells, closed_flow}
 use Rattle.flow_word_shared.specs.Rule.{head, cell_at, words_from, bit, HasValue, RingHolds}
 use Rattle.flow_word_shared.specs.View.{SharedKnowledge, began_as, only}
+use Rattle.flow_word_shared.proofs.PlaceRule.{drops}
 use Rattle.flow_word_shared.proofs.Keeps.{fits_at}
 use Rattle.flow_word_shared.proofs.Oldest.{Usual, usual_after}
 
@@ -111,8 +112,8 @@ module _ (T : Type 0) (packs : List ℕ → Type 0) (value_of : List ℕ → T) 
       count : emitted ≡ length st.emitted
       count = half ∙ halved (length st.emitted) word r.owner word0
 
-      usual : Usual T start.config r.starts.oldest r.starts.buffer st
-      usual = usual_after T start.config r.starts.oldest r.starts.buffer r.history
+      usual : Usual T start.config (drops start r.starts) r.starts.buffer st
+      usual = usual_after T start.config (drops start r.starts) r.starts.buffer r.history
 
       replay : start.config.replay ≡ st.config.replay
       replay = ap (λ (g : Config). g.replay) (sym usual.config_is)

@@ -1,3 +1,4 @@
+pub mod Accepted
 pub mod CacheSteps
 pub mod Cells
 pub mod Chains
@@ -7,10 +8,21 @@ pub mod Keeps
 pub mod Masks
 pub mod Oldest
 pub mod Parts
+pub mod PlaceRule
+pub mod PlaceSteps
+pub mod PlaceMoves
+pub mod PostSteps
+pub mod FreeSteps
+pub mod TakeSteps
+pub mod HandSteps
 pub mod ReadSteps
 pub mod SeatSteps
+pub mod LeaveSteps
 pub mod SubscribeSteps
 pub mod Finding
+pub mod Gone
+pub mod Issued
+pub mod Holding
 pub mod Told
 pub mod Drains
 pub mod LastState

@@ -17,6 +17,10 @@ pub cells_fit : (n mask room width : ℕ) → IsPowerOfTwo room → mask + 1 ≡
 cells_fit n mask room width power one = let l = mod-lt n {m = room} (omega (arith, one)) in let far = before width (n % room) room l in
     subst (λ k. k * width + width ≤ room * width) (sym (mask_is n mask room power one)) far
 
+-- the cells of a flow, by another number of words
+pub cells_in : (n room width wide : ℕ) → 4 + room * width ≤ n → wide ≡ width → 4 + room * wide ≤ n
+cells_in n room width wide all is = subst (λ w. 4 + room * w ≤ n) (sym is) all
+
 -- the first cell of a position
 pub cell_is : (start : RingStart) (n mask room width : ℕ) → IsPowerOfTwo room → mask + 1 ≡ room → start.room ≡ room → start.width ≡ width → 4 + bit_and n mask * width ≡ cell_at start n
 cell_is start n mask room width power one same wide = λ i. 4 + (mask_is n mask room power one ∙ ap (λ m. n % m) (sym same)) i * sym wide i

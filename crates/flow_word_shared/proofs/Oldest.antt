@@ -1,41 +1,39 @@
--- The documented shared flow under DROP_OLDEST with a buffer, call by call. Begin with `Stands` of specs/Steps: a subscriber's place is
+-- The documented shared flow that drops values and has a buffer, call by call. Begin with `Stands` of specs/Steps: a subscriber's place is
 -- where it stood last, unless the buffer has moved on.
-use Rattle.std.proofs.Common.{◌≡◌, ◌≢◌, ℕ, Bool, suc, ◌+◌, ◌-◌, ◌≤◌, ◌<◌, true, false, not, ◌==◌, ◌&&◌, cond, List, [], ◌∷◌, ◌++◌, length, map, Option, Some, None, refl, sym, ap, ◌∙◌, subst, arith, eq-eqb, ne_eqb}
-use Rattle.std.specs.Prelude.{max, nat_lt, filter, Err}
+use Rattle.std.proofs.Common.{◌≡◌, ◌≢◌, ℕ, suc, ◌+◌, ◌-◌, ◌≤◌, ◌<◌, false, not, ◌==◌, ◌&&◌, cond, List, [], ◌∷◌, ◌++◌, length, map, Option, Some, None, refl, sym, ap, ◌∙◌, subst, arith, ne_eqb}
+use Rattle.std.specs.Prelude.{max, filter, Err}
 use Rattle.std.specs.List.{slice_get, list_any}
 use Rattle.std.specs.Option.{option_map_or}
-use Rattle.std.proofs.lemmas.Bool.{cond_both, or_parts, cond-true, cond-false}
-use Rattle.std.proofs.lemmas.Bool.Decides.{nat_tests}
-use Rattle.std.proofs.lemmas.List.{length-map, length_push}
+use Rattle.std.proofs.lemmas.Bool.{cond_both, cond-false}
+use Rattle.std.proofs.lemmas.List.{length_push}
 use Rattle.std.proofs.lemmas.Option.{slice_get_past}
 use Rattle.flow_law.specs.declared.config.Config.{Config}
-use Rattle.flow_law.specs.declared.config.Overflow.TheVariants.{DropOldest}
+use Rattle.flow_law.specs.declared.config.Overflow.{Overflow}
+use Rattle.flow_law.specs.declared.config.Overflow.TheVariants.{Suspend, DropOldest, DropLatest}
 use Rattle.flow_law.specs.declared.fault.FlowFault.TheVariants.{Exhausted}
-use Rattle.flow_law.specs.declared.outcome.Emit.TheVariants.{Done}
 use Rattle.flow_law.specs.declared.outcome.Next.TheVariants.{Value, Empty, Gone}
 use Rattle.flow_law.specs.declared.call.SharedCall.{SharedCall}
 use Rattle.flow_law.specs.declared.call.SharedCall.TheVariants as call
 use Rattle.flow_law.specs.declared.call.SharedReply.{SharedReply}
-use Rattle.flow_law.specs.declared.call.SharedReply.TheVariants as reply
 use Rattle.flow_law.specs.history.Growth.{IsSilent}
-use Rattle.flow_law.specs.history.History.{subscriber, IsGiven, MayCall}
+use Rattle.flow_law.specs.history.History.{subscriber, IsGiven}
 use Rattle.flow_law.specs.declared.states.Numbered.{Numbered}
 use Rattle.flow_law.specs.declared.states.Subscriber.{Subscriber}
 use Rattle.flow_law.specs.declared.states.SharedFlowState.{SharedFlowState}
-use Rattle.flow_law.specs.flow.SharedFlow.{Replied, first_state, capacity, window, lag, values, is_blocked, is_offering, is_offered_as, newest, is_exhausted, answer, issuing, position_of, own_of, stand_at, move_to}
-use Rattle.flow_law.specs.flow.EmitRule.{EmitCase, appends, offers, drops_oldest, when_blocked, is_open, emit_case, emit_in, try_emit_in, numbered, append, suspend, drop_oldest}
+use Rattle.flow_law.specs.flow.SharedFlow.{first_state, capacity, window, lag, values, is_blocked, is_offering, is_offered_as, newest, is_exhausted, answer, position_of, own_of, stand_at, move_to}
+use Rattle.flow_law.specs.flow.EmitRule.{numbered, append, suspend, drop_oldest}
 use Rattle.flow_law.specs.flow.SharedStep.{admit, settle, withdraw, advance, leave, enroll, keep_own, read, next_from, next}
-use Rattle.flow_law.specs.flow.SharedHistory.{History, SharedOutcome, outcome_of, Replies, answer_to, is_refused, after, state_after, speaks_of, shared_flow, IsSharedHistory}
+use Rattle.flow_law.specs.flow.SharedHistory.{History, answer_to, is_refused, after, state_after, speaks_of, shared_flow, IsSharedHistory}
 use Rattle.flow_law.proofs.Boxes.{length_values}
 use Rattle.flow_law.proofs.Growing.{event_grown, history_grown}
 use Rattle.flow_law.proofs.Moves.{event_keeps}
 use Rattle.flow_law.proofs.Owners.{kept_while_silent}
-use Rattle.flow_law.proofs.Queue.{fits_drops}
+use Rattle.flow_law.proofs.Queue.{OnlySuspends}
 use Rattle.flow_law.proofs.Rows.{split, position-move_to, position-move_to_other, position-without_other, position-with_own, lag_below, own-with_own_other, own-move_to, own-map, own-without_other}
 use Rattle.flow_law.proofs.SharedLawful.{shared_lawful}
 use Rattle.flow_law.proofs.Sound.{Sound, sound_keeps, always_sound}
 use Rattle.flow_law.proofs.MailboxSteps.{emit_split, try_emit_split}
-use Rattle.flow_word_shared.specs.Steps.{Stands, emission_of, emission_done}
+use Rattle.flow_word_shared.specs.Steps.{Stands}
 
 some_same : {A : Type 0} (a b : A) → Some a ≡ Some b → a ≡ b
 some_same a b e = cc
@@ -66,7 +64,13 @@ module _ {T : Type 0} where
   length-move_to number p (u ∷ us) = cond_both (u.number == number) (stand_at p u ∷ us) (u ∷ move_to number p us) (λ vs. length vs ≡ suc (length us))
       (λ _. refl) (λ _. ap suc (length-move_to number p us))
 
--- ---- a state of a flow that drops the oldest values
+-- ---- a state of a flow that drops values
+
+-- only a flow that suspends has a queue
+queue_none : {X : Type 0} (o : Overflow) (q : List X) → o ≢ Suspend → OnlySuspends o q → q ≡ []
+queue_none Suspend q ne h = absurd (ne refl)
+queue_none DropOldest q ne h = h
+queue_none DropLatest q ne h = h
 
 not_behind : (p n k b most : ℕ) → k ≡ n + 1 → 0 < b → most ≡ b → p ≤ n → n - max p (n - b) < max most 1 → max p (n - b) ≡ max p (k - b)
 not_behind p n k b most e pos is low h = omega arith
@@ -74,7 +78,7 @@ not_behind p n k b most e pos is low h = omega arith
 raised : (p n k b most : ℕ) → k ≡ n + 1 → most ≡ b → max (max p (n - b)) (k - most) ≡ max p (k - b)
 raised p n k b most e is = omega arith
 
-module _ (T : Type 0) (config : Config) (oldest : config.overflow ≡ DropOldest) (buffer : 0 < config.replay + config.extra) where
+module _ (T : Type 0) (config : Config) (drops : config.overflow ≢ Suspend) (buffer : 0 < config.replay + config.extra) where
   abbrev c : ℕ
   c = config.replay + config.extra
 
@@ -85,78 +89,23 @@ module _ (T : Type 0) (config : Config) (oldest : config.overflow ≡ DropOldest
   pub usual_after : (h : History T) → Usual (state_after config h)
   usual_after h = record { config_is = (history_grown (first_state config) h).config; sound = always_sound config h }
 
-  overflow_is : (s : SharedFlowState T) → Usual s → s.config.overflow ≡ DropOldest
-  overflow_is s h = ap (λ (g : Config). g.overflow) h.config_is ∙ oldest
+  pub overflow_is : (s : SharedFlowState T) → Usual s → s.config.overflow ≡ config.overflow
+  overflow_is s h = ap (λ (g : Config). g.overflow) h.config_is
 
-  capacity_is : (s : SharedFlowState T) → Usual s → capacity s ≡ c
+  pub suspends_not : (s : SharedFlowState T) → Usual s → s.config.overflow ≢ Suspend
+  suspends_not s h e = drops (sym (overflow_is s h) ∙ e)
+
+  pub capacity_is : (s : SharedFlowState T) → Usual s → capacity s ≡ c
   capacity_is s h = ap (λ (g : Config). g.replay + g.extra) h.config_is
 
   pub no_queue : (s : SharedFlowState T) → Usual s → s.queue ≡ []
-  no_queue s h = fits_drops s.config.overflow s.queue (overflow_is s h) h.sound.calm.fits
+  no_queue s h = queue_none s.config.overflow s.queue (suspends_not s h) h.sound.calm.fits
 
   pub settle_still : (s : SharedFlowState T) → s.queue ≡ [] → settle s ≡ record s { queue = [] }
   settle_still s e = ap (admit s) e
 
   pub not_offering : (s : SharedFlowState T) → Usual s → is_offering s ≡ false
   not_offering s h = let is = capacity_is s h in ap (λ b. b && list_any (λ u. lag s u == 1) s.subscribers) (ne_eqb (capacity s) 0 (λ e. absurd (omega (arith, e, is, buffer))))
-
-  -- ---- emit
-
-  can_issue : {R : Type 0} (s : SharedFlowState T) (x : Replied R T) → is_exhausted s ≡ false → issuing s x ≡ x
-  can_issue s x e = cond-false (is_exhausted s) (record { reply = Err Exhausted; after = s }) x e
-
-  cannot_issue : {R : Type 0} (s : SharedFlowState T) (x : Replied R T) → is_exhausted s ≡ true → issuing s x ≡ record { reply = Err Exhausted; after = s }
-  cannot_issue s x e = cond-true (is_exhausted s) (record { reply = Err Exhausted; after = s }) x e
-
-  -- an emission appends, or drops the oldest too
-  case_by : (P : EmitCase → Type 0) (s : SharedFlowState T) → Usual s → P appends → P drops_oldest → P (emit_case s)
-  case_by P s h a d = cond_both (is_open s) appends (cond (is_blocked s) (when_blocked s.config.overflow) offers) P
-      (λ _. a)
-      (λ shut. cond_both (is_blocked s) (when_blocked s.config.overflow) offers P
-      (λ _. subst (λ o. P (when_blocked o)) (sym (overflow_is s h)) d)
-      (λ free. let parts = or_parts (length s.subscribers == 0) (not (is_blocked s) && nat_lt 0 (capacity s)) shut in
-      let none : nat_lt 0 (capacity s) ≡ false = subst (λ b. (not b && nat_lt 0 (capacity s)) ≡ false) free parts.1 in
-      let is = capacity_is s h in absurd (grind (arith, nat_tests, none, is, buffer))))
-
-  -- what an accepted value does
-  pub record Added (tries : Bool) (v : T) (s : SharedFlowState T) (o : SharedOutcome T) : Type 0 where
-    pub reply_is : o.reply ≡ emission_done tries
-    pub emitted : o.after.emitted ≡ s.emitted ++ numbered v s ∷ []
-    pub issued : o.after.issued ≡ s.issued + 1
-    pub mark : o.after.reset_mark ≡ s.reset_mark
-    pub live : length o.after.subscribers ≡ length s.subscribers
-
-  pub emission_is : (tries : Bool) (s : SharedFlowState T) (v : T) → Usual s → s.issued ≢ s.config.limit → Added tries v s (answer_to (emission_of tries v) s)
-  emission_is true s v h room = let free : is_exhausted s ≡ false = ne_eqb s.issued s.config.limit room in
-      case_by (λ m. Added true v s (outcome_of reply.Tested (try_emit_in m v s))) s h
-      (subst (λ a. Added true v s (outcome_of reply.Tested a)) (sym (can_issue s (answer true (append v s)) free)) (record { reply_is = refl; emitted = refl; issued = refl; mark = refl; live = refl }))
-      (subst (λ a. Added true v s (outcome_of reply.Tested a)) (sym (can_issue s (answer true (drop_oldest (append v s))) free)) (record { reply_is = refl; emitted = refl; issued = refl; mark = refl; live = length-map s.subscribers _ }))
-  emission_is false s v h room = let free : is_exhausted s ≡ false = ne_eqb s.issued s.config.limit room in
-      case_by (λ m. Added false v s (outcome_of reply.Emitted (emit_in m v s))) s h
-      (subst (λ a. Added false v s (outcome_of reply.Emitted a)) (sym (can_issue s (answer Done (append v s)) free)) (record { reply_is = refl; emitted = refl; issued = refl; mark = refl; live = refl }))
-      (subst (λ a. Added false v s (outcome_of reply.Emitted a)) (sym (can_issue s (answer Done (drop_oldest (append v s))) free)) (record { reply_is = refl; emitted = refl; issued = refl; mark = refl; live = length-map s.subscribers _ }))
-
-  pub emission_full : (tries : Bool) (s : SharedFlowState T) (v : T) → Usual s → s.issued ≡ s.config.limit → (answer_to (emission_of tries v) s).reply ≡ reply.Refused Exhausted
-  emission_full true s v h full = let none : is_exhausted s ≡ true = eq-eqb s.issued s.config.limit full in
-      case_by (λ m. (outcome_of reply.Tested (try_emit_in m v s)).reply ≡ reply.Refused Exhausted) s h
-      (ap (λ a. (outcome_of reply.Tested a).reply) (cannot_issue s (answer true (append v s)) none))
-      (ap (λ a. (outcome_of reply.Tested a).reply) (cannot_issue s (answer true (drop_oldest (append v s))) none))
-  emission_full false s v h full = let none : is_exhausted s ≡ true = eq-eqb s.issued s.config.limit full in
-      case_by (λ m. (outcome_of reply.Emitted (emit_in m v s)).reply ≡ reply.Refused Exhausted) s h
-      (ap (λ a. (outcome_of reply.Emitted a).reply) (cannot_issue s (answer Done (append v s)) none))
-      (ap (λ a. (outcome_of reply.Emitted a).reply) (cannot_issue s (answer Done (drop_oldest (append v s))) none))
-
-  pub emission_replies : (tries : Bool) (s : SharedFlowState T) (v : T) → emission_done tries ≡ (answer_to (emission_of tries v) s).reply → Replies s (emission_of tries v) (emission_done tries)
-  emission_replies true s v is = is
-  emission_replies false s v is = is
-
-  pub emission_after : (tries : Bool) (s : SharedFlowState T) (v : T) → after s (emission_of tries v) (emission_done tries) ≡ (answer_to (emission_of tries v) s).after
-  emission_after true s v = refl
-  emission_after false s v = refl
-
-  pub emission_may : (tries : Bool) (v : T) (name : List ℕ) (h : History T) → MayCall shared_flow (emission_of tries v) name h
-  emission_may true v name h = tt
-  emission_may false v name h = tt
 
   -- ---- where a subscriber stands after a call that does not name it
 

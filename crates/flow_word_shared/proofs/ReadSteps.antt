@@ -1,5 +1,5 @@
 -- The steps of readers keep the rule of the table. Begin with `is_now`: where a subscriber stands still holds after events of others.
-use Rattle.std.proofs.Common.{◌≡◌, ℕ, ◌+◌, ◌*◌, ◌/◌, ◌<◌, ◌≤◌, List, [], ◌∷◌, ◌++◌, length, get_or, set, Option, Some, None, refl, sym, ap, ◌∙◌, subst, arith}
+use Rattle.std.proofs.Common.{◌≡◌, ◌≢◌, ℕ, ◌+◌, ◌*◌, ◌/◌, ◌<◌, ◌≤◌, List, [], ◌∷◌, ◌++◌, length, get_or, set, Option, Some, None, refl, sym, ap, ◌∙◌, subst, arith}
 use Rattle.std.specs.List.{slice_get}
 use Rattle.std.proofs.lemmas.List.{map-append}
 use Rattle.std.proofs.Common.{length-append, map}
@@ -8,8 +8,8 @@ use mathlib.Core.Option.{none, some}
 use native.Mathlib.Decide.{dec_le}
 use lib.ListN.{get_elem?}
 use Rattle.atomic_table.specs.Table.{State, Me, step, keeps, Allows}
-use Rattle.flow_law.specs.declared.config.Overflow.TheVariants.{DropOldest}
-use Rattle.flow_law.specs.declared.outcome.Next.TheVariants.{Value, Empty}
+use Rattle.flow_law.specs.declared.config.Overflow.TheVariants.{Suspend}
+use Rattle.flow_law.specs.declared.outcome.Next.TheVariants.{Empty}
 use Rattle.flow_law.specs.declared.call.SharedCall.{SharedCall}
 use Rattle.flow_law.specs.declared.call.SharedCall.TheVariants as call
 use Rattle.flow_law.specs.declared.call.SharedReply.{SharedReply}
@@ -18,7 +18,7 @@ use Rattle.flow_law.specs.declared.states.Numbered.{Numbered}
 use Rattle.flow_law.specs.declared.states.SharedFlowState.{SharedFlowState}
 use Rattle.flow_law.specs.history.Growth.{Fits}
 use Rattle.flow_law.specs.history.History.{subscriber}
-use Rattle.flow_law.specs.flow.SharedFlow.{values, answer, move_to}
+use Rattle.flow_law.specs.flow.SharedFlow.{values, answer}
 use Rattle.flow_law.specs.flow.SharedStep.{next}
 use Rattle.flow_law.specs.flow.SharedHistory.{History, outcome_of, Replies, after, shared_after_all, shared_flow, IsSharedHistory}
 use Rattle.flow_law.proofs.Boxes.{length_values}
@@ -31,13 +31,15 @@ use Rattle.flow_word_shared.specs.declared.view.RingKnown.{RingKnown}
 use Rattle.flow_word_shared.specs.declared.view.Hold.{Hold}
 use Rattle.flow_word_shared.specs.declared.view.Reads.{Reads}
 use Rattle.flow_word_shared.specs.declared.view.RingStart.{RingStart}
-use Rattle.flow_word_shared.specs.Rule.{capacity_of, cell_at, words_from, bit, HasValue, WordsFit, HoldFits, RingHolds}
-use Rattle.flow_word_shared.specs.Steps.{Stands, IsAt, IsBegun, IsFound, AreFound, IsFoundPart, log_after, StepCalls, StepSees, looks, reads_part, reads_cell}
-use Rattle.flow_word_shared.specs.View.{SharedKnowledge, began_as, only, saw, reading, reading_part}
-use Rattle.flow_word_shared.proofs.Cells.{Once, begun_more, begun_whole}
-use Rattle.flow_word_shared.proofs.Oldest.{Usual, usual_after, length-move_to, stands_in_silence, next_empty, next_value, stands_next}
-use Rattle.flow_word_shared.proofs.Keeps.{slice_get_left, same_some, same_hold, now, more_by, event_by, turned_by, turned, started, fits_at, event_step, quiet_by, sees_all, loaded}
+use Rattle.flow_word_shared.specs.Rule.{capacity_of, cell_at, words_from, bit, HasValue, Hidden, WordsFit, HoldFits, ReadsFit, RingHolds}
+use Rattle.flow_word_shared.specs.Steps.{Stands, IsAt, IsBegun, AreFound, IsFoundPart, log_after, StepCalls, StepSees, looks, reads_part, reads_cell}
+use Rattle.flow_word_shared.specs.View.{SharedKnowledge, began_as, only, saw, reading_at}
+use Rattle.flow_word_shared.proofs.Cells.{Once, begun_more, begun_whole, slice_get_left}
+use Rattle.flow_word_shared.proofs.PlaceRule.{drops}
+use Rattle.flow_word_shared.proofs.Oldest.{stands_in_silence, next_empty}
+use Rattle.flow_word_shared.proofs.Keeps.{same_some, same_hold, now, more_by, event_by, turned_by, turned, started, fits_at, post_at, stay, event_step, quiet_by, sees_all, loaded}
 use Rattle.flow_word_shared.proofs.Finding.{found_grows, found_more}
+use Rattle.flow_word_shared.proofs.Issued.{emitted_few}
 
 -- the list of a later history begins with that of an earlier one
 pub log_grows : {T : Type 0} (start : RingStart) (h between : History T) → (more : List T) × (log_after start (h ++ between) ≡ log_after start h ++ more)
@@ -50,12 +52,12 @@ half_of n found None is = omega arith
 half_of n found (Some name) is = omega arith
 
 -- where a subscriber is, in a history that fits what its token knows
-pub at_grows : {T : Type 0} (start : RingStart) → start.config.overflow ≡ DropOldest → 0 < start.config.replay + start.config.extra → (lost : ℕ) (k : SharedKnowledge T) (h : History T) (number position : ℕ) → IsSharedHistory start.config h → Fits h k
+pub at_grows : {T : Type 0} (start : RingStart) → start.config.overflow ≢ Suspend → 0 < start.config.replay + start.config.extra → (lost : ℕ) (k : SharedKnowledge T) (h : History T) (number position : ℕ) → IsSharedHistory start.config h → Fits h k
     → IsAt start k number position → IsAt start (saw lost h k) number position
-at_grows {T} start oldest buffer lost k h number position is fits mine = record {
+at_grows {T} start drops buffer lost k h number position is fits mine = record {
   given = given_grows shared_flow shared_lawful (began_as start) k.name (subscriber number) k.seen h is fits.0 mine.given;
   stands = subst (λ (z : History T). Stands number position (capacity_of start) (shared_after_all (began_as start) z)) (sym fits.0.1)
-      (stands_in_silence T start.config oldest buffer number position k.name k.seen fits.0.0 (subst (IsSharedHistory start.config) fits.0.1 is) fits.0.2 mine.given mine.stands);
+      (stands_in_silence T start.config drops buffer number position k.name k.seen fits.0.0 (subst (IsSharedHistory start.config) fits.0.1 is) fits.0.2 mine.given mine.stands);
 }
 
 module _ (T : Type 0) (packs : List ℕ → Type 0) (value_of : List ℕ → T) (start : RingStart) where
@@ -75,7 +77,7 @@ module _ (T : Type 0) (packs : List ℕ → Type 0) (value_of : List ℕ → T) 
   pub is_now : (s : St) (r : Rule s) (id : ℕ) (v : V) (lost number position : ℕ) → v ≡ only v ∷ [] → get_elem? s.views id ≡ some v → IsAt (only v).start (only v).knows number position
       → IsAt start (saw lost r.history (only v).knows) number position
   is_now s r id v lost number position is at old =
-      at_grows start r.starts.oldest r.starts.buffer lost (only v).knows r.history number position r.is_history (fits_at T packs value_of start s r id v is at)
+      at_grows start (drops start r.starts) r.starts.buffer lost (only v).knows r.history number position r.is_history (fits_at T packs value_of start s r id v is at)
       (subst (λ (z : RingStart). IsAt z (only v).knows number position) (started T packs value_of start s r id v is at) old)
 
   -- what holds of the flow with this start holds of the seat's flow
@@ -98,26 +100,26 @@ module _ (T : Type 0) (packs : List ℕ → Type 0) (value_of : List ℕ → T) 
       (subst (λ (z : RingStart). AreFound packs value_of (capacity_of z) (log_after (only v).start (only v).knows.seen) p ws) (started T packs value_of start s r id v is at) f))
 
   -- a reader holds no lock bit
-  pub holds_none : (s t : SharedFlowState T) (owner : Option (List ℕ)) (ahead : ℕ) (words : List ℕ) → length t.emitted ≡ length s.emitted → t.issued ≡ s.issued → t.reset_mark ≡ s.reset_mark
-      → (y : RingKnown T) → HoldFits start s owner ahead words y.knows.name y.hold → HoldFits start t owner ahead words y.knows.name y.hold
-  holds_none s t owner ahead words count issued mark y f = same_hold start s t owner ahead words words y.knows.name y.hold count issued mark (λ i from. refl) f
+  pub holds_none : (s t : SharedFlowState T) (owner : Option (List ℕ)) (hidden : Hidden) (words : List ℕ) → length t.emitted ≡ length s.emitted → t.issued ≡ s.issued → t.reset_mark ≡ s.reset_mark
+      → (y : RingKnown T) → HoldFits start s owner hidden words y.knows.name y.hold → HoldFits start t owner hidden words y.knows.name y.hold
+  holds_none s t owner hidden words count issued mark y f = same_hold start s t owner hidden words words y.knows.name y.hold count issued mark (λ i from. refl) f
 
   -- a call of `next` that finds nothing
   looks_empty : (s : St) (r : Rule s) (id : ℕ) (me : Me Unit V) (x : Reads) → me.0 ≡ only me.0 ∷ [] → get_elem? s.views id ≡ some me.0 → IsAt start (saw (only me.0).knows.lost r.history (only me.0).knows) x.number x.position
-      → length (current r.history).emitted ≤ x.position
+      → ReadsFit start r.hidden.owners s.words (only me.0).knows.name (Some x) → length (current r.history).emitted ≤ x.position
       → let c : SharedCall T = call.TakeNext x.number in let y : SharedReply T = reply.Received Empty in let k : RingKnown T = turned T packs value_of start (only me.0) (more_by T packs value_of start (only me.0) r.history c y) None (Some x) in
       (Rule record { words = s.words; homes = s.homes; views = set s.views id (k ∷ []) } × StepCalls me c y (k ∷ [], me.1)) × (current (more_by T packs value_of start (only me.0) r.history c y) ≡ current r.history) × IsAt start k.knows x.number x.position
-  looks_empty s r id me x is at here all =
+  looks_empty s r id me x is at here posts all =
       let c : SharedCall T = call.TakeNext x.number in let y : SharedReply T = reply.Received Empty in let st = current r.history in
-      let nothing : next x.number st ≡ answer Empty st = next_empty T start.config r.starts.oldest r.starts.buffer x.number x.position st here.stands all in
+      let nothing : next x.number st ≡ answer Empty st = next_empty T start.config (drops start r.starts) r.starts.buffer x.number x.position st here.stands all in
       let replies : Replies st c y = sym (ap (λ a. (outcome_of reply.Received a).reply) nothing) in
       let same : after st c y ≡ st = ap (λ a. (outcome_of reply.Received a).after) nothing in
       let e = event_by T packs value_of start (only me.0) r.history c y in
       let next_state : current (r.history ++ e ∷ []) ≡ st = after_all-snoc shared_flow (began_as start) r.history e ∙ same in
       let is_history : IsSharedHistory start.config (r.history ++ e ∷ []) = IsHistory-snoc shared_flow (began_as start) r.history e r.is_history replies here.given in (
-        event_step T packs value_of start s r id me.0 me.1 c y is at r.owner r.ahead s.words None (Some x) replies here.given
-            (subst (λ t. WordsFit packs value_of start t r.owner r.ahead s.words) (sym same) r.words) tt
-            (λ z ne g. subst (λ t. HoldFits start t r.owner r.ahead s.words z.knows.name z.hold) (sym same) g),
+        event_step T packs value_of start s r id me.0 me.1 c y is at r.owner r.hidden s.words None (Some x) replies here.given
+            (subst (λ t. WordsFit packs value_of start t r.owner r.hidden s.words) (sym same) r.words) tt
+            (λ z ne g. subst (λ t. HoldFits start t r.owner r.hidden s.words z.knows.name z.hold) (sym same) g) (stay T packs value_of start s r) posts,
         next_state,
         record {
           given = given_stays shared_flow shared_lawful (began_as start) r.history (e ∷ []) (subscriber x.number) (only me.0).knows.name is_history.legal here.given;
@@ -131,8 +133,9 @@ module _ (T : Type 0) (packs : List ℕ → Type 0) (value_of : List ℕ → T) 
   looking slots id me x is has old s r n at small =
       let found : ℕ = get_or s.words 0 0 in let v : V = me.0 in let st = current r.history in let here = is_now s r id v (only v).knows.lost x.number x.position is at old in
       let half : found / 2 ≡ length st.emitted = half_of (length st.emitted) found r.owner r.words.word0 in let count = length_values st in
+      let few : found / 2 < start.config.limit = (let less = emitted_few start.config r.history x.number _ here.stands.place in let most = r.words.few in omega (arith, half, less, most)) in
       dite (dec_le (found / 2) x.position)
-      (λ all. let done = looks_empty s r id me x is at here (omega (arith, all, half)) in
+      (λ all. let done = looks_empty s r id me x is at here (post_at T packs value_of start s r id v x is at has) (omega (arith, all, half)) in
       let log : found / 2 ≡ length (values (current (more_by T packs value_of start (only v) r.history (call.TakeNext x.number) (reply.Received Empty)))) = half ∙ sym count ∙ ap (λ t. length (values t)) (sym done.1) in (
         turned T packs value_of start (only v) (more_by T packs value_of start (only v) r.history (call.TakeNext x.number) (reply.Received Empty)) None (Some x) ∷ [],
         keeps,
@@ -146,6 +149,7 @@ module _ (T : Type 0) (packs : List ℕ → Type 0) (value_of : List ℕ → T) 
               refl,
               as_started s r id v (λ z. found / 2 ≡ length (log_after z (more_by T packs value_of start (only v) r.history (call.TakeNext x.number) (reply.Received Empty)))) is at log,
               as_started s r id v (λ z. IsAt z (saw (only v).knows.lost (more_by T packs value_of start (only v) r.history (call.TakeNext x.number) (reply.Received Empty)) (only v).knows) x.number x.position) is at done.2,
+              as_started s r id v (λ z. found / 2 < z.config.limit) is at few,
             ),
       ))
       (λ more. let seen = sees_all T packs value_of start s r id v me.1 0 None (Some x) is at in
@@ -153,7 +157,7 @@ module _ (T : Type 0) (packs : List ℕ → Type 0) (value_of : List ℕ → T) 
         turned_by T packs value_of start ((only v).knows.lost + 0) (only v) r.history None (Some x) ∷ [],
         keeps,
         tt,
-        loaded T packs value_of start s 0 _ (quiet_by T packs value_of start s r id v is at ((only v).knows.lost + 0) r.history r.owner r.ahead s.words None (Some x) seen.0 r.words tt (λ y ne g. g)),
+        loaded T packs value_of start s 0 _ (quiet_by T packs value_of start s r id v is at ((only v).knows.lost + 0) r.history r.owner r.hidden s.words None (Some x) seen.0 r.words tt (λ y ne g. g) (stay T packs value_of start s r) (post_at T packs value_of start s r id v x is at has)),
         λ x2 has2. let same : x ≡ x2 = same_some x x2 (sym has ∙ has2) in
             subst (λ (z : Reads). looks_at me found z (turned_by T packs value_of start ((only v).knows.lost + 0) (only v) r.history None (Some x) ∷ [], me.1)) same (
               (λ all. absurd (more all)),
@@ -162,6 +166,7 @@ module _ (T : Type 0) (packs : List ℕ → Type 0) (value_of : List ℕ → T) 
               refl,
               as_started s r id v (λ z. found / 2 ≡ length (log_after z r.history)) is at log,
               as_started s r id v (λ z. IsAt z (saw ((only v).knows.lost + 0) r.history (only v).knows) x.number x.position) is at (is_now s r id v ((only v).knows.lost + 0) x.number x.position is at old),
+              as_started s r id v (λ z. found / 2 < z.config.limit) is at few,
             ),
       ))
     where
@@ -170,7 +175,7 @@ module _ (T : Type 0) (packs : List ℕ → Type 0) (value_of : List ℕ → T) 
           (found / 2 ≤ x.position → StepCalls before (call.TakeNext x.number) (reply.Received Empty) after)
           × (x.position < found / 2 → StepSees 0 before after)
           × ((only after.0).hold ≡ None) × ((only after.0).reads ≡ Some x) × (found / 2 ≡ length (log_after (only after.0).start (only after.0).knows.seen))
-          × IsAt (only after.0).start (only after.0).knows x.number x.position
+          × IsAt (only after.0).start (only after.0).knows x.number x.position × (found / 2 < (only before.0).start.config.limit)
 
   -- what a load of a cell finds: the word of the value whose cells it reads
   pub record Loaded (s : St) (r : Rule s) (id : ℕ) (me : Me Unit V) (x : Reads) (found : ℕ) : Type 0 where
@@ -235,7 +240,7 @@ module _ (T : Type 0) (packs : List ℕ → Type 0) (value_of : List ℕ → T) 
     k ∷ [],
     keeps,
     tt,
-    loaded T packs value_of start s i _ (quiet_by T packs value_of start s r id v is at ((only v).knows.lost + 0) r.history r.owner r.ahead s.words None (Some got) seen.0 r.words tt (λ y ne g. g)),
+    loaded T packs value_of start s i _ (quiet_by T packs value_of start s r id v is at ((only v).knows.lost + 0) r.history r.owner r.hidden s.words None (Some got) seen.0 r.words tt (λ y ne g. g) (stay T packs value_of start s r) (post_at T packs value_of start s r id v x is at has)),
     λ x2 has2. subst (λ (z : Reads). Tells z) (same_some x x2 (sym has ∙ has2)) (
       seen.1,
       refl,
@@ -253,7 +258,7 @@ module _ (T : Type 0) (packs : List ℕ → Type 0) (value_of : List ℕ → T) 
       v = me.0
 
       got : Reads
-      got = reading_part x.number x.position x.words (x.part ++ found ∷ [])
+      got = record x { part = x.part ++ found ∷ [] }
 
       k : RingKnown T
       k = turned_by T packs value_of start ((only v).knows.lost + 0) (only v) r.history None (Some got)
@@ -265,7 +270,7 @@ module _ (T : Type 0) (packs : List ℕ → Type 0) (value_of : List ℕ → T) 
       all = load_finds once s r id me x i is at old known begun place less there
 
       Tells : Reads → Type 0
-      Tells z = StepSees 0 me (k ∷ [], me.1) × ◌≡◌ {A = Option Hold} None None × ◌≡◌ {A = Option Reads} (Some got) (Some (reading_part z.number z.position z.words (z.part ++ found ∷ [])))
+      Tells z = StepSees 0 me (k ∷ [], me.1) × ◌≡◌ {A = Option Hold} None None × ◌≡◌ {A = Option Reads} (Some got) (Some (record z { part = z.part ++ found ∷ [] }))
           × IsAt (only v).start k.knows z.number z.position × AreFound packs value_of (capacity_of (only v).start) (log_after (only v).start r.history) z.position z.words
           × IsFoundPart packs value_of (capacity_of (only v).start) (log_after (only v).start r.history) (z.position + length z.words) (z.part ++ found ∷ [])
 
@@ -279,7 +284,7 @@ module _ (T : Type 0) (packs : List ℕ → Type 0) (value_of : List ℕ → T) 
     k ∷ [],
     keeps,
     tt,
-    loaded T packs value_of start s i _ (quiet_by T packs value_of start s r id v is at ((only v).knows.lost + 0) r.history r.owner r.ahead s.words None (Some got) seen.0 r.words tt (λ y ne g. g)),
+    loaded T packs value_of start s i _ (quiet_by T packs value_of start s r id v is at ((only v).knows.lost + 0) r.history r.owner r.hidden s.words None (Some got) seen.0 r.words tt (λ y ne g. g) (stay T packs value_of start s r) (post_at T packs value_of start s r id v x is at has)),
     λ x2 has2. subst (λ (z : Reads). Tells z) (same_some x x2 (sym has ∙ has2)) (
       seen.1,
       refl,
@@ -297,7 +302,7 @@ module _ (T : Type 0) (packs : List ℕ → Type 0) (value_of : List ℕ → T) 
       v = me.0
 
       got : Reads
-      got = reading x.number x.position (x.words ++ (x.part ++ found ∷ []) ∷ [])
+      got = reading_at x.post x.number x.position (x.words ++ (x.part ++ found ∷ []) ∷ [])
 
       k : RingKnown T
       k = turned_by T packs value_of start ((only v).knows.lost + 0) (only v) r.history None (Some got)
@@ -309,41 +314,5 @@ module _ (T : Type 0) (packs : List ℕ → Type 0) (value_of : List ℕ → T) 
       all = load_finds once s r id me x i is at old known begun place (omega (arith, whole)) there
 
       Tells : Reads → Type 0
-      Tells z = StepSees 0 me (k ∷ [], me.1) × ◌≡◌ {A = Option Hold} None None × ◌≡◌ {A = Option Reads} (Some got) (Some (reading z.number z.position (z.words ++ (z.part ++ found ∷ []) ∷ [])))
+      Tells z = StepSees 0 me (k ∷ [], me.1) × ◌≡◌ {A = Option Hold} None None × ◌≡◌ {A = Option Reads} (Some got) (Some (reading_at z.post z.number z.position (z.words ++ (z.part ++ found ∷ []) ∷ [])))
           × IsAt (only v).start k.knows z.number z.position × AreFound packs value_of (capacity_of (only v).start) (log_after (only v).start r.history) z.position (z.words ++ (z.part ++ found ∷ []) ∷ [])
-
-  -- a call of `next` that gives the value that was found
-  unfoldable pub confirms_value : (s : St) (r : Rule s) (id : ℕ) (me : Me Unit V) (x : Reads) (word : List ℕ) → me.0 ≡ only me.0 ∷ [] → get_elem? s.views id ≡ some me.0 → IsAt start (saw (only me.0).knows.lost r.history (only me.0).knows) x.number x.position
-      → x.position < length (current r.history).emitted → length (current r.history).emitted ≤ x.position + capacity_of start → slice_get (values (current r.history)) x.position ≡ Some (value_of word)
-      → let c : SharedCall T = call.TakeNext x.number in let y : SharedReply T = reply.Received (Value (value_of word)) in let k : RingKnown T = turned T packs value_of start (only me.0) (more_by T packs value_of start (only me.0) r.history c y) None (Some (reading x.number (x.position + 1) [])) in
-      (Rule record { words = s.words; homes = s.homes; views = set s.views id (k ∷ []) } × StepCalls me c y (k ∷ [], me.1)) × ((current (more_by T packs value_of start (only me.0) r.history c y)).emitted ≡ (current r.history).emitted) × IsAt start k.knows x.number (x.position + 1)
-  confirms_value s r id me x word is at here there kept value =
-      let c : SharedCall T = call.TakeNext x.number in let y : SharedReply T = reply.Received (Value (value_of word)) in let st = current r.history in let u = x.number in let p = x.position in
-      let usual : Usual T start.config r.starts.oldest r.starts.buffer st = usual_after T start.config r.starts.oldest r.starts.buffer r.history in
-      let moved : SharedFlowState T = record st { subscribers = move_to u (p + 1) st.subscribers; queue = [] } in
-      let gives : next u st ≡ answer (Value (value_of word)) moved = next_value T start.config r.starts.oldest r.starts.buffer u p st (value_of word) usual here.stands kept value in
-      let replies : Replies st c y = sym (ap (λ a. (outcome_of reply.Received a).reply) gives) in
-      let then_is : after st c y ≡ moved = ap (λ a. (outcome_of reply.Received a).after) gives in
-      let e = event_by T packs value_of start (only me.0) r.history c y in
-      let next_state : current (r.history ++ e ∷ []) ≡ moved = after_all-snoc shared_flow (began_as start) r.history e ∙ then_is in
-      let is_history : IsSharedHistory start.config (r.history ++ e ∷ []) = IsHistory-snoc shared_flow (began_as start) r.history e r.is_history replies here.given in
-      let w = r.words in
-      let fit : WordsFit packs value_of start moved r.owner r.ahead s.words = record {
-        count = w.count;
-        word0 = w.word0;
-        few = w.few;
-        made = w.made;
-        live = w.live ∙ sym (length-move_to u (p + 1) st.subscribers);
-        mark = w.mark;
-        cells = w.cells;
-        rested = w.rested;
-      } in (
-        event_step T packs value_of start s r id me.0 me.1 c y is at r.owner r.ahead s.words None (Some (reading u (p + 1) [])) replies here.given
-            (subst (λ t. WordsFit packs value_of start t r.owner r.ahead s.words) (sym then_is) fit) tt
-            (λ z ne g. subst (λ t. HoldFits start t r.owner r.ahead s.words z.knows.name z.hold) (sym then_is) (holds_none st moved r.owner r.ahead s.words refl refl refl z g)),
-        ap (λ (t : SharedFlowState T). t.emitted) next_state,
-        record {
-          given = given_stays shared_flow shared_lawful (began_as start) r.history (e ∷ []) (subscriber u) (only me.0).knows.name is_history.legal here.given;
-          stands = subst (Stands u (p + 1) (capacity_of start)) (sym next_state) (stands_next T start.config r.starts.oldest r.starts.buffer u p st here.stands there kept);
-        },
-      )

@@ -1,5 +1,5 @@
 -- What steps tell, as contracts say it: of tokens. Begin with `told_calls`, and `receives_one` of a subscriber.
-use Rattle.std.proofs.Common.{◌≡◌, ◌≢◌, ℕ, ◌+◌, ◌-◌, ◌≤◌, List, [], ◌∷◌, length, refl, sym, ap, ◌∙◌, subst, length-append, arith, map}
+use Rattle.std.proofs.Common.{◌≡◌, ◌≢◌, ℕ, ◌+◌, ◌-◌, ◌^◌, ◌<◌, ◌≤◌, List, [], ◌∷◌, length, Option, Some, None, refl, sym, ap, ◌∙◌, subst, length-append, arith, map}
 use Rattle.std.specs.Prelude.{max, Result, Ok}
 use Rattle.atomic_table.specs.Seated.{TableId}
 use Rattle.atomic_table.specs.declared.shared.Seat.{Seat}
@@ -18,14 +18,44 @@ use Rattle.flow_law.specs.history.Growth.{Fits}
 use Rattle.flow_law.specs.flow.SharedHistory.{History, shared_flow}
 use Rattle.flow_law.specs.history.Tokens.{token, numbered_token}
 use Rattle.flow_word_shared.specs.declared.view.RingKnown.{RingKnown}
+use Rattle.flow_word_shared.specs.declared.view.Post.{Post}
+use Rattle.flow_word_shared.specs.declared.view.Reads.{Reads}
 use Rattle.flow_word_shared.specs.Answers.{HasTried, IsOverrun, WordFlowNexts, NextsTaken}
-use Rattle.flow_word_shared.specs.Rule.{capacity_of}
+use Rattle.flow_word_shared.specs.Rule.{capacity_of, place_at}
 use Rattle.flow_word_shared.specs.Steps.{MeOf, SeesMore, log_after, StepCalls, StepSees, StepsGive, Receives}
-use Rattle.flow_word_shared.specs.Tokens.{WordFlowToken, WordFlowNumbered, word_flow_id, ring_token, IsReading}
-use Rattle.flow_word_shared.specs.View.{SharedKnowledge, began_as, only}
+use Rattle.flow_word_shared.specs.Tokens.{WordFlowToken, WordFlowNumbered, word_flow_id, ring_token, post_of_reads, position_of_reads, IsReading, HasPlaceOrNone}
+use Rattle.flow_word_shared.specs.declared.place.Place.{Place as Placed}
+use Rattle.flow_word_shared.specs.View.{SharedKnowledge, began_as, only, reading_at}
 use Rattle.flow_word_shared.specs.declared.view.RingStart.{RingStart}
 use Rattle.flow_word_shared.proofs.ReadSteps.{log_grows}
 use Rattle.flow_word_shared.proofs.Chains.{sees_sees, sees_then, tried_calls}
+
+-- what a seat knows as a subscriber, in the form in which contracts say it
+pub reads_as : (reads : Option Reads) (post : Option Post) (number position : ℕ) (words : List (List ℕ)) → reads ≡ Some (reading_at post number position words)
+    → reads ≡ Some (reading_at (post_of_reads reads) number position words)
+reads_as reads post number position words e = e ∙ ap (λ o. Some (reading_at o number position words)) (sym (ap post_of_reads e))
+
+-- a subscriber's place, by another seat that knows the same of it
+pub placed_as : {T : Type 0} (place : Option Placed) (s t : Seat Unit (List (RingKnown T))) (seen : ℕ) → (only t.me.0).reads ≡ (only s.me.0).reads → (only t.me.0).start ≡ (only s.me.0).start
+    → length (log_after (only s.me.0).start (only s.me.0).knows.seen) ≤ length (log_after (only t.me.0).start (only t.me.0).knows.seen) → HasPlaceOrNone place s seen → HasPlaceOrNone place t seen
+placed_as None s t seen reads start more f = ap (λ (z : RingStart). z.places) start ∙ f
+placed_as (Some place) s t seen reads start more f = (
+  record {
+    at = f.0.at;
+    post = ap post_of_reads reads ∙ f.0.post;
+    word = f.0.word ∙ ap (λ (z : RingStart). place_at z f.0.at) (sym start);
+    there = subst (λ (z : RingStart). f.0.at < z.places) (sym start) f.0.there;
+    known = let k = f.0.known in omega (arith, k, more);
+    small = f.0.small;
+    few = subst (λ o. position_of_reads o + 1 < 2 ^ 63) (sym reads) f.0.few;
+  },
+  f.1,
+)
+
+-- whatever it knows to be emitted beside its place
+pub placed_new : {T : Type 0} (place : Option Placed) (s : Seat Unit (List (RingKnown T))) (seen : ℕ) → HasPlaceOrNone place s seen → HasPlaceOrNone place s 0
+placed_new None s seen f = f
+placed_new (Some place) s seen f = (f.0, refl)
 
 abbrev Place : Type 0 → Type 0
 Place T = Seat Unit (List (RingKnown T))
@@ -95,7 +125,7 @@ module _ {T : Type 0} where
     -- where the subscriber then is
     pub reads_on : (ws : List (List ℕ)) → s.me ≡ (only s.me.0 ∷ [], []) → Receives packs value_of number p count ws s.me t.me
         → IsReading t number (max p (count - capacity_of (only s.me.0).start) + length ws) [] count
-    reads_on ws is r = ((still_one s.me t.me is r.one, r.hold), r.reads, r.stands, omega (arith, r.counted))
+    reads_on ws is r = ((still_one s.me t.me is r.one, r.hold), reads_as (only t.me.0).reads None number (max p (count - capacity_of (only s.me.0).start) + length ws) [] r.reads, r.stands, omega (arith, r.counted))
 
   module _ (packs : List ℕ → Type 0) (value_of : List ℕ → T) (first : SharedFlowState T) (number : ℕ) (table : TableId) where
     -- the subscription whose seat has this view

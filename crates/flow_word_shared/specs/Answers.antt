@@ -1,7 +1,7 @@
 -- What calls of a word flow answer that a shared flow behind a gate answers otherwise: no flow was made, and calls that try once.
 use Rattle.std.specs.Prelude.{◌≡◌, ◌≢◌, ℕ, min, List, ◌++◌, length, Some, None, Result, Ok, Err}
 use Rattle.flow_law.specs.declared.config.Config.{Config}
-use Rattle.flow_law.specs.declared.config.Overflow.TheVariants.{DropOldest}
+use Rattle.flow_law.specs.declared.config.Overflow.TheVariants.{Suspend, DropOldest}
 use Rattle.flow_law.specs.declared.fault.FlowFault.{FlowFault}
 use Rattle.flow_law.specs.declared.fault.FlowFault.TheVariants.{OutOfMemory, Busy}
 use Rattle.flow_law.specs.declared.call.SharedCall.TheVariants as call
@@ -34,6 +34,13 @@ abbrev pub NoWordFlow : Config → WordFlowFault → Type 0
 NoWordFlow config (Flow OutOfMemory) = (config_fault config ≡ None) × (config.overflow ≡ DropOldest)
 NoWordFlow config (Flow fault) = config_fault config ≡ Some fault
 NoWordFlow config (Strategy overflow) = (config_fault config ≡ None) × (overflow ≡ config.overflow) × (overflow ≢ DropOldest)
+
+-- Making a word flow for so many subscribers may fail so: by the fault that a shared flow of the configuration has; else because it
+-- suspends; else out of memory
+abbrev pub NoPlacedFlow : Config → WordFlowFault → Type 0
+NoPlacedFlow config (Flow OutOfMemory) = (config_fault config ≡ None) × (config.overflow ≢ Suspend)
+NoPlacedFlow config (Flow fault) = config_fault config ≡ Some fault
+NoPlacedFlow config (Strategy overflow) = (config_fault config ≡ None) × (overflow ≡ config.overflow) × (overflow ≡ Suspend)
 
 module _ {T : Type 0} where
   -- the same token, later: it has made no call, and may have seen more and lost attempts

@@ -1,6 +1,7 @@
 pub mod View
 pub mod Rule
 pub mod Steps
+pub mod PlaceSteps
 pub mod Tokens
 pub mod Answers
 pub mod Closing

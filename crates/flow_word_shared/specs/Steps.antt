@@ -22,7 +22,7 @@ use Rattle.flow_word_shared.specs.declared.view.Hold.{Hold}
 use Rattle.flow_word_shared.specs.declared.view.Reads.{Reads}
 use Rattle.flow_word_shared.specs.declared.view.RingStart.{RingStart}
 use Rattle.flow_word_shared.specs.Rule.{capacity_of, cell_at, HasValue}
-use Rattle.flow_word_shared.specs.View.{SharedKnowledge, began_as, ring_with_knows, with_hold, holding, reading, reading_part, only}
+use Rattle.flow_word_shared.specs.View.{SharedKnowledge, began_as, ring_with_knows, with_hold, holding, reading, reading_at, only}
 
 -- no call: the token may have seen more, all of it by others, and this many of its attempts failed
 pub record SeesMore {T : Type 0} (failed : ℕ) (before after : SharedKnowledge T) : Type 0 where
@@ -45,6 +45,10 @@ pub record Stands {T : Type 0} (number position : ℕ) (c : ℕ) (s : SharedFlow
 pub record IsAt {T : Type 0} (start : RingStart) (k : SharedKnowledge T) (number position : ℕ) : Type 0 where
   pub given : IsGiven shared_flow k.name (subscriber number) k.seen
   pub stands : Stands number position (capacity_of start) (shared_after_all (began_as start) k.seen)
+
+-- the flow has no subscriber of this number, and issues it no more
+abbrev pub IsGone : {T : Type 0} → ℕ → SharedFlowState T → Type 0
+IsGone number s = (position_of number s.subscribers ≡ None) × (number ≤ s.issued)
 
 -- the words of the value at this position begin so
 abbrev pub IsBegun : {T : Type 0} → (List ℕ → Type 0) → (List ℕ → T) → List T → ℕ → List ℕ → Type 0
@@ -142,7 +146,7 @@ module _ {T : Type 0} where
 
   -- a load of the reset mark, by the holder
   abbrev pub counts_mark : Step Unit → MeOf T → ℕ → MeOf T → Type 0
-  counts_mark step before found after = (h : Hold) → (only before.0).hold ≡ Some h → Holds before (Some (record h { mark = Some found })) after
+  counts_mark step before found after = (h : Hold) → (only before.0).hold ≡ Some h → Holds before (Some (record h { mark = Some found })) after × (found ≤ h.length)
 
   -- the same, if no number is left: a refused `subscribe`
   abbrev pub refuses_subscriber : Step Unit → MeOf T → ℕ → MeOf T → Type 0
@@ -183,6 +187,7 @@ module _ {T : Type 0} where
   -- a decrement of the number of subscribers: `unsubscribe` of the subscriber whose seat it is
   abbrev pub leaves : Step Unit → MeOf T → ℕ → MeOf T → Type 0
   leaves step before found after = (x : Reads) → (only before.0).reads ≡ Some x → StepCalls before (Unsubscribe x.number) (Tested true) after × ((only after.0).hold ≡ None)
+      × ((only after.0).reads ≡ Some x) × IsGone x.number (shared_after_all (began_as (only after.0).start) (only after.0).knows.seen)
 
   -- a load of word 0 by a subscriber that has read all it knows of: `next` finds nothing, or there is more
   abbrev pub looks : Step Unit → MeOf T → ℕ → MeOf T → Type 0
@@ -190,7 +195,7 @@ module _ {T : Type 0} where
       (found / 2 ≤ x.position → StepCalls before (TakeNext x.number) (Received Empty) after)
       × (x.position < found / 2 → StepSees 0 before after)
       × ((only after.0).hold ≡ None) × ((only after.0).reads ≡ Some x) × (found / 2 ≡ length (log_after (only after.0).start (only after.0).knows.seen))
-      × IsAt (only after.0).start (only after.0).knows x.number x.position
+      × IsAt (only after.0).start (only after.0).knows x.number x.position × (found / 2 < (only before.0).start.config.limit)
 
   -- a load by which each token of the view sees the whole history so far
   abbrev pub observes_all : Step Unit → MeOf T → ℕ → MeOf T → Type 0
@@ -215,7 +220,7 @@ module _ {T : Type 0} (packs : List ℕ → Type 0) (value_of : List ℕ → T) 
   -- a load of a cell by a subscriber, of the position after those whose cells it has read: not the last cell of that position
   abbrev pub reads_part : Step Unit → MeOf T → ℕ → MeOf T → Type 0
   reads_part step before found after = (x : Reads) → (only before.0).reads ≡ Some x →
-      StepSees 0 before after × ((only after.0).hold ≡ None) × ((only after.0).reads ≡ Some (reading_part x.number x.position x.words (x.part ++ found ∷ [])))
+      StepSees 0 before after × ((only after.0).hold ≡ None) × ((only after.0).reads ≡ Some (record x { part = x.part ++ found ∷ [] }))
       × IsAt (only after.0).start (only after.0).knows x.number x.position
       × AreFound packs value_of (capacity_of (only after.0).start) (log_after (only after.0).start (only after.0).knows.seen) x.position x.words
       × IsFoundPart packs value_of (capacity_of (only after.0).start) (log_after (only after.0).start (only after.0).knows.seen) (x.position + length x.words) (x.part ++ found ∷ [])
@@ -223,7 +228,7 @@ module _ {T : Type 0} (packs : List ℕ → Type 0) (value_of : List ℕ → T) 
   -- the same: the last cell of that position
   abbrev pub reads_cell : Step Unit → MeOf T → ℕ → MeOf T → Type 0
   reads_cell step before found after = (x : Reads) → (only before.0).reads ≡ Some x →
-      StepSees 0 before after × ((only after.0).hold ≡ None) × ((only after.0).reads ≡ Some (reading x.number x.position (x.words ++ (x.part ++ found ∷ []) ∷ [])))
+      StepSees 0 before after × ((only after.0).hold ≡ None) × ((only after.0).reads ≡ Some (reading_at x.post x.number x.position (x.words ++ (x.part ++ found ∷ []) ∷ [])))
       × IsAt (only after.0).start (only after.0).knows x.number x.position
       × AreFound packs value_of (capacity_of (only after.0).start) (log_after (only after.0).start (only after.0).knows.seen) x.position (x.words ++ (x.part ++ found ∷ []) ∷ [])
 

@@ -1,5 +1,5 @@
 -- What contracts see of the tokens of a word flow.
-use Rattle.std.specs.Prelude.{◌≡◌, ℕ, ◌≤◌, List, [], ◌∷◌, length, Some, None, Option}
+use Rattle.std.specs.Prelude.{◌≡◌, ℕ, ◌+◌, ◌<◌, ◌≤◌, ◌^◌, Bool, false, List, [], ◌∷◌, length, Some, None, Option}
 use Rattle.atomic_table.specs.Seated.{TableId}
 use Rattle.atomic_table.specs.declared.shared.Seat.{Seat}
 use Rattle.flow_law.specs.declared.history.Said.{Said}
@@ -10,10 +10,24 @@ use Rattle.flow_law.specs.history.Tokens as flows
 use Rattle.flow_law.specs.history.Promise.{Token}
 use Rattle.flow_law.specs.history.Tokens.{token}
 use Rattle.flow_word_shared.specs.declared.view.RingKnown.{RingKnown}
+use Rattle.flow_word_shared.specs.declared.place.Place.{Place}
+use Rattle.flow_word_shared.specs.declared.view.Post.{Post}
 use Rattle.flow_word_shared.specs.declared.view.Hold.{Hold}
+use Rattle.flow_word_shared.specs.declared.view.Reads.{Reads}
 use Rattle.flow_word_shared.specs.declared.view.RingStart.{RingStart}
-use Rattle.flow_word_shared.specs.View.{reading, only}
+use Rattle.flow_word_shared.specs.Rule.{place_at}
+use Rattle.flow_word_shared.specs.View.{reading_at, only}
 use Rattle.flow_word_shared.specs.Steps.{IsAt, log_after}
+
+-- the place of a subscriber, if it has one
+abbrev pub post_of_reads : Option Reads → Option Post
+post_of_reads None = None
+post_of_reads (Some x) = x.post
+
+-- the position of a subscriber, if it is one
+abbrev pub position_of_reads : Option Reads → ℕ
+position_of_reads None = 0
+position_of_reads (Some x) = x.position
 
 -- which flow: its table, and how it began
 pub record WordFlowId : Type 0 where
@@ -48,11 +62,34 @@ module _ {T : Type 0} where
   abbrev pub IsFilling : Seat Unit (List (RingKnown T)) → ℕ → Type 0
   IsFilling s count = (h : Hold) × IsHolding (Some h) s × (h.length ≡ count) × (h.cells ≡ [])
 
+  -- the place of the subscriber whose seat it is, if it has one
+  abbrev pub post_of : Seat Unit (List (RingKnown T)) → Option Post
+  post_of s = post_of_reads (only s.me.0).reads
+
   -- the seat has one token, of a subscriber that reads next at this position; it found these words, and knows of this many emitted values
   abbrev pub IsReading : Seat Unit (List (RingKnown T)) → ℕ → ℕ → List (List ℕ) → ℕ → Type 0
   IsReading s number position words seen =
-      IsHolding None s × ((only s.me.0).reads ≡ Some (reading number position words)) × IsAt (only s.me.0).start (only s.me.0).knows number position
+      IsHolding None s × ((only s.me.0).reads ≡ Some (reading_at (post_of s) number position words)) × IsAt (only s.me.0).start (only s.me.0).knows number position
       × (seen ≤ length (log_after (only s.me.0).start (only s.me.0).knows.seen))
+
+  -- the subscriber whose seat it is has this place, and comes or leaves or does not
+  pub record HasPlace (moves : Bool) (s : Seat Unit (List (RingKnown T))) (place : Place) : Type 0 where
+    pub at : ℕ
+    pub post : post_of s ≡ Some (record { place = at; moves = moves })
+    pub word : place.word ≡ place_at (only s.me.0).start at
+    pub there : at < (only s.me.0).start.places
+    pub known : place.known ≤ length (log_after (only s.me.0).start (only s.me.0).knows.seen)
+    pub small : place.known + 1 < 2 ^ 63
+    pub few : position_of_reads (only s.me.0).reads + 1 < 2 ^ 63
+
+  -- the subscriber has this place; or none, in a flow without places
+  abbrev pub HasPlaceOrNone : Option Place → Seat Unit (List (RingKnown T)) → ℕ → Type 0
+  HasPlaceOrNone None s seen = (only s.me.0).start.places ≡ 0
+  HasPlaceOrNone (Some place) s seen = HasPlace false s place × (seen ≡ 0)
+
+  -- the seat has one token, of a subscriber that reads next at this position, with its place if it has one
+  abbrev pub IsSubscriberAt : Option Place → Seat Unit (List (RingKnown T)) → ℕ → ℕ → ℕ → Type 0
+  IsSubscriberAt place s number position seen = IsReading s number position [] seen × HasPlaceOrNone place s seen
 
   -- the seat has one token, which holds the lock bit, and has seen all of this many emitted values
   abbrev pub HoldsAll : Seat Unit (List (RingKnown T)) → ℕ → Type 0

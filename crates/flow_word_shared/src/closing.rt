@@ -36,7 +36,7 @@ impl<T: Words> Model for ClosedWordFlow<T> {
 
     ghost invariant = { λ c.
         (slots_len c.closed.slots ≡ 0) × IsFull c.closed.words
-        × (slots_len c.closed.words ≡ 4 + c.room * T.WIDTH) × (4 + c.room * T.WIDTH < 2 ^ 63)
+        × (4 + c.room * T.WIDTH ≤ slots_len c.closed.words) × (4 + c.room * T.WIDTH < 2 ^ 63)
         × (0 < c.room)
         × (c.first ≤ c.emitted)
         × ((k : ℕ) → c.first ≤ k → k < c.emitted
@@ -91,6 +91,8 @@ impl<T: Words> WordFlow<T> {
             capacity: _,
             replay,
             limit: _,
+            places: _,
+            low: _,
             readers: _,
         } = self;
         let closed = table.close_with(seat.into_inner());

@@ -52,10 +52,12 @@ impl<T: Words> WordFlow<T> {
         values: &mut Vec<T, B>,
     ) -> (usize, u64)
         requires flow { (ring_token seat.old).table_id ≡ self.now.table_id }
+        requires places { self.now.table_id.start.places ≡ 0 }
         requires reading { IsReading seat.old number position [] seen }
         requires there { position + count ≤ seen }
         requires fits { (seen < 2 ^ 63) × (count * T.WIDTH ≤ 64) }
         requires room { vec_len values.old + count ≤ vec_capacity values.old }
+        ensures flow { (ring_token seat.new).table_id ≡ (ring_token seat.old).table_id }
         ensures count { (result.0 ≤ count) × (result.1 < 2 ^ 63) }
         ensures within { result.0 ≢ 0 →
             max position (result.1 - capacity_of self.now.table_id.start) + result.0 ≤ position + count }
@@ -110,8 +112,19 @@ impl<T: Words> WordFlow<T> {
             number,
             position,
             seen,
+            place,
             has_left_waker: _,
         } = subscription;
+        if let Some(place) = place {
+            return match self.next_at(seat, *number, position, place) {
+                Next::Value(value) => {
+                    values.push_reserved(value);
+                    Some(1)
+                }
+                Next::Empty => Some(0),
+                Next::Gone => unreachable!(),
+            };
+        }
         *seen = self.look(seat, *number, *position, *seen);
         if *seen <= *position {
             return Some(0);

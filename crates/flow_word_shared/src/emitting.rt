@@ -1,5 +1,5 @@
 //! Emitting.
-ghost use Rattle.std.specs.Prelude.{◌≡◌, take, length, IfErr, Ok, true, false};
+ghost use Rattle.std.specs.Prelude.{◌≡◌, ◌<◌, take, length, IfErr, Ok, true, false};
 ghost use Rattle.flow_law.specs.declared.fault.FlowFault.TheVariants.{Exhausted};
 ghost use Rattle.flow_law.specs.declared.call.SharedCall.TheVariants as call;
 ghost use Rattle.flow_law.specs.declared.call.SharedReply.TheVariants as reply;
@@ -32,7 +32,12 @@ fn kept<T: Words>(words: &[u64; 4]) -> &[u64]
 impl<T: Words> WordFlow<T> {
     /// Stores the words of a value into the free cells, for a caller that holds the lock bit.
     #[inline(always)]
-    fn fill(&self, seat: &mut Seat<(), Sequence<RingKnown<T>>>, position: u64, words: &[u64])
+    pub(crate) fn fill(
+        &self,
+        seat: &mut Seat<(), Sequence<RingKnown<T>>>,
+        position: u64,
+        words: &[u64],
+    )
         requires flow { (ring_token seat.old).table_id ≡ self.now.table_id }
         requires width { length words.now ≡ T.WIDTH }
         requires holds { IsFilling seat.old position }
@@ -48,8 +53,8 @@ impl<T: Words> WordFlow<T> {
         }
     }
 
-    /// Tries once to emit, by `try_emit` or by `emit`, and returns whether a number was left for the value. The error
-    /// says that another emitter was faster, and whether it holds the lock bit.
+    /// Tries once to emit into a flow without places, by `try_emit` or by `emit`, and returns whether a number was left for
+    /// the value. The error says that another emitter was faster, and whether it holds the lock bit.
     #[inline(always)]
     fn emit_once<const TRIES: bool>(
         &self,
@@ -57,6 +62,7 @@ impl<T: Words> WordFlow<T> {
         words: &[u64],
     ) -> Result<bool, bool>
         requires flow { seat.old.table_id ≡ self.now.table_id }
+        requires places { self.now.table_id.start.places ≡ 0 }
         requires words { T.are_words words.now }
         requires width { length words.now ≡ T.WIDTH }
         ensures emitted { result ≡ Ok true → CallsAtOnceIn shared_flow self.now.first seat.old
@@ -87,6 +93,28 @@ impl<T: Words> WordFlow<T> {
         Ok(true)
     }
 
+    /// Tries once to emit, in the way of the flow's strategy.
+    #[inline(always)]
+    fn try_emission<const TRIES: bool>(
+        &self,
+        seat: &mut WordFlowSeat<T>,
+        words: &[u64],
+    ) -> Result<bool, bool>
+        requires flow { seat.old.table_id ≡ self.now.table_id }
+        requires words { T.are_words words.now }
+        requires width { length words.now ≡ T.WIDTH }
+        ensures emitted { result ≡ Ok true → CallsAtOnceIn shared_flow self.now.first seat.old
+            (emission_of TRIES (T.value_in words.now)) (emission_done TRIES) seat.new }
+        ensures refused { result ≡ Ok false → CallsAtOnceIn shared_flow self.now.first seat.old
+            (emission_of TRIES (T.value_in words.now)) (reply.Refused Exhausted) seat.new }
+        ensures lost { IfErr result (λ _. IsBusy seat.old seat.new) }
+    {
+        if self.places > 0 {
+            return self.emit_checked::<TRIES>(seat, words);
+        }
+        self.emit_once::<TRIES>(seat, words)
+    }
+
     /// Emits by `try_emit` or by `emit`. While another emitter holds the lock bit, the thread yields. Returns whether a
     /// number was left.
     #[inline(always)]
@@ -105,7 +133,7 @@ impl<T: Words> WordFlow<T> {
             (emission_of TRIES (T.value_in words.now)) (reply.Refused Exhausted) seat.new }
     {
         for _ in rt.forever() {
-            match self.emit_once::<TRIES>(seat, words) {
+            match self.try_emission::<TRIES>(seat, words) {
                 Ok(emitted) => return emitted,
                 Err(is_locked) => {
                     if is_locked {
@@ -117,7 +145,8 @@ impl<T: Words> WordFlow<T> {
         unreachable!()
     }
 
-    /// Emits a value, and wakes the readers that sleep. Subscribers that are a full buffer behind miss the oldest value of the buffer.
+    /// Emits a value, and wakes the readers that sleep. If a subscriber is a full buffer behind, it misses the oldest value
+    /// of the buffer under `DropOldest`; under `DropLatest` the emitted value is dropped.
     ///
     /// No subscriber is waited for. Emitters, `subscribe`, `replay_cache` and `reset_replay_cache` wait for each other.
     ///
@@ -188,7 +217,7 @@ impl<T: Words> WordFlow<T> {
         self.look_up(seat);
         let all = value.words();
         let words = kept::<T>(&all);
-        let fault = match self.emit_once::<false>(seat, words) {
+        let fault = match self.try_emission::<false>(seat, words) {
             Ok(true) => return Ok(()),
             Ok(false) => FlowFault::Exhausted,
             Err(_is_locked) => FlowFault::Busy,

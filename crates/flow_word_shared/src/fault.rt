@@ -12,6 +12,6 @@ pub enum WordFlowFault {
     #[error("{0}")]
     Flow(FlowFault),
     /// A flow of words has no such strategy.
-    #[error("a flow of words drops the oldest value")]
+    #[error("a flow of words drops the oldest value, or the latest if it is made for so many subscribers")]
     Strategy(Overflow),
 }

@@ -1,15 +1,21 @@
 //! A shared flow that is read without a lock, for values of one to four words.
 //!
-//! A `WordFlow` is a `MutableSharedFlow` of kotlinx.coroutines with `DROP_OLDEST`: a ring of words, and the number of values
-//! ever emitted. A subscriber keeps its own position. It loads the cells of that position, one for each word of a value, and
-//! then the number of emitted values: if the buffer still has the position, the words in these cells are its value.
+//! A `WordFlow` is a `MutableSharedFlow` of kotlinx.coroutines with `DROP_OLDEST` or `DROP_LATEST`: a ring of words, and the
+//! number of values ever emitted. A subscriber keeps its own position. Under `DROP_OLDEST` it loads the cells of that
+//! position, one for each word of a value, and then the number of emitted values: if the buffer still has the position,
+//! the words in these cells are its value.
+//!
+//! # Places
+//! Under `DROP_LATEST` each subscriber has a place, into which it stores its position after it has loaded the cells of a
+//! value: until then no emitter overwrites them. An emitter drops its value if a place shows a position that is a full
+//! buffer behind. It looks at the places only if a lower bound of the positions does not say that there is room.
 //!
 //! # The lock bit
 //! Emitters, `subscribe`, `replay_cache` and `reset_replay_cache` take one bit for a few steps, and wait for each other.
 //! Subscribers never wait for it, nor do `unsubscribe` and `subscription_count`.
 //!
 //! # Overrun subscribers
-//! A subscriber that is a full buffer behind may be overrun between its loads. It then reads more values before it loads
+//! Under `DROP_OLDEST` a subscriber that is a full buffer behind may be overrun between its loads. It then reads more values before it loads
 //! the number again: twice as many at each try, up to 64 words. A try fails only if emitters have overwritten all values
 //! that it read.
 //!
@@ -31,8 +37,9 @@
 //! whose name ends in `_now`, or of a handle begins with `try_` (except `try_emit`), tries once, and may return `Busy`.
 //!
 //! # Dropping
-//! A dropped seat makes no more calls. A dropped subscription stays in the flow, and still counts. Dropping a reader, or
-//! a stream or a future of one, ends its subscription.
+//! A dropped seat makes no more calls. A dropped subscription stays in the flow, and still counts: under `DROP_LATEST` it
+//! keeps its place, and emitters drop all values once it is a full buffer behind. Dropping a reader, or a stream or a
+//! future of one, ends its subscription.
 #![tactic(auto)]
 
 mod cache;
@@ -43,6 +50,8 @@ mod fault;
 mod handles;
 mod making;
 mod meeting;
+mod place;
+mod places;
 mod plays;
 mod reading;
 mod receive_future;
@@ -60,4 +69,4 @@ pub use receive_future::WordReceiveFuture;
 pub use rule::WordFlowRule;
 pub use token::{WordFlow, WordFlowSeat, WordFlowSubscription};
 pub use values::WordFlowValues;
-pub use view::{Hold, Reads, RingKnown, RingStart};
+pub use view::{Hold, Post, Reads, RingKnown, RingStart, Taken};

@@ -1,7 +1,8 @@
 //! What each step on a word proves. Nothing here runs.
 ghost use Rattle.std.specs.Prelude.{[], ◌++◌, map, take};
-ghost use Rattle.flow_law.specs.history.Growth.{makes, child};
-ghost use Rattle.flow_word_shared.specs.View.{ring_with_knows, first_of_two, rest_of_two};
+ghost use Rattle.flow_law.specs.history.Growth.{makes};
+ghost use Rattle.flow_word_shared.specs.PlaceSteps.{looks_low, sets_low, checks, gives_up, takes_place, refuses_place, enrolls_at, flags, advances, frees};
+ghost use Rattle.flow_word_shared.specs.View.{ring_with_knows, child_seat, first_of_two, rest_of_two, hands_over, handed_over};
 ghost use Rattle.flow_word_shared.specs.Steps.{takes, counts_issued, fills, refuses, releases, publishes, counts_mark, refuses_subscriber, runs_ahead, enrolls, resets, counts_live, leaves, looks, reads_part, reads_cell, confirms, caches, refuses_cache, reads_held, observes_all, looks_back};
 
 use crate::view::RingKnown;
@@ -91,7 +92,7 @@ pub(crate) struct Make;
 impl<T> Split<Sequence<RingKnown<T>>> for Make {
     ghost left = { map (ring_with_knows makes) };
 
-    ghost right = { map (ring_with_knows child) };
+    ghost right = { map child_seat };
 }
 
 /// A load of the reset mark, by the holder.
@@ -203,4 +204,84 @@ impl<T> Split<Sequence<RingKnown<T>>> for Part {
     ghost left = { first_of_two };
 
     ghost right = { rest_of_two };
+}
+
+/// A load of the lower bound of the positions in places, by the holder.
+pub(crate) struct LookLow;
+
+impl<T> Play<(), Sequence<RingKnown<T>>> for LookLow {
+    ghost then = { looks_low };
+}
+
+/// A store of that lower bound, by the holder.
+pub(crate) struct SetLow;
+
+impl<T> Play<(), Sequence<RingKnown<T>>> for SetLow {
+    ghost then = { sets_low };
+}
+
+/// A load of a place by the holder that has filled the free cells: if its subscriber is a full buffer behind, an emission
+/// whose value is dropped, a `try_emit` or an `emit`.
+pub(crate) struct CheckPlace<const TRIES: bool>;
+
+impl<T: Words, const TRIES: bool> Play<(), Sequence<RingKnown<T>>> for CheckPlace<TRIES> {
+    ghost then = { checks T.value_in TRIES };
+}
+
+/// A store of word 0 by the holder, whose attempt failed.
+pub(crate) struct GiveUp;
+
+impl<T> Play<(), Sequence<RingKnown<T>>> for GiveUp {
+    ghost then = { gives_up };
+}
+
+/// An exchange of a free place by the holder, for a new subscriber.
+pub(crate) struct TakePlace;
+
+impl<T> Play<(), Sequence<RingKnown<T>>> for TakePlace {
+    ghost then = { takes_place };
+}
+
+/// A load of the reset mark by the holder, if no place is free: a refused `subscribe`.
+pub(crate) struct RefusePlace;
+
+impl<T> Play<(), Sequence<RingKnown<T>>> for RefusePlace {
+    ghost then = { refuses_place };
+}
+
+/// An increment of the number of subscribers by the holder, for the subscriber whose place it has taken.
+pub(crate) struct EnrollAt;
+
+impl<T> Play<(), Sequence<RingKnown<T>>> for EnrollAt {
+    ghost then = { enrolls_at };
+}
+
+/// Making the token of a new subscriber that has a place, through the holder.
+pub(crate) struct HandOver;
+
+impl<T> Split<Sequence<RingKnown<T>>> for HandOver {
+    ghost left = { map hands_over };
+
+    ghost right = { map handed_over };
+}
+
+/// A store of a subscriber's own place, which says that it comes or leaves, or that it does not.
+pub(crate) struct Flag<const MOVES: bool>;
+
+impl<T, const MOVES: bool> Play<(), Sequence<RingKnown<T>>> for Flag<MOVES> {
+    ghost then = { flags MOVES };
+}
+
+/// A store of a subscriber's own place, after it has read the cells of a value: one `next`.
+pub(crate) struct Advance;
+
+impl<T: Words> Play<(), Sequence<RingKnown<T>>> for Advance {
+    ghost then = { advances T.are_words T.value_in };
+}
+
+/// A store that frees the place of a subscriber that has left.
+pub(crate) struct FreePlace;
+
+impl<T> Play<(), Sequence<RingKnown<T>>> for FreePlace {
+    ghost then = { frees };
 }

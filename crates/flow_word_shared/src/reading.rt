@@ -10,7 +10,7 @@ ghost use Rattle.flow_law.specs.history.Promise.{CallsAtOnceIn};
 ghost use Rattle.flow_word_shared.specs.Answers.{IsOverrun};
 ghost use Rattle.flow_word_shared.specs.Rule.{capacity_of};
 ghost use Rattle.flow_word_shared.specs.Steps.{SeesMore, AreFound, log_after, values_of};
-ghost use Rattle.flow_word_shared.specs.Tokens.{ring_token, IsReading};
+ghost use Rattle.flow_word_shared.specs.Tokens.{ring_token, post_of, IsReading};
 
 use crate::plays::{Confirm, Look, ReadCell, ReadPart};
 use crate::token::{HEAD, WordFlow};
@@ -44,6 +44,8 @@ impl<T: Words> WordFlow<T> {
         requires small { seen < 2 ^ 63 }
         ensures reading { IsReading seat.new number position [] result }
         ensures small { result < 2 ^ 63 }
+        ensures few { seen + 1 < 2 ^ 63 → result + 1 < 2 ^ 63 }
+        ensures post { post_of seat.new ≡ post_of seat.old }
         ensures empty { result ≤ position → CallsAtOnceIn shared_flow self.now.first (ring_token seat.old)
             (call.TakeNext number) (reply.Received Empty) (ring_token seat.new) }
         ensures more { position < result → ((ring_token seat.new).table_id ≡ (ring_token seat.old).table_id)
@@ -58,7 +60,7 @@ impl<T: Words> WordFlow<T> {
     /// Loads the cells of one position, which is this far ahead of the subscriber's. Appends their words to those of the
     /// positions before it.
     #[inline(always)]
-    fn read_value<const N: usize>(
+    pub(crate) fn read_value<const N: usize>(
         &self,
         seat: &mut Seat<(), Sequence<RingKnown<T>>>,
         number: u64,
@@ -76,6 +78,7 @@ impl<T: Words> WordFlow<T> {
             (log_after self.now.table_id.start (ring_token seat.old).knows.seen) position
             (values_of T.WIDTH ahead words.old.items) }
         ensures count { array_vec_len words.new ≡ (ahead + 1) * T.WIDTH }
+        ensures post { post_of seat.new ≡ post_of seat.old }
         ensures reading { IsReading seat.new number position
             (values_of T.WIDTH (ahead + 1) words.new.items) seen }
         ensures found { AreFound T.are_words T.value_in (capacity_of self.now.table_id.start)
@@ -107,6 +110,7 @@ impl<T: Words> WordFlow<T> {
         seen: u64,
     ) -> (Pack, u64)
         requires flow { (ring_token seat.old).table_id ≡ self.now.table_id }
+        requires places { self.now.table_id.start.places ≡ 0 }
         requires reading { IsReading seat.old number position [] seen }
         requires there { (position < seen) × (seen < 2 ^ 63) }
         ensures small { result.1 < 2 ^ 63 }
@@ -164,6 +168,7 @@ impl<T: Words> WordFlow<T> {
         count: usize,
     ) -> Result<(T, u64), u64>
         requires flow { (ring_token seat.old).table_id ≡ self.now.table_id }
+        requires places { self.now.table_id.start.places ≡ 0 }
         requires reading { IsReading seat.old number position [] seen }
         requires there { position + count ≤ seen }
         requires fits { (seen < 2 ^ 63) × (count * T.WIDTH ≤ 64) }

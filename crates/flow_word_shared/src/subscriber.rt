@@ -30,8 +30,14 @@ impl<T: Words> WordFlow<T> {
             number,
             position,
             seen,
+            place,
             has_left_waker: _,
         } = subscription;
+        if *seen <= *position {
+            if let Some(place) = place {
+                return Some(self.next_at(seat, *number, position, place));
+            }
+        }
         *seen = self.look(seat, *number, *position, *seen);
         if *seen <= *position {
             return Some(Next::Empty);
@@ -67,8 +73,12 @@ impl<T: Words> WordFlow<T> {
             number,
             position,
             seen,
+            place,
             has_left_waker: _,
         } = subscription;
+        if let Some(place) = place {
+            return Some(self.next_at(seat, *number, position, place));
+        }
         *seen = self.look(seat, *number, *position, *seen);
         if *seen <= *position {
             return Some(Next::Empty);

@@ -1,7 +1,7 @@
 //! The tokens of a shared flow that is read without a lock, which are its handles.
 
 use crate::call::Call;
-use crate::refused::{Outcome, answered, exhausted};
+use crate::refused::{Outcome, answered, exhausted, number_refused};
 use crate::shared_tokens::received;
 use crate::token::{Host, MakesTokens, Reply, Token, gone, left, not_asked};
 use flow_law::OutOfMemory;
@@ -68,7 +68,7 @@ impl<'a> Token for WordFlowSubscriber<'a> {
                     WordFlowSubscriber::Subscribed(reader),
                     answered(Answer::Subscribed),
                 ),
-                Err(error) => gone(exhausted(error)),
+                Err(error) => gone(number_refused(error)),
             },
             WordFlowSubscriber::Subscribed(mut reader) => match call {
                 Call::Step(FlowStep::Next(_)) => {

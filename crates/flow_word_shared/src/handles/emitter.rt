@@ -2,9 +2,11 @@
 ghost use Rattle.std.specs.Prelude.{◌≡◌, ℕ, [], IfErr};
 ghost use Rattle.flow_law.specs.declared.call.SharedCall.TheVariants as call;
 ghost use Rattle.flow_law.specs.declared.call.SharedReply.TheVariants as reply;
+ghost use Rattle.flow_law.specs.declared.config.Overflow.TheVariants.{DropOldest};
+ghost use Rattle.flow_law.specs.declared.errors.NumberError.TheVariants as number;
 ghost use Rattle.flow_law.specs.declared.outcome.Emit.TheVariants.{Done};
 ghost use Rattle.flow_law.specs.history.Growth.{makes, child};
-ghost use Rattle.flow_law.specs.history.HandleFaults.{answer_by, handed_by, busy_fault, limit_fault, memory_fault};
+ghost use Rattle.flow_law.specs.history.HandleFaults.{answer_by, handed_by, busy_fault, limit_fault, number_fault, memory_fault};
 ghost use Rattle.flow_law.specs.history.Handles.{called_by, SubscribesBound};
 ghost use Rattle.flow_law.specs.history.History.{IsHistory, replied, fault_alone};
 ghost use Rattle.flow_law.specs.laws.Lagging.{EachLags};
@@ -19,7 +21,7 @@ ghost use Rattle.flow_word_shared.specs.Answers.{WordEmitsNow, WordResetsNow};
 
 use super::reader::WordFlowReader;
 use crate::token::{WordFlow, WordFlowSeat};
-use flow_law::{Busy, Exhausted, OutOfMemory, Refused, Rejected, Words};
+use flow_law::{Busy, Exhausted, FlowFault, NumberError, OutOfMemory, Refused, Rejected, Words};
 use std::alloc::Global;
 use std::marker::Model;
 use std::sync::Wait;
@@ -83,20 +85,24 @@ impl<'a, T: Words> WordEmitter<'a, T> {
     /// Subscribes. The reader receives the replay cache first.
     ///
     /// # Errors
-    /// `Exhausted` if the flow has issued as many numbers as its limit allows.
-    pub fn subscribe<R: Wait>(&mut self, rt: &R) -> Result<WordFlowReader<'a, T>, Exhausted>
+    /// `Exhausted` if the flow has issued as many numbers as its limit allows. Under `DropLatest` `OutOfMemory` if no place
+    /// is free.
+    pub fn subscribe<R: Wait>(&mut self, rt: &R) -> Result<WordFlowReader<'a, T>, NumberError>
         ensures flow { self.new.flow ≡ self.old.flow }
         ensures subscribed { SubscribesBound shared_flow (λ name. call.Subscribe name []) self.old
-            (answer_by limit_fault result) self.new.token }
+            (answer_by number_fault result) self.new.token }
+        ensures exhausted { self.old.flow.first.config.overflow ≡ DropOldest →
+            IfErr result (λ error. error ≡ number.Exhausted) }
     {
         match self.flow.subscribe(rt, &mut self.seat) {
             Ok(subscription) => Ok(WordFlowReader::new(self.flow, subscription)),
-            Err(_fault) => Err(Exhausted),
+            Err(FlowFault::OutOfMemory) => Err(NumberError::OutOfMemory),
+            Err(_exhausted) => Err(NumberError::Exhausted),
         }
     }
 
-    /// Emits a value, and wakes the readers that sleep. Readers that are a full buffer behind miss the oldest value of the
-    /// buffer: no reader is waited for.
+    /// Emits a value, and wakes the readers that sleep: no reader is waited for. If a reader is a full buffer behind, it
+    /// misses the oldest value of the buffer under `DropOldest`; under `DropLatest` the emitted value is dropped.
     ///
     /// # Errors
     /// `Exhausted` if the flow has issued as many numbers as its limit allows. The error returns the value.

@@ -6,6 +6,7 @@ use Rattle.std.specs.Mem.Slots.{slots_items}
 use Rattle.flow_word_shared.specs.Rule.{words_from}
 use Rattle.flow_word_shared.proofs.Cells.{before}
 use Rattle.flow_word_shared.proofs.LastState.{cell_is, length_cells, taken_more}
+use Rattle.flow_word_shared.proofs.Masks.{cells_in}
 use Rattle.flow_word_shared.proofs.closing.ClosedWordFlow.copy_cache.Goals as goal
 use Rattle.flow_word_shared.proofs.closing.ClosedWordFlow.copy_cache.Goals.{At-loop-i}
 
@@ -18,7 +19,7 @@ value_at-requires-clause-full g c = c.self.invariant.1
 
 pub value_at-requires-clause-there : goal.value_at-requires-clause-there
 value_at-requires-clause-there g c =
-    let some = c.self.invariant.4 in let words = c.self.invariant.2 ∙ ap (λ w. 4 + c.self.inside.room * w) (sym c.WIDTH-width.ensures) in let k = c.self.inside.first + c.loop-i.i in
+    let some = c.self.invariant.4 in let words = cells_in _ c.self.inside.room g.T.Words.WIDTH c.WIDTH-width.result c.self.invariant.2 c.WIDTH-width.ensures in let k = c.self.inside.first + c.loop-i.i in
     let l = mod-lt k {m = c.self.inside.room} (omega arith) in let far = before c.WIDTH-width.result (k % c.self.inside.room) c.self.inside.room l in omega (arith, far, words, c.WIDTH-width.ensures)
 
 pub value_at-requires-clause-words : goal.value_at-requires-clause-words

@@ -1,4 +1,4 @@
-use Rattle.std.proofs.Common.{◌≡◌, ℕ, ◌+◌, ◌-◌, ◌*◌, ◌/◌, ◌%◌, refl, ap, sym, subst, ◌∙◌, arith}
+use Rattle.std.proofs.Common.{◌≡◌, ℕ, ◌+◌, ◌-◌, ◌*◌, ◌/◌, ◌%◌, ◌≤◌, refl, ap, sym, subst, ◌∙◌, arith}
 use Rattle.std.specs.Prelude.{max}
 use Rattle.std.specs.Mem.Slots.{slots_items}
 use Rattle.flow_law.specs.declared.states.SharedFlowState.{SharedFlowState}
@@ -37,7 +37,7 @@ invariant_of-result g c =
     let e = ended g (goal.at.invariant_of-result g c).After-max-first in let counts = c.close_with-closed.ensures.counts in let less = c.self.invariant.7 in (
       counts.1 ∙ c.self.invariant.10,
       c.close_with-closed.ensures.values.0,
-      counts.0 ∙ c.self.invariant.0,
+      subst (λ n. 4 + c.self.inside.room * g.T.Words.WIDTH ≤ n) (sym counts.0) c.self.invariant.0,
       c.self.invariant.6,
       omega arith,
       e.within,

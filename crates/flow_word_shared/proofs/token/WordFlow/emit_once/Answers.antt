@@ -1,4 +1,4 @@
-use Rattle.std.proofs.Common.{rules, ◌≡◌, ℕ, ◌+◌, ◌/◌, List, [], ◌∷◌, Some, None, refl, sym, ap, subst, ◌∙◌, arith}
+use Rattle.std.proofs.Common.{rules, ◌≡◌, ℕ, ◌+◌, ◌/◌, List, [], ◌∷◌, Some, None, refl, sym, ap, subst, ◌∙◌, inl, arith}
 use Rattle.flow_law.specs.declared.call.SharedCall.{SharedCall}
 use Rattle.flow_law.specs.declared.call.SharedReply.{SharedReply}
 use Rattle.flow_law.specs.declared.states.SharedFlowState.{SharedFlowState}
@@ -55,8 +55,12 @@ filled_is g c =
 
 pub load-requires : goal.load-requires
 load-requires g c =
-    let n = c.seat.inside.expected / 2 in let made = c.load-made.result in let filled = filled_is g (goal.at.load-requires g c).After-fill in let full = c.if-made-length.true in let limit = c.self.invariant.5 in
-    (search rules, search rules, refusing _ _ _ _ _ _ _ _ (holds n made c.args.words.now) (made + n) (subst (λ m. m.0 ≡ only m.0 ∷ []) (sym filled) refl) (ap (λ m. (only m.0).hold) filled) refl (omega arith))
+    let n = c.seat.inside.expected / 2 in let made = c.load-made.result in let filled = filled_is g (goal.at.load-requires g c).After-fill in let full = c.if-made-length.true in let limit = c.self.invariant.5 in (
+      search rules,
+      search rules,
+      refusing _ _ _ _ _ _ _ _ (holds n made c.args.words.now) (made + n) (subst (λ m. m.0 ≡ only m.0 ∷ []) (sym filled) refl) (ap (λ m. (only m.0).hold) filled) refl (omega arith)
+          (inl (ap (λ z. z.table_id.start.places) c.self.view_is ∙ c.requires.places)),
+    )
 
 pub store-requires : goal.store-requires
 store-requires g c =
@@ -65,8 +69,12 @@ store-requires g c =
 
 pub store-requires-2 : goal.store-requires-2
 store-requires-2 g c =
-    let n = c.seat.inside.expected / 2 in let made = c.load-made.result in let filled = filled_is g (goal.at.store-requires-2 g c).After-fill in let less = c.if-made-length.false in let limit = c.self.invariant.5 in let even = c.seat.invariant.1 in
-    (search rules, search rules, publishing _ _ _ _ _ _ _ _ (holds n made c.args.words.now) (made + n) _ (subst (λ m. m.0 ≡ only m.0 ∷ []) (sym filled) refl) (ap (λ m. (only m.0).hold) filled) refl refl (omega arith) c.requires.words (c.requires.width ∙ sym c.self.invariant.11) (omega arith))
+    let n = c.seat.inside.expected / 2 in let made = c.load-made.result in let filled = filled_is g (goal.at.store-requires-2 g c).After-fill in let less = c.if-made-length.false in let limit = c.self.invariant.5 in let even = c.seat.invariant.1 in (
+      search rules,
+      search rules,
+      publishing _ _ _ _ _ _ _ _ (holds n made c.args.words.now) (made + n) _ (subst (λ m. m.0 ≡ only m.0 ∷ []) (sym filled) refl) (ap (λ m. (only m.0).hold) filled) refl refl (omega arith) c.requires.words (c.requires.width ∙ sym c.self.invariant.11) (omega arith)
+          (inl (ap (λ z. z.table_id.start.places) c.self.view_is ∙ c.requires.places)),
+    )
 
 -- the seat has made no call before it emits
 before_is : (g : _) (c : After-fill g) → ring_token c.fill.new.seat ≡ c.args.seat.now

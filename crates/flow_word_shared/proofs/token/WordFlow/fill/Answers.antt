@@ -1,4 +1,4 @@
-use Rattle.std.proofs.Common.{◌≡◌, ◌+◌, ◌*◌, [], ◌∷◌, length, Some, sym, ap, subst, ◌∙◌, refl, arith}
+use Rattle.std.proofs.Common.{◌≡◌, ◌+◌, [], ◌∷◌, length, Some, sym, ap, subst, ◌∙◌, refl, arith}
 use Rattle.std.specs.Prelude.{take}
 use Rattle.std.proofs.lemmas.List.{take_more, take_all}
 use Rattle.flow_word_shared.specs.declared.view.Hold.{Hold}
@@ -8,7 +8,7 @@ use Rattle.flow_word_shared.specs.View.{with_hold, only}
 use Rattle.flow_word_shared.proofs.Cells.{length_took}
 use Rattle.flow_word_shared.proofs.EmitSteps.{filling}
 use Rattle.flow_word_shared.proofs.Keeps.{same_some}
-use Rattle.flow_word_shared.proofs.Masks.{cells_fit, cell_is}
+use Rattle.flow_word_shared.proofs.Masks.{cells_fit, cells_in, cell_is}
 use Rattle.flow_word_shared.proofs.token.WordFlow.fill.Goals as goal
 use Rattle.flow_word_shared.proofs.token.WordFlow.fill.Goals.{At-loop-place}
 
@@ -35,7 +35,7 @@ store-requires g c =
     let d = (goal.at.store-requires g c).At-loop-place in let inv = c.loop-place.invariant in let h = c.requires.holds.0 in let place = c.loop-place.place in let words = c.args.words.now in let less = c.loop-place-test.true in
     let is = filled g d in let key = c.self.inside.table.shared.key in let wide = c.WIDTH-width.ensures in
     let took : length (take place words) ≡ place = length_took place words (omega (arith, less)) in
-    let fit = cells_fit c.args.position c.self.inside.mask c.self.inside.room c.WIDTH-width.result c.self.invariant.8 c.self.invariant.9 in let count = c.self.invariant.0 ∙ ap (λ w. 4 + c.self.inside.room * w) (sym wide) in
+    let fit = cells_fit c.args.position c.self.inside.mask c.self.inside.room c.WIDTH-width.result c.self.invariant.8 c.self.invariant.9 in let count = cells_in _ c.self.inside.room g.T.Words.WIDTH c.WIDTH-width.result c.self.invariant.0 wide in
     let at = cell_is key c.args.position c.self.inside.mask c.self.inside.room c.WIDTH-width.result c.self.invariant.8 c.self.invariant.9 c.self.invariant.2 (c.self.invariant.11 ∙ sym wide) in let width = c.requires.width in (
       inv.table ∙ (ap (λ z. z.table) c.requires.flow ∙ ap (λ z. z.table_id.table) (sym c.self.view_is)),
       omega (arith, fit, count, less, width, wide),

@@ -9,8 +9,8 @@ use Rattle.flow_law.specs.history.Promise.{CallsAtOnceIn}
 use Rattle.flow_word_shared.specs.declared.view.RingStart.{RingStart}
 use Rattle.flow_word_shared.specs.Rule.{capacity_of}
 use Rattle.flow_word_shared.specs.Steps.{AreFound, Receives, log_after, still_kept}
-use Rattle.flow_word_shared.specs.Tokens.{IsReading, ring_token}
-use Rattle.flow_word_shared.specs.View.{began_as, only, reading}
+use Rattle.flow_word_shared.specs.Tokens.{IsReading, post_of, ring_token}
+use Rattle.flow_word_shared.specs.View.{began_as, only, reading_at}
 use Rattle.flow_word_shared.proofs.ConfirmSteps.{confirming}
 use Rattle.flow_word_shared.proofs.Finding.{first_is, none_kept}
 use Rattle.flow_word_shared.proofs.Told.{saw_then, saw_overrun, receives_one, receives_none, reads_on}
@@ -36,7 +36,7 @@ load-found-requires g c =
     let d = (goal.at.load-found-requires g c).After-read_value in let r = c.read_value.ensures.reading in let count = c.self.invariant.0 in (
       ap (λ z. z.table) (c.read_value.ensures.sees.0 ∙ c.requires.flow) ∙ ap (λ z. z.table_id.table) (sym c.self.view_is),
       omega (arith, count),
-      confirming _ _ _ _ _ _ _ (take 1) first_is (reading c.args.number c.args.position (words g d ∷ [])) (ap (λ m. m.0) r.0.0) r.1 r.2
+      confirming _ _ _ _ (ap (λ z. z.table_id.start.places) c.self.view_is ∙ c.requires.places) _ _ _ (take 1) first_is (reading_at (post_of c.read_value.new.seat) c.args.number c.args.position (words g d ∷ [])) (ap (λ m. m.0) r.0.0) r.1 r.2
           (subst (λ (z : RingStart). AreFound g.T.Words.are_words g.T.Words.value_in (capacity_of z) (log_after z (only c.read_value.new.seat.me.0).knows.seen) c.args.position (words g d ∷ [])) (sym (start_is g d)) c.read_value.ensures.found),
     )
 
@@ -44,7 +44,7 @@ load-found-requires g c =
 received : (g : _) (c : After-load-found g) →
     Receives g.T.Words.are_words g.T.Words.value_in c.args.number c.args.position (c.load-found.result / 2)
     (take 1 (still_kept (capacity_of (only c.read_value.new.seat.me.0).start) (c.load-found.result / 2) c.args.position (take g.T.Words.WIDTH c.read_value.new.words.items ∷ []))) c.read_value.new.seat.me c.load-found.new.seat.me
-received g c = c.load-found.ensures.2 (reading c.args.number c.args.position (take g.T.Words.WIDTH c.read_value.new.words.items ∷ [])) c.read_value.ensures.reading.1
+received g c = c.load-found.ensures.2 (reading_at (post_of c.read_value.new.seat) c.args.number c.args.position (take g.T.Words.WIDTH c.read_value.new.words.items ∷ [])) c.read_value.ensures.reading.1
 
 pub returns-clause-fresh : goal.returns-clause-fresh
 returns-clause-fresh g c = λ kept.

@@ -8,8 +8,8 @@ use Rattle.flow_law.specs.history.Promise.{CallsAtOnceIn}
 use Rattle.flow_word_shared.specs.declared.view.RingStart.{RingStart}
 use Rattle.flow_word_shared.specs.Rule.{capacity_of}
 use Rattle.flow_word_shared.specs.Steps.{AreFound, Receives, log_after, values_of}
-use Rattle.flow_word_shared.specs.Tokens.{IsReading, ring_token}
-use Rattle.flow_word_shared.specs.View.{began_as, only, reading}
+use Rattle.flow_word_shared.specs.Tokens.{IsReading, post_of, ring_token}
+use Rattle.flow_word_shared.specs.View.{began_as, only, reading_at}
 use Rattle.flow_word_shared.proofs.Cells.{first_left, part_is, length_values_of}
 use Rattle.flow_word_shared.proofs.ConfirmSteps.{confirming}
 use Rattle.flow_word_shared.proofs.Finding.{first_is, none_kept}
@@ -37,7 +37,7 @@ load-length-requires g c =
     let d = (goal.at.load-length-requires g c).After-read_cells-words in let r = c.read_cells-words.ensures.reading in let words = c.self.invariant.0 in (
       ap (λ z. z.table) (c.read_cells-words.ensures.sees.0 ∙ c.requires.flow) ∙ ap (λ z. z.table_id.table) (sym c.self.view_is),
       omega (arith, words),
-      confirming _ _ _ _ _ _ _ (take 1) first_is (reading c.args.number c.args.position (found_values g d)) (ap (λ m. m.0) r.0.0) r.1 r.2 (found_words g d),
+      confirming _ _ _ _ (ap (λ z. z.table_id.start.places) c.self.view_is ∙ c.requires.places) _ _ _ (take 1) first_is (reading_at (post_of c.read_cells-words.new.seat) c.args.number c.args.position (found_values g d)) (ap (λ m. m.0) r.0.0) r.1 r.2 (found_words g d),
     )
 
 -- what the load of word 0 told, of the values that the buffer still has
@@ -49,7 +49,7 @@ received g c =
     let cap : capacity_of (only cells.new.seat.me.0).start ≡ c.self.inside.capacity = ap capacity_of (start_is g d) ∙ (ap (λ z. capacity_of z.table_id.start) (sym c.self.view_is) ∙ c.self.invariant.3) in
     let passed : n - capacity_of (only cells.new.seat.me.0).start - c.args.position ≡ c.saturating_sub-passed.result = omega (arith, cap, c.saturating_sub.ensures, c.saturating_sub-passed.ensures) in
     subst (λ k. Receives g.T.Words.are_words g.T.Words.value_in c.args.number c.args.position n (take 1 (drop k values)) cells.new.seat.me c.load-length.new.seat.me) passed
-    (c.load-length.ensures.2 (reading c.args.number c.args.position values) cells.ensures.reading.1)
+    (c.load-length.ensures.2 (reading_at (post_of c.read_cells-words.new.seat) c.args.number c.args.position values) cells.ensures.reading.1)
 
 pub returns-then-passed-count-clause-late : goal.returns-then-passed-count-clause-late
 returns-then-passed-count-clause-late g c =

@@ -5,8 +5,8 @@ use Rattle.std.proofs.lemmas.Bool.{cases_lt}
 use Rattle.flow_word_shared.specs.declared.view.RingStart.{RingStart}
 use Rattle.flow_word_shared.specs.Rule.{capacity_of}
 use Rattle.flow_word_shared.specs.Steps.{AreFound, Receives, still_kept, log_after, values_of}
-use Rattle.flow_word_shared.specs.Tokens.{IsReading}
-use Rattle.flow_word_shared.specs.View.{began_as, only, reading}
+use Rattle.flow_word_shared.specs.Tokens.{word_flow_id, IsReading, post_of}
+use Rattle.flow_word_shared.specs.View.{began_as, only, reading_at}
 use Rattle.flow_word_shared.proofs.Cells.{values_drop, left_of, length_values_of}
 use Rattle.flow_word_shared.proofs.ConfirmSteps.{confirming}
 use Rattle.flow_word_shared.proofs.Finding.{all_is, min_kept}
@@ -23,7 +23,7 @@ load-length-requires g c =
     let d = (goal.at.load-length-requires g c).After-read_cells-words in let cells = c.read_cells-words in let r = cells.ensures.reading in let words = c.self.invariant.0 in (
       ap (λ z. z.table) (cells.ensures.sees.0 ∙ c.requires.flow) ∙ ap (λ z. z.table_id.table) (sym c.self.view_is),
       omega arith,
-      confirming _ _ _ _ _ _ _ (λ l. l) all_is (reading c.args.number c.args.position (values_of g.T.Words.WIDTH c.args.count cells.result.items)) (ap (λ m. m.0) r.0.0) r.1 r.2
+      confirming _ _ _ _ (ap (λ z. z.table_id.start.places) c.self.view_is ∙ c.requires.places) _ _ _ (λ l. l) all_is (reading_at (post_of c.read_cells-words.new.seat) c.args.number c.args.position (values_of g.T.Words.WIDTH c.args.count cells.result.items)) (ap (λ m. m.0) r.0.0) r.1 r.2
           (subst (λ (z : RingStart). AreFound g.T.Words.are_words g.T.Words.value_in (capacity_of z) (log_after z (only cells.new.seat.me.0).knows.seen) c.args.position (values_of g.T.Words.WIDTH c.args.count cells.result.items)) (sym (start_is g d)) cells.ensures.found),
     )
 
@@ -49,10 +49,13 @@ received g c =
     sym (min_kept values (n - capacity_of (only cells.new.seat.me.0).start - c.args.position) c.min-passed.result passed)
     ∙ (kept_is width c.WIDTH-width.result c.args.count c.min-passed.result cells.result.items c.WIDTH-width.ensures (omega (arith, c.min-passed.ensures)) ∙ ap (kept width c.WIDTH-width.result c.args.count c.min-passed.result) (sym c.as_slice.ensures.value)) in
     subst (λ l. Receives g.T.Words.are_words g.T.Words.value_in c.args.number c.args.position n l cells.new.seat.me c.load-length.new.seat.me) is
-    (c.load-length.ensures.2 (reading c.args.number c.args.position values) cells.ensures.reading.1)
+    (c.load-length.ensures.2 (reading_at (post_of c.read_cells-words.new.seat) c.args.number c.args.position values) cells.ensures.reading.1)
 
 pub unpack_all-requires-clause-packed : goal.unpack_all-requires-clause-packed
 unpack_all-requires-clause-packed g c = (received g (goal.at.unpack_all-requires-clause-packed g c).After-as_slice).packed
+
+pub returns-clause-flow : goal.returns-clause-flow
+returns-clause-flow g c = let r = received g (goal.at.returns-clause-flow g c).After-as_slice in (λ i. word_flow_id (c.load-length.ensures.0 i) (r.start i)) ∙ c.read_cells-words.ensures.sees.0
 
 pub returns-clause-taken : goal.returns-clause-taken
 returns-clause-taken g c = λ some.

@@ -1,11 +1,11 @@
-use Rattle.std.proofs.Common.{◌≡◌, ◌+◌, ◌*◌, [], ◌∷◌, ◌++◌, length, Some, sym, ap, subst, ◌∙◌, refl, length-append, arith}
+use Rattle.std.proofs.Common.{◌≡◌, ◌+◌, [], ◌∷◌, ◌++◌, length, Some, sym, ap, subst, ◌∙◌, refl, length-append, arith}
 use Rattle.flow_word_shared.specs.declared.view.RingStart.{RingStart}
 use Rattle.flow_word_shared.specs.Rule.{capacity_of, HasValue}
 use Rattle.flow_word_shared.specs.Steps.{IsBegun, MeOf, log_after}
 use Rattle.flow_word_shared.specs.View.{only}
 use Rattle.flow_word_shared.proofs.CacheSteps.{reading_held}
 use Rattle.flow_word_shared.proofs.Cells.{begun_none}
-use Rattle.flow_word_shared.proofs.Masks.{cells_fit, cell_is}
+use Rattle.flow_word_shared.proofs.Masks.{cells_fit, cells_in, cell_is}
 use Rattle.flow_word_shared.proofs.token.WordFlow.read_held.Goals as goal
 use Rattle.flow_word_shared.proofs.token.WordFlow.read_held.Goals.{At-loop-place, After-load-word}
 
@@ -21,7 +21,7 @@ loop-place-init g c = let none = c.new-words.ensures in let some = g.met.T.Words
 pub load-word-requires : goal.load-word-requires
 load-word-requires g c =
     let T = g.row.T.Denot in let inv = c.loop-place.invariant in let held = c.requires.held in let less = c.loop-place-test.true in
-    let fit = cells_fit c.args.position c.self.inside.mask c.self.inside.room c.WIDTH-width.result c.self.invariant.8 c.self.invariant.9 in let count = c.self.invariant.0 ∙ ap (λ w. 4 + c.self.inside.room * w) (sym c.WIDTH-width.ensures) in (
+    let fit = cells_fit c.args.position c.self.inside.mask c.self.inside.room c.WIDTH-width.result c.self.invariant.8 c.self.invariant.9 in let count = cells_in _ c.self.inside.room g.T.Words.WIDTH c.WIDTH-width.result c.self.invariant.0 c.WIDTH-width.ensures in (
       inv.same.1 ∙ ap (λ z. z.table) c.requires.flow ∙ ap (λ z. z.table_id.table) (sym c.self.view_is),
       omega (arith, fit, count, less),
       reading_held _ _ _ _ g.met.T.Words.words_once _ _ _ held.0 _ (subst (λ (m : MeOf T). m.0 ≡ only m.0 ∷ []) (sym inv.same.0) (ap (λ m. m.0) held.1.0)) (subst (λ (m : MeOf T). (only m.0).hold ≡ Some held.0) (sym inv.same.0) held.1.1),

@@ -28,7 +28,7 @@ returns-clause-replayed g c = history_replays _ _ c.look_back.ensures.history
 pub returns-clause-subscribed : goal.returns-clause-subscribed
 returns-clause-subscribed g c =
     let s = c.subscription.inside in
-    let there : IsSome (position_of s.number (state_after {T = g.row.T.Denot} (only s.seat.me.0).start.config (only s.seat.me.0).knows.seen).subscribers) = subst (λ o. IsSome o) (sym c.subscription.invariant.0.2.stands.place) refl in
+    let there : IsSome (position_of s.number (state_after {T = g.row.T.Denot} (only s.seat.me.0).start.config (only s.seat.me.0).knows.seen).subscribers) = subst (λ o. IsSome o) (sym c.subscription.invariant.0.0.2.stands.place) refl in
     subst (λ (z : SharedFlowState g.row.T.Denot × Me Unit (List (RingKnown g.row.T.Denot))). IsSome (position_of s.number (state_after {T = g.row.T.Denot} z.0.config (only z.1.0).knows.seen).subscribers)) (λ i. (c.look_back.ensures.began i, sym c.look_back.ensures.same.0 i)) there
 
 pub returns-clause-in_real_time : goal.returns-clause-in_real_time

@@ -1,5 +1,5 @@
 use Rattle.std.proofs.Common.{rules, ap}
-use Rattle.flow_word_shared.proofs.SubscribeSteps.{counting_live}
+use Rattle.flow_word_shared.proofs.LeaveSteps.{counting_live}
 use Rattle.flow_word_shared.proofs.token.WordFlow.subscription_count.Goals as goal
 
 pub load-requires : goal.load-requires

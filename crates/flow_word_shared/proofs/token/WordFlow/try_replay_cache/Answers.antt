@@ -37,7 +37,7 @@ has_marked : (g : _) (c : After-load-mark g) →
     ((c.load-mark.new.seat.me ≡ (only c.load-mark.new.seat.me.0 ∷ [], [])) × ((only c.load-mark.new.seat.me.0).hold ≡ Some (held (c.seat.inside.expected / 2) c.load-mark.result))) × (ring_token c.load-mark.new.seat ≡ ring_token c.seat.inside.seat)
 has_marked g c =
     let T = g.row.T.Denot in let n = c.seat.inside.expected / 2 in let told = c.compare_exchange-found.ensures.2.0 c.if-found-expected.false in
-    let marked = c.load-mark.ensures.2 (holding n) (ap (λ (m : MeOf T). (only m.0).hold) told) in
+    let marked = (c.load-mark.ensures.2 (holding n) (ap (λ (m : MeOf T). (only m.0).hold) told)).0 in
     let slots : c.compare_exchange-found.new.seat.me.1 ≡ [] = ap (λ (m : MeOf T). m.1) told ∙ ap (λ (m : MeOf T). m.1) c.seat.invariant.0.0 in (
       subst (λ (m : MeOf T). (m ≡ (only m.0 ∷ [], [])) × ((only m.0).hold ≡ Some (held n c.load-mark.result))) (sym (marked ∙ (λ i. (with_hold (Some (held n c.load-mark.result)) (only c.compare_exchange-found.new.seat.me.0) ∷ [], slots i)))) (refl, refl),
       (λ i. token (word_flow_id (c.load-mark.ensures.0 i) (only (marked i).0).start) (only (marked i).0).knows) ∙ (λ i. token (word_flow_id (c.compare_exchange-found.ensures.0 i) (only (told i).0).start) (only (told i).0).knows),

@@ -1,7 +1,7 @@
 use Rattle.std.proofs.Common.{rules, ◌≡◌, ◌/◌, [], ◌∷◌, refl, sym, ap, subst, arith}
 use Rattle.flow_word_shared.specs.View.{only, holding}
 use Rattle.flow_word_shared.proofs.EmitSteps.{taking, releasing}
-use Rattle.flow_word_shared.proofs.SubscribeSteps.{resetting}
+use Rattle.flow_word_shared.proofs.CacheSteps.{resetting}
 use Rattle.flow_word_shared.proofs.token.WordFlow.try_reset.Goals as goal
 
 pub compare_exchange-found-requires : goal.compare_exchange-found-requires
