@@ -9,9 +9,10 @@ use std::marker::Model;
 
 /// A borrowed `WordFlow` into which a sharing emits beside other callers. Subscribers use the flow itself.
 ///
-/// No item waits: a subscriber that is a full buffer behind misses the oldest value. None of its calls waits: if another
-/// caller is faster, the call answers `Busy`, and the next turn makes it again. Nothing wakes a driver that sleeps, so a
-/// caller takes the turns. Dropping a hub loses its two seats.
+/// No item waits: if a subscriber is a full buffer behind, it misses the oldest value under `DropOldest`; under
+/// `DropLatest` the item is dropped. None of its calls waits: if another caller is faster, the call answers `Busy`, and
+/// the next turn makes it again. Nothing wakes a driver that sleeps, so a caller takes the turns. Dropping a hub loses its
+/// two seats.
 #[derive(Drop)]
 pub struct WordFlowHub<'a, T: Words> {
     flow: &'a WordFlow<T>,

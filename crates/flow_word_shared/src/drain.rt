@@ -207,9 +207,10 @@ impl<T: Words> WordFlow<T> {
     /// Appends the values that the subscriber can receive now, at most `most`, to the list, as if by calls of `next`.
     /// `Ok` says why it stopped.
     ///
-    /// Values of up to 64 words, or all that the list has room for, are taken at one moment: use the same list again. It waits for
-    /// no other caller. Where emitters have overwritten all cells that it read, it tries again as `next` does, and reads
-    /// twice as many: a try fails only if at least as many values were emitted meanwhile as it read.
+    /// It waits for no other caller. Under `DropOldest` values of up to 64 words, or all that the list has room for, are
+    /// taken at one moment: use the same list again. If emitters have overwritten all cells that it read, it tries again as
+    /// `next` does, and reads twice as many: a try fails only if at least as many values were emitted meanwhile as it read.
+    /// Under `DropLatest` it takes one value after the other.
     ///
     /// # Errors
     /// `OutOfMemory` if the list cannot grow. The next value is still in the flow, the values before it are in the list,

@@ -208,7 +208,8 @@ impl<T: Words> WordFlow<T> {
         })
     }
 
-    /// Emits a value as `emit` does if no other caller is faster; otherwise returns it with `Busy`.
+    /// Emits a value as `emit` does if no other caller is faster; otherwise returns it with `Busy`. Under `DropLatest` a
+    /// subscriber that is a full buffer behind and just leaves is faster, too.
     pub fn emit_now(&self, seat: &mut WordFlowSeat<T>, value: T) -> Result<(), Refused<T>>
         requires { seat.old.table_id ≡ self.now.table_id }
         ensures called { WordEmitsNow self.now.first seat.old value (fault_alone result) seat.new }

@@ -11,7 +11,7 @@ pub enum WordFlowFault {
     /// No shared flow can have the configuration, or the call ran out of memory.
     #[error("{0}")]
     Flow(FlowFault),
-    /// A flow of words has no such strategy.
+    /// The call makes no flow with this strategy: `Suspend`, or for `new` also `DropLatest`.
     #[error("a flow of words drops the oldest value, or the latest if it is made for so many subscribers")]
     Strategy(Overflow),
 }

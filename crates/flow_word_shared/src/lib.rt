@@ -15,9 +15,9 @@
 //! Subscribers never wait for it, nor do `unsubscribe` and `subscription_count`.
 //!
 //! # Overrun subscribers
-//! Under `DROP_OLDEST` a subscriber that is a full buffer behind may be overrun between its loads. It then reads more values before it loads
-//! the number again: twice as many at each try, up to 64 words. A try fails only if emitters have overwritten all values
-//! that it read.
+//! Under `DROP_OLDEST` a subscriber that is a full buffer behind may be overrun between its loads. It then reads more
+//! values before it loads the number again: twice as many at each try, up to 64 words. A try fails only if emitters have
+//! overwritten all values that it read. Under `DROP_LATEST` no subscriber is overrun.
 //!
 //! # Waking
 //! An emission wakes the callers that sleep until there is a value. If none sleeps, that is one load. If some do, it is
@@ -35,6 +35,7 @@
 //! # Trying again
 //! A call that takes `rt` tries again if another caller was faster, and no contract says that it ever succeeds. A call
 //! whose name ends in `_now`, or of a handle begins with `try_` (except `try_emit`), tries once, and may return `Busy`.
+//! Under `DROP_LATEST` an emission also tries again while a subscriber that is a full buffer behind leaves.
 //!
 //! # Dropping
 //! A dropped seat makes no more calls. A dropped subscription stays in the flow, and still counts: under `DROP_LATEST` it

@@ -100,10 +100,11 @@ impl<T: Words> WordFlow<T> {
 
     /// Returns the next value, or `Empty` if the subscriber has received all values.
     ///
-    /// A subscriber that is more than a buffer behind misses the oldest values. It waits for no other caller: it loads the
-    /// words of the value and then the number of emitted values, and tries again if the value has left the buffer in
-    /// between. Each try reads twice as many values as the one before, up to 64 words or the whole buffer if that is less,
-    /// and fails only if at least as many values were emitted meanwhile.
+    /// The subscriber waits for no other caller. Under `DropOldest` it misses the oldest values if it is more than a buffer
+    /// behind: it loads the words of the value and then the number of emitted values, and tries again if the value has
+    /// left the buffer in between. Each try reads twice as many values as the one before, up to 64 words or the whole
+    /// buffer if that is less, and fails only if at least as many values were emitted meanwhile. Under `DropLatest` it
+    /// misses no emitted value, and tries once.
     ///
     /// # Source
     /// `SharedFlow.collect`: the next value that it emits.
@@ -129,7 +130,7 @@ impl<T: Words> WordFlow<T> {
     }
 
     /// Tries once to receive the next value. If the value leaves the buffer before it is read, returns `Busy`: the
-    /// subscriber then stands at the oldest value of the buffer.
+    /// subscriber is then at the oldest value of the buffer. Under `DropLatest` no value leaves the buffer before.
     pub fn next_now(&self, subscription: &mut WordFlowSubscription<T>) -> Result<Next<T>, FlowFault>
         requires { subscription.old.token.table_id ≡ self.now.table_id }
         ensures { WordNextsNow self.now.first subscription.old result subscription.new }

@@ -28,7 +28,7 @@ fn has_first_values(calls: &[PlacedCall]) -> bool {
         .any(|(_place, call)| matches!(call, Call::SubscribeWith(_)))
 }
 
-/// Returns how many calls subscribe: as many subscribers the flow may have at a time.
+/// Returns how many calls subscribe: the flow never has more subscribers at a time.
 fn subscribers_in(calls: &[PlacedCall]) -> u32 {
     let mut count = 0u32;
     for (_place, call) in calls {

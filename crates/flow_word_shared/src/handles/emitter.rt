@@ -148,7 +148,8 @@ impl<'a, T: Words> WordEmitter<'a, T> {
         }
     }
 
-    /// Emits a value as `emit` does if no other caller is faster; otherwise returns it with `Busy`.
+    /// Emits a value as `emit` does if no other caller is faster; otherwise returns it with `Busy`. Under `DropLatest` a
+    /// reader that is a full buffer behind and just leaves is faster, too.
     pub fn emit_now(&mut self, value: T) -> Result<(), Refused<T>>
         ensures flow { self.new.flow ≡ self.old.flow }
         ensures called { WordEmitsNow self.old.flow.first self.old.token value

@@ -88,8 +88,8 @@ impl<'a, T: Words> WordFlowReader<'a, T> {
 
     /// Takes the next value, or returns `None` if the subscriber has received all values.
     ///
-    /// A reader that is more than a buffer behind misses the oldest values. It waits for no other caller; where emitters
-    /// have overwritten all that it read, it reads again.
+    /// The reader waits for no other caller. Under `DropOldest` it misses the oldest values if it is more than a buffer
+    /// behind, and reads again if emitters have overwritten all that it read. Under `DropLatest` it misses no emitted value.
     pub fn next<R: Wait>(&mut self, rt: &R) -> Option<T>
         ensures flow { self.new.flow ≡ self.old.flow }
         ensures called { NextsIn shared_flow self.old.flow.first self.old.subscription
@@ -102,7 +102,8 @@ impl<'a, T: Words> WordFlowReader<'a, T> {
         }
     }
 
-    /// Takes the next value, and reads once: returns `Busy` if emitters have overwritten the value meanwhile.
+    /// Takes the next value, and reads once: returns `Busy` if emitters have overwritten the value meanwhile. Under
+    /// `DropLatest` they never do.
     pub fn try_next(&mut self) -> Result<Option<T>, Busy>
         ensures flow { self.new.flow ≡ self.old.flow }
         ensures called { WordNextsNow self.old.flow.first self.old.subscription

@@ -49,8 +49,8 @@ impl<'a, T: Words> WordFlowReader<'a, T> {
 
     /// Waits for the next value, and takes it. A new subscriber receives the replay cache first.
     ///
-    /// The thread sleeps meanwhile: an emission wakes it. A reader that is more than a buffer behind misses the oldest
-    /// values.
+    /// The thread sleeps meanwhile: an emission wakes it. Under `DropOldest` a reader that is more than a buffer behind
+    /// misses the oldest values.
     ///
     /// # Source
     /// A collector of a `SharedFlow`, which suspends until there is a value.
