@@ -85,29 +85,9 @@ def exports(crate):
     return found
 
 
-# The types that hold a flow, by their names, with those of their aliases if it is lent, or if it is owned.
-HOLDERS = {
-    "BoundSeat": ("FlowCaller", "OwnedCaller"),
-    "BoundSubscription": ("FlowReader", "OwnedFlowReader"),
-    "Values": ("Values", "Values"),
-    "ValuesUntil": ("ValuesUntil", "ValuesUntil"),
-}
-
-
-def as_aliases(text):
-    """The types of handles by the names of their aliases, which do not say how the flow is held."""
-    for name, (lent, owned) in HOLDERS.items():
-        for start in reversed([found.start() for found in re.finditer(rf"\b{name}<", text)]):
-            end = closing(text, start + len(name))
-            *of, _, held = split(text[start + len(name) + 1 : end])
-            if ":" not in text[start:end]:
-                text = f"{text[:start]}{owned if held.startswith('Arc<') else lent}<{', '.join(of)}>{text[end + 1 :]}"
-    return text
-
-
 def plain(text):
     """A type without lifetimes, allocators, and bounds of the implementation."""
-    text = as_aliases(re.sub(r"\s+where .*", "", re.sub(r"'\w+ |'\w+, |<'\w+>", "", text)))
+    text = re.sub(r"\s+where .*", "", re.sub(r"'\w+ |'\w+, |<'\w+>", "", text))
     return re.sub(r"(, |<)[AB](: Allocator( \+ Copy)?)?( = Global)?(?=>)", lambda m: "<" if m.group(1) == "<" else "", text).replace("<>", "")
 
 

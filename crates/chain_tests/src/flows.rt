@@ -1,50 +1,64 @@
 //! New flows of whole numbers, and new readers of them. A test ends if one of them is refused.
 ghost use Rattle.std.specs.Prelude.{◌≡◌};
+ghost use Rattle.std.specs.Arc.{arc_value};
 
 use crate::compare::compare;
 use flow_law::Config;
-use flow_shared::{Emitter, Reader, Seat, Setter, SharedFlow, StateFlow, StateReader, StateSeat};
-use flow_word::{WordReader, WordSeat, WordSetter, WordState};
+use flow_shared::{Emitter, Reader, Setter, SharedFlow, StateFlow, StateReader};
+use flow_word::{WordReader, WordSetter, WordState};
 use std::alloc::{Allocator, Global};
 use std::process::Abort;
-use std::sync::Wait;
+use std::sync::{Arc, Wait};
 
-/// Returns a new shared flow and its first seat.
-pub fn new_flow(rt: &impl Abort, alloc: Global, config: Config) -> (SharedFlow<i64>, Seat<i64>)
-    ensures { result.1.table_id ≡ result.0.table_id }
+/// Returns a new shared flow and its first emitter, which own it together.
+pub fn new_flow(
+    rt: &impl Abort,
+    alloc: Global,
+    config: Config,
+) -> (Arc<SharedFlow<i64>>, Emitter<i64>)
+    ensures { result.1.flow ≡ arc_value result.0 }
 {
-    SharedFlow::new(alloc, config).expect(rt, "a flow")
+    let (flow, seat) = SharedFlow::new(alloc, config).expect(rt, "a flow");
+    let flow = Arc::new(alloc, flow).expect(rt, "memory");
+    let again = Arc::try_clone(&flow).expect(rt, "an owner");
+    (flow, Emitter::new(again, seat))
 }
 
-/// Returns a new state flow that begins with this value and issues at most this many numbers, and its first seat.
+/// Returns a new state flow that begins with this value and issues at most this many numbers, and its first setter.
 pub fn new_state_flow(
     rt: &impl Abort,
     alloc: Global,
     value: i64,
     limit: u64,
-) -> (StateFlow<i64>, StateSeat<i64>)
-    ensures { result.1.table_id ≡ result.0.table_id }
+) -> (Arc<StateFlow<i64>>, Setter<i64>)
+    ensures { result.1.flow ≡ arc_value result.0 }
 {
-    StateFlow::new(alloc, value, limit).expect(rt, "a flow")
+    let (flow, seat) = StateFlow::new(alloc, value, limit).expect(rt, "a flow");
+    let flow = Arc::new(alloc, flow).expect(rt, "memory");
+    let again = Arc::try_clone(&flow).expect(rt, "an owner");
+    (flow, Setter::new(again, seat))
 }
 
-/// Returns a new word state that begins with this value and issues at most this many numbers, and its first seat.
+/// Returns a new word state that begins with this value and issues at most this many numbers, and its first setter.
 pub fn new_word_state(
     rt: &impl Abort,
     alloc: Global,
     value: i64,
     limit: u32,
-) -> (WordState<i64>, WordSeat<i64>)
-    ensures { result.1.table_id ≡ result.0.table_id }
+) -> (Arc<WordState<i64>>, WordSetter<i64>)
+    ensures { result.1.flow ≡ arc_value result.0 }
 {
-    WordState::new(alloc, value, limit).expect(rt, "a flow")
+    let (flow, seat) = WordState::new(alloc, value, limit).expect(rt, "a flow");
+    let flow = Arc::new(alloc, flow).expect(rt, "memory");
+    let again = Arc::try_clone(&flow).expect(rt, "an owner");
+    (flow, WordSetter::new(again, seat))
 }
 
 /// Subscribes to a shared flow.
-pub fn new_reader<'a, R: Wait + Abort, A: Allocator + Copy>(
+pub fn new_reader<R: Wait + Abort, A: Allocator + Copy>(
     rt: &R,
-    emitter: &mut Emitter<'a, i64, A>,
-) -> Reader<'a, i64, A>
+    emitter: &mut Emitter<i64, A>,
+) -> Reader<i64, A>
     ensures flow { emitter.new.flow ≡ emitter.old.flow }
     ensures made { result.flow ≡ emitter.old.flow }
 {
@@ -52,18 +66,15 @@ pub fn new_reader<'a, R: Wait + Abort, A: Allocator + Copy>(
 }
 
 /// Subscribes to a state flow.
-pub fn new_state_reader<'a, R: Wait + Abort, A: Allocator + Copy>(
+pub fn new_state_reader<R: Wait + Abort, A: Allocator + Copy>(
     rt: &R,
-    setter: &mut Setter<'a, i64, A>,
-) -> StateReader<'a, i64, A> {
+    setter: &mut Setter<i64, A>,
+) -> StateReader<i64, A> {
     setter.subscribe(rt).expect(rt, "a reader")
 }
 
 /// Subscribes to a word state.
-pub fn new_word_reader<'a, R: Wait + Abort>(
-    rt: &R,
-    setter: &mut WordSetter<'a, i64>,
-) -> WordReader<'a, i64>
+pub fn new_word_reader<R: Wait + Abort>(rt: &R, setter: &mut WordSetter<i64>) -> WordReader<i64>
     ensures flow { setter.new.flow ≡ setter.old.flow }
     ensures made { result.flow ≡ setter.old.flow }
 {
@@ -71,15 +82,7 @@ pub fn new_word_reader<'a, R: Wait + Abort>(
 }
 
 /// Compares the replay cache that a caller reads.
-pub fn reads_cache<R: Wait + Abort>(
-    rt: &R,
-    flow: &SharedFlow<i64>,
-    seat: &mut Seat<i64>,
-    wanted: &[i64],
-)
-    requires { seat.old.table_id ≡ flow.now.table_id }
-    ensures { seat.new.table_id ≡ flow.entry.now.table_id }
-{
-    let cache = flow.replay_cache(rt, seat).expect(rt, "memory");
+pub fn reads_cache<R: Wait + Abort>(rt: &R, emitter: &mut Emitter<i64>, wanted: &[i64]) {
+    let cache = emitter.replay_cache(rt).expect(rt, "memory");
     compare(rt, "the replay cache", cache.as_slice(), wanted);
 }

@@ -9,7 +9,7 @@ use std::thread::join;
 
 fn main(rt: HostRuntime) -> anyhow::Result<()> {
     let (flow, seat) = SharedFlow::new(rt.alloc(), Config::new().extra(16))?;
-    let mut emitter = flow.emitter(seat);
+    let mut emitter = flow.into_emitter(rt.alloc(), seat)?;
     let mut reader = emitter.subscribe(&rt)?;
     let (sum, sent) = join(
         &rt,
@@ -21,18 +21,14 @@ fn main(rt: HostRuntime) -> anyhow::Result<()> {
     Ok(())
 }
 
-fn send<R: Wait>(
-    rt: &R,
-    emitter: &mut Emitter<'_, i64>,
-    values: Range<i64>,
-) -> Result<(), FlowFault> {
+fn send<R: Wait>(rt: &R, emitter: &mut Emitter<i64>, values: Range<i64>) -> Result<(), FlowFault> {
     for value in values {
         emitter.send(rt, value)?;
     }
     Ok(())
 }
 
-fn sum_of<R: Wait>(rt: &R, reader: &mut Reader<'_, i64>, count: u32) -> Result<i64, FlowFault> {
+fn sum_of<R: Wait>(rt: &R, reader: &mut Reader<i64>, count: u32) -> Result<i64, FlowFault> {
     let mut sum = 0i64;
     for _ in 0..count {
         sum = sum.wrapping_add(reader.receive(rt)?);

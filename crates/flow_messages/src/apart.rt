@@ -13,9 +13,9 @@ use flow_word::WordSetter;
 ///
 /// The two callers may have come from other threads, and go on in them.
 pub fn set_and_read_apart(
-    setter: &mut WordSetter<'_, u64>,
-    reader: &mut WordSetter<'_, u64>,
-    third: &mut WordSetter<'_, u64>,
+    setter: &mut WordSetter<u64>,
+    reader: &mut WordSetter<u64>,
+    third: &mut WordSetter<u64>,
     value: u64,
 ) -> u64
     requires { (setter.old.flow ≡ third.old.flow) × (reader.old.flow ≡ third.old.flow) }

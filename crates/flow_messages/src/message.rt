@@ -7,6 +7,7 @@ ghost use Rattle.flow_messages.specs.Before.{IsSetByMaker, ReadsAfterSet};
 
 use flow_word::WordSetter;
 use std::marker::{Brand, PhantomData};
+use std::sync::Wait;
 
 /// The flow of the callers in messages, and the value that each message has, for contracts only. A call at `Brand`
 /// chooses them in its proof.
@@ -24,18 +25,18 @@ impl OneFlow for Brand {
 
 /// A value that was set, and a caller that has seen the `set`.
 #[derive(Drop)]
-pub struct Message<'a, F: OneFlow> {
+pub struct Message<F: OneFlow> {
     pub value: u64,
-    pub caller: WordSetter<'a, u64>,
+    pub caller: WordSetter<u64>,
     pub of: PhantomData<F>,
     ghost of_flow: { F.id ≡ Some caller.flow.table_id },
     ghost of_value: { F.said ≡ Some value },
     ghost set: { ∥ IsSetByMaker value caller.token.knows ∥₁ },
 }
 
-impl<'a, F: OneFlow> Message<'a, F> {
+impl<F: OneFlow> Message<F> {
     /// Sets the value, and returns a message about it.
-    pub fn of_set(setter: &mut WordSetter<'a, u64>, value: u64) -> Message<'a, F>
+    pub fn of_set<R: Wait>(rt: &R, setter: &mut WordSetter<u64>, value: u64) -> Message<F>
         requires flow { F.id ≡ Some setter.old.flow.table_id }
         requires value { F.said ≡ Some value }
         ensures { result.value ≡ value }
@@ -43,18 +44,18 @@ impl<'a, F: OneFlow> Message<'a, F> {
         setter.set(value);
         Message {
             value,
-            caller: setter.another(),
+            caller: setter.another(rt),
             of: PhantomData,
         }
     }
 
     /// Meets the message's caller, and reads the value of the flow.
-    pub fn read_after(self, reader: &mut WordSetter<'a, u64>) -> u64
+    pub fn read_after(self, reader: &mut WordSetter<u64>) -> u64
         requires { F.id ≡ Some reader.old.flow.table_id }
         ensures flow { reader.new.flow ≡ reader.old.flow }
         ensures reader { HasSeenMore reader.old.token reader.new.token }
         ensures history { IsStateHistory reader.new.flow.first reader.new.token.knows.seen }
-        ensures after { ∥ ReadsAfterSet self.entry.value result reader.new.token.knows ∥₁ }
+        ensures after { ∥ ReadsAfterSet self.value result reader.new.token.knows ∥₁ }
     {
         let Message {
             value: _,

@@ -1,14 +1,11 @@
 -- A crowd that has ended: what its threads promised, and what each subscriber got.
 use Rattle.std.proofs.Common.{◌≡◌, ℕ, ◌+◌, ◌*◌, ◌<◌, List, ◌∷◌, ◌++◌, Vec, length, get_or, map, refl, sym, ap, ◌∙◌, subst, arith}
-use Rattle.atomic_table.specs.Seated.{TableId}
 use Rattle.flow_law.specs.declared.config.Overflow.TheVariants.{Suspend}
 use Rattle.flow_law.specs.declared.history.Knowledge.{Knowledge}
 use Rattle.flow_law.specs.declared.states.SharedFlowState.{SharedFlowState}
 use Rattle.flow_law.specs.history.Done.{done_by}
 use Rattle.flow_law.specs.history.Rounds.{HasClosedHistory}
 use Rattle.flow_law.specs.flow.SharedHistory.{shared_flow}
-use Rattle.flow_law.specs.history.Tokens.{NumberedToken}
-use Rattle.flow_law.specs.history.Promise.{Token}
 use Rattle.flow_gate.specs.Tokens.{GateOrigin}
 use Rattle.flow_program.specs.declared.crowd.emitters.EmitsAll.{EmitsAll}
 use Rattle.flow_program.specs.declared.crowd.size.CrowdSize.{CrowdSize}
@@ -20,39 +17,20 @@ use Rattle.flow_program.proofs.CrowdLemmas.{got_all_values}
 use Rattle.flow_program.proofs.PlaceLemmas.{one_of}
 use Rattle.flow_program.proofs.SubscribedLemmas.{has_read}
 
-abbrev pub Seat : Type 0
-Seat = Token TableId (Says ℕ)
-
-abbrev pub Subscription : Type 0
-Subscription = NumberedToken TableId (Says ℕ)
-
--- the seat of a thread that has kept its promise to emit
-pub sender_ended : (table : TableId) (start ended : Seat) (first count : ℕ) (p : EmitsAll) → WillEmit table start first count p
-    → (ended.table_id ≡ p.seat.value.table_id) × OnlyEmits (numbers_from p.first p.count) p.seat.value.knows ended.knows
-    → (ended.table_id ≡ table) × OnlyEmits (numbers_from first count) start.knows ended.knows
-sender_ended table start ended first count p will kept = (
-  kept.0 ∙ ap (λ (s : Seat). s.table_id) will.1 ∙ will.0,
-  subst (λ a. OnlyEmits (numbers_from a count) start.knows ended.knows) will.2
-      (subst (λ m. OnlyEmits (numbers_from p.first m) start.knows ended.knows) will.3
-      (subst (λ (s : Seat). OnlyEmits (numbers_from p.first p.count) s.knows ended.knows) will.1 kept.1)),
-)
-
 -- an emitter whose thread has sent what it promised
-pub sent_as : (flow : GateOrigin (SharedFlowState ℕ)) (table : TableId) (seat : Seat) (first count : ℕ) (p : EmitsAll) (c : Caller) → WillEmit table seat first count p → HasSentAs flow p c
-    → HasSent flow first count seat.knows c
-sent_as flow table seat first count p c will sent =
-    subst (λ a. HasSent flow a count seat.knows c) will.2
-    (subst (λ m. HasSent flow p.first m seat.knows c) will.3
-    (subst (λ (s : Seat). HasSent flow p.first p.count s.knows c) will.1 sent))
+pub sent_as : (before : Caller) (first count : ℕ) (p : EmitsAll) (after : Caller) → WillEmit before first count p → HasSentAs p after → HasSent first count before after
+sent_as before first count p after will sent =
+    subst (λ a. HasSent a count before after) will.1
+    (subst (λ m. HasSent p.first m before after) will.2
+    (subst (λ (c : Caller). HasSent p.first p.count c after) will.0 sent))
 
 -- a subscriber whose thread has read what it promised
-pub taken_as : (flow : GateOrigin (SharedFlowState ℕ)) (table : TableId) (s : Subscription) (count : ℕ) (p : ReadsAll) (r : Subscriber) (got : List ℕ) → WillRead table s count p → HasTakenAs flow p r got
-    → HasTaken flow count s r got
-taken_as flow table s count p r got will taken =
-    subst (λ n. HasTaken flow n s r got) will.2 (subst (λ (t : Subscription). HasTaken flow p.count t r got) will.1 taken)
+pub taken_as : (before : Subscriber) (count : ℕ) (p : ReadsAll) (after : Subscriber) (got : List ℕ) → WillRead before count p → HasTakenAs p after got → HasTaken count before after got
+taken_as before count p after got will taken =
+    subst (λ n. HasTaken n before after got) will.1 (subst (λ (r : Subscriber). HasTaken p.count r after got) will.0 taken)
 
 module _ {Z : Type 0} (size : CrowdSize) (flow : GateOrigin (SharedFlowState ℕ)) (now : Knowledge (Says ℕ)) (es es-after : List Caller) (rs rs-after : List Subscriber) (gots : List (Vec ℕ Z))
-    (made : AreMade size flow now es rs) (ran : HaveRun size flow es rs es-after rs-after gots) where
+    (made : AreMade size flow now es rs) (ran : HaveRun size es rs es-after rs-after gots) where
   emitted : (i : ℕ) (d : Caller) → i < size.emitters → HasEmitted size.values i (get_or es-after i d).token.knows
   emitted i d l = subst (λ k. OnlyEmits (numbers_from (i * size.values) size.values) k (get_or es-after i d).token.knows) (made.emitter i d l).1
       (ran.sent i d d (let q = made.emitters in omega (arith, q, l))).1
@@ -60,7 +38,7 @@ module _ {Z : Type 0} (size : CrowdSize) (flow : GateOrigin (SharedFlowState ℕ
   abbrev got_at : ℕ → Vec ℕ Z → List ℕ
   got_at i v = (get_or gots i v).items
 
-  taken : (i : ℕ) (d : Subscriber) (v : Vec ℕ Z) → i < size.subscribers → HasTaken flow (size.emitters * size.values) (get_or rs i d).subscription (get_or rs-after i d) (got_at i v)
+  taken : (i : ℕ) (d : Subscriber) (v : Vec ℕ Z) → i < size.subscribers → HasTaken (size.emitters * size.values) (get_or rs i d) (get_or rs-after i d) (got_at i v)
   taken i d v l = ran.taken i d d v (let q = made.subscribers in omega (arith, q, l))
 
   read : (n i : ℕ) (d : Subscriber) (v : Vec ℕ Z) → n ≡ size.emitters → i < size.subscribers

@@ -11,7 +11,6 @@ use Rattle.flow_law.specs.declared.call.SharedCall.TheVariants as call
 use Rattle.flow_law.specs.history.Growth.{child_name, first_knowledge}
 use Rattle.flow_law.specs.history.Handles.{CallerOf, ReaderOf}
 use Rattle.flow_law.specs.history.Tokens.{NumberedToken}
-use Rattle.flow_law.specs.history.Promise.{Token}
 use Rattle.flow_law.specs.laws.Closed.{nth_child}
 use Rattle.flow_law.specs.history.Done.{done_by}
 use Rattle.flow_program.specs.declared.crowd.emitters.EmitsAll.{EmitsAll}
@@ -40,21 +39,20 @@ pub record EachGotAll {Z : Type 0} (size : CrowdSize) (got : Vec (Vec ℕ Z) Z) 
 
 -- ---- where a crowd begins
 
--- a flow that suspends emitters and has a buffer, and its first seat, through which nothing was done
-pub record IsNewFlow (flow : GateOrigin (SharedFlowState ℕ)) (seat : Token TableId (Says ℕ)) : Type 0 where
-  pub suspends : flow.first.config.overflow ≡ Suspend
-  pub buffer : 0 < flow.first.config.replay + flow.first.config.extra
-  pub table : seat.table_id ≡ flow.table_id
-  pub first : seat.knows ≡ first_knowledge
-
--- ---- what the tokens did
-
 -- an emitter and a subscriber, each with its flow
 abbrev pub Caller : Type 0
 Caller = CallerOf TableId (SharedFlowState ℕ) (Says ℕ)
 
 abbrev pub Subscriber : Type 0
 Subscriber = ReaderOf TableId (SharedFlowState ℕ) (Says ℕ)
+
+-- the first caller of a flow that suspends emitters and has a buffer; nothing was done through it
+pub record IsFirst (maker : Caller) : Type 0 where
+  pub suspends : maker.flow.first.config.overflow ≡ Suspend
+  pub buffer : 0 < maker.flow.first.config.replay + maker.flow.first.config.extra
+  pub first : maker.token.knows ≡ first_knowledge
+
+-- ---- what the tokens did
 
 -- the call is a subscription without first values
 abbrev pub IsSubscribing : {T : Type 0} → SharedCall T → Type 0
@@ -87,15 +85,17 @@ module _ {T : Type 0} where
 abbrev pub HasEmitted : ℕ → ℕ → Knowledge (Says ℕ) → Type 0
 HasEmitted values i k = OnlyEmits (numbers_from (i * values) values) (nth_child i first_knowledge) k
 
--- the emitter is one of this flow, and has emitted `count` numbers, from `first` on, since its token knew `before`
-abbrev pub HasSent : GateOrigin (SharedFlowState ℕ) → ℕ → ℕ → Knowledge (Says ℕ) → Caller → Type 0
-HasSent flow first count before c = (c.flow ≡ flow) × OnlyEmits (numbers_from first count) before c.token.knows
+-- the emitter has only emitted since, at the same flow: `count` numbers, from `first` on
+abbrev pub HasSent : ℕ → ℕ → Caller → Caller → Type 0
+HasSent first count before after =
+    (after.flow ≡ before.flow) × OnlyEmits (numbers_from first count) before.token.knows after.token.knows
 
--- the subscriber is one of this flow, has this subscription, and has only read since: it got these `count` values
-abbrev pub HasTaken : GateOrigin (SharedFlowState ℕ) → ℕ → NumberedToken TableId (Says ℕ) → Subscriber → List ℕ → Type 0
-HasTaken flow count before r got =
-    (r.flow ≡ flow) × (r.subscription.number ≡ before.number)
-    × Reads before.number got before.token.knows r.subscription.token.knows × (length got ≡ count)
+-- the subscriber has only read since, at the same flow and by the same subscription: it got these `count` values
+abbrev pub HasTaken : ℕ → Subscriber → Subscriber → List ℕ → Type 0
+HasTaken count before after got =
+    (after.flow ≡ before.flow) × (after.subscription.number ≡ before.subscription.number)
+    × Reads before.subscription.number got before.subscription.token.knows after.subscription.token.knows
+    × (length got ≡ count)
 
 -- ---- all callers
 
@@ -114,31 +114,29 @@ pub record AreMade (size : CrowdSize) (flow : GateOrigin (SharedFlowState ℕ)) 
 
 -- The threads of these callers have ended: each emitter has emitted its values, and each subscriber has read as many
 -- values as all of them emit.
-pub record HaveRun {Z : Type 0} (size : CrowdSize) (flow : GateOrigin (SharedFlowState ℕ)) (es : List Caller) (rs : List Subscriber) (es-after : List Caller) (rs-after : List Subscriber) (got : List (Vec ℕ Z)) : Type 0 where
+pub record HaveRun {Z : Type 0} (size : CrowdSize) (es : List Caller) (rs : List Subscriber) (es-after : List Caller) (rs-after : List Subscriber) (got : List (Vec ℕ Z)) : Type 0 where
   pub emitters : length es-after ≡ length es
   pub subscribers : length rs-after ≡ length rs
   pub lists : length got ≡ length rs
   pub sent : (i : ℕ) (d e : Caller) → i < length es →
-      HasSent flow (i * size.values) size.values (slice_index_or es i e).token.knows (slice_index_or es-after i d)
+      HasSent (i * size.values) size.values (slice_index_or es i e) (slice_index_or es-after i d)
   pub taken : (i : ℕ) (d r : Subscriber) (v : Vec ℕ Z) → i < length rs →
-      HasTaken flow (size.emitters * size.values) (slice_index_or rs i r).subscription (slice_index_or rs-after i d) (slice_index_or got i v).items
+      HasTaken (size.emitters * size.values) (slice_index_or rs i r) (slice_index_or rs-after i d) (slice_index_or got i v).items
 
 -- ---- what the threads promise
 
--- a promise to emit `count` numbers, from `first` on, through this seat of the flow
-abbrev pub WillEmit : TableId → Token TableId (Says ℕ) → ℕ → ℕ → EmitsAll → Type 0
-WillEmit flow seat first count p =
-    (seat.table_id ≡ flow) × (p.seat.value ≡ seat) × (p.first ≡ first) × (p.count ≡ count)
+-- a promise to emit `count` numbers, from `first` on, through this emitter
+abbrev pub WillEmit : Caller → ℕ → ℕ → EmitsAll → Type 0
+WillEmit emitter first count p = (p.emitter.value ≡ emitter) × (p.first ≡ first) × (p.count ≡ count)
 
--- a promise to read `count` values by this subscription of the flow
-abbrev pub WillRead : TableId → NumberedToken TableId (Says ℕ) → ℕ → ReadsAll → Type 0
-WillRead flow subscription count p =
-    (subscription.token.table_id ≡ flow) × (p.subscription.value ≡ subscription) × (p.count ≡ count)
+-- a promise to read `count` values by this reader
+abbrev pub WillRead : Subscriber → ℕ → ReadsAll → Type 0
+WillRead reader count p = (p.reader.value ≡ reader) × (p.count ≡ count)
 
 -- the emitter has sent what its thread promised
-abbrev pub HasSentAs : GateOrigin (SharedFlowState ℕ) → EmitsAll → Caller → Type 0
-HasSentAs flow p c = HasSent flow p.first p.count p.seat.value.knows c
+abbrev pub HasSentAs : EmitsAll → Caller → Type 0
+HasSentAs p c = HasSent p.first p.count p.emitter.value c
 
 -- the subscriber has read what its thread promised, and got these values
-abbrev pub HasTakenAs : GateOrigin (SharedFlowState ℕ) → ReadsAll → Subscriber → List ℕ → Type 0
-HasTakenAs flow p r got = HasTaken flow p.count p.subscription.value r got
+abbrev pub HasTakenAs : ReadsAll → Subscriber → List ℕ → Type 0
+HasTakenAs p r got = HasTaken p.count p.reader.value r got

@@ -12,7 +12,7 @@ use std::sync::Wait;
 use std::thread::{Threads, for_each_mut};
 
 /// Adds one to the value, `updates` times.
-fn count_up<R: Wait>(rt: &R, caller: &mut WordSetter<'_, i64>, updates: u32)
+fn count_up<R: Wait>(rt: &R, caller: &mut WordSetter<i64>, updates: u32)
     ensures { HasUpdated plus_one updates caller.old caller.new }
 {
     for _done in 0..updates {
@@ -31,10 +31,10 @@ pub fn run_count<R: Threads + Wait + Sync>(
     ensures memory { IfErr result (λ fault. fault ≡ FlowFault.OutOfMemory) }
 {
     let (flow, seat) = WordState::new(alloc, 0, 0)?;
-    let mut maker = flow.setter(seat);
-    let mut callers = maker.others(alloc, size.threads)?;
+    let mut maker = flow.into_setter(alloc, seat)?;
+    let mut callers = maker.others(rt, alloc, size.threads)?;
     let callers = callers.as_mut_slice();
-    let count = |_: usize, caller: &mut WordSetter<'_, i64>| count_up(rt, caller, size.updates);
+    let count = |_: usize, caller: &mut WordSetter<i64>| count_up(rt, caller, size.updates);
     for_each_mut(rt, callers, 8, &count);
     Ok(maker.final_value(callers))
 }

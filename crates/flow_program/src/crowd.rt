@@ -14,7 +14,7 @@
 //! subscribers without one are dropped: no emitter waits for them, the threads that were made end, and the call returns
 //! `OutOfMemory`.
 ghost use Rattle.std.specs.Prelude.{◌≡◌, All, IfErr, IfOk, IfSome, vec_len};
-ghost use Rattle.flow_program.specs.Crowds.{EachGotAll, GotAll, IsNewFlow};
+ghost use Rattle.flow_program.specs.Crowds.{EachGotAll, GotAll, IsFirst};
 
 mod callers;
 mod emitters;
@@ -28,7 +28,7 @@ mod subscribers;
 use crate::crowd::callers::callers_of;
 use crate::crowd::running::{Ended, run_threads};
 use flow_law::{Config, FlowFault};
-use flow_shared::{Seat, SharedFlow};
+use flow_shared::{Emitter, SharedFlow};
 pub use pair::run_pair;
 pub use size::CrowdSize;
 use std::alloc::Global;
@@ -36,22 +36,21 @@ use std::sync::Wait;
 use std::thread;
 use std::thread::{Scope, Threads};
 
-/// Runs a crowd in a scope, through the first seat of its flow. All subscribe before any thread starts, and all callers
-/// meet after their threads have ended.
+/// Runs a crowd in a scope, through the first caller of its flow. All subscribe before any thread starts, and all
+/// callers meet after their threads have ended.
 fn run_in<'s, E, R: Threads + Wait + Sync>(
     rt: &'s R,
     alloc: Global,
     scope: &Scope<'s, E>,
-    flow: &'s SharedFlow<u64>,
-    seat: Seat<u64>,
+    maker: Emitter<u64>,
     size: CrowdSize,
 ) -> Option<Vec<Vec<u64>>>
-    requires { IsNewFlow flow.now seat }
+    requires { IsFirst maker }
     ensures { IfSome result (EachGotAll size) }
 {
-    let mut maker = flow.emitter(seat);
+    let mut maker = maker;
     let callers = callers_of(rt, alloc, &mut maker, size)?;
-    let ended = run_threads(rt, alloc, scope, flow, callers, size)?;
+    let ended = run_threads(rt, alloc, scope, callers, size)?;
     let Ended {
         mut emitters,
         mut readers,
@@ -61,25 +60,33 @@ fn run_in<'s, E, R: Threads + Wait + Sync>(
     Some(got)
 }
 
-/// Runs a crowd at this flow, in a scope of its own.
-fn run_at<R: Threads + Wait + Sync>(
+/// Runs a crowd through the first caller of its flow, in a scope of its own.
+fn run_with<R: Threads + Wait + Sync>(
     rt: &R,
     alloc: Global,
-    flow: &SharedFlow<u64>,
-    seat: Seat<u64>,
+    maker: Emitter<u64>,
     size: CrowdSize,
 ) -> Option<Vec<Vec<u64>>>
-    requires { IsNewFlow flow.now seat }
+    requires { IsFirst maker }
     ensures { IfSome result (EachGotAll size) }
 {
     thread::scope(
         thread::scope_env(),
         rt,
         move |scope| -> Option<Vec<Vec<u64>>>
-            requires { IsNewFlow flow.now seat }
+            requires { IsFirst maker }
             ensures { IfSome result (EachGotAll size) }
-        { run_in(rt, alloc, scope, flow, seat, size) },
+        { run_in(rt, alloc, scope, maker, size) },
     )
+}
+
+/// Makes a flow with no replay and room for 16 values, which suspends its emitters. Returns its first caller, or `None`
+/// if memory was refused.
+fn new_flow(alloc: Global) -> Option<Emitter<u64>>
+    ensures { IfSome result IsFirst }
+{
+    let (flow, seat) = SharedFlow::new(alloc, Config::new().extra(16)).ok()?;
+    flow.into_emitter(alloc, seat).ok()
 }
 
 /// Runs a crowd at a new flow. `None` if memory or a thread was refused.
@@ -90,8 +97,8 @@ fn at_new_flow<R: Threads + Wait + Sync>(
 ) -> Option<Vec<Vec<u64>>>
     ensures { IfSome result (EachGotAll size) }
 {
-    let (flow, seat) = SharedFlow::new(alloc, Config::new().extra(16)).ok()?;
-    run_at(rt, alloc, &flow, seat, size)
+    let maker = new_flow(alloc)?;
+    run_with(rt, alloc, maker, size)
 }
 
 /// Runs a crowd at a new shared flow with no replay and room for 16 values, whose emitters wait for the slowest

@@ -70,7 +70,7 @@ module _ {T A : Type 0} (flow : GateOrigin (SharedFlowState T)) where
   waited_same e f p (sent.Done x) h = waits_same flow e f x p.1 (subst (λ n. EmitEnds flow n f.token x) p.0 h)
   waited_same e f p (sent.Refused x y fault) h = absurd h
 
-  sends_same : (s s' : EmitStage T A) → EmitPolls flow s Pending s' → (x : Sent T A) → FutureSends flow s' x → FutureSends flow s x
+  pub sends_same : (s s' : EmitStage T A) → EmitPolls flow s Pending s' → (x : Sent T A) → FutureSends flow s' x → FutureSends flow s x
   sends_same (Fresh t v) (Fresh u w) p = fresh_same t u v w p
   sends_same (Fresh t v) (Waiting e) p = queued_same t v e p
   sends_same (Fresh t v) Ended p = absurd p

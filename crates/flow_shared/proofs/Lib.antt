@@ -3,6 +3,7 @@ pub mod Drains
 pub mod Emissions
 pub mod EmitCountLemmas
 pub mod EmitRuns
+pub mod SendRuns
 pub mod NextRuns
 pub mod NextTries
 pub mod Refusals

@@ -19,7 +19,7 @@ use Rattle.flow_law.proofs.TokenLemmas.{next_fault}
 use Rattle.flow_gate.specs.Tokens.{GateOrigin}
 use Rattle.flow_shared.specs.Calls.{GateNumbered, NextsOf, NextsNow}
 use Rattle.flow_shared.specs.Receiving.{NextsAfter, FlowReceives, as_next}
-use Rattle.flow_shared.specs.Polling.{NextsAtOnce, PollsNext, Yields, GivesChanged, polled_by}
+use Rattle.flow_shared.specs.Polling.{NextsAtOnce, PollsNext, Yields, GivesNext, polled_by}
 use Rattle.flow_shared.specs.CoreCalls.{IsWait}
 use Rattle.flow_shared.proofs.Waits.{called_later}
 
@@ -90,11 +90,11 @@ module _ {T S C R : Type 0} (kind : Kind T S C R) where
       → (xs : List (Result T MemoryError)) (next : Option (Result T MemoryError)) → Yields kind w.flow w.subscription xs next → Yields kind r.flow r.subscription xs next
   yields_later r w is p xs next h = yields_on kind r.flow r.subscription w.subscription p xs next (subst (λ f. Yields kind f w.subscription xs next) is h)
 
-  pub changed_first : (r w : Bound) (given : Result T MemoryError) → w.flow ≡ r.flow → PollsNext kind r.flow r.subscription (Ready given) w.subscription → GivesChanged kind (Some r) (w, given)
+  pub changed_first : (r w : Bound) (given : Result T MemoryError) → w.flow ≡ r.flow → PollsNext kind r.flow r.subscription (Ready given) w.subscription → GivesNext kind (Some r) (w, given)
   changed_first r w given is p = (is, receives_at_once kind r.flow r.subscription w.subscription given p)
 
   pub changed_later : (r w : Bound) → w.flow ≡ r.flow → PollsNext kind r.flow r.subscription Pending w.subscription
-      → (given : Bound × Result T MemoryError) → GivesChanged kind (Some w) given → GivesChanged kind (Some r) given
+      → (given : Bound × Result T MemoryError) → GivesNext kind (Some w) given → GivesNext kind (Some r) given
   changed_later r w is p given h =
       let result = answer_by memory_fault given.1 in
       let now = subst (λ f. FlowReceives kind f w.subscription result given.0.subscription) is h.1 in

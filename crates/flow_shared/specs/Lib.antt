@@ -8,6 +8,7 @@ pub mod SeenLaws
 pub mod EmitCounts
 pub mod Futures
 pub mod EmitFutures
+pub mod SendFutures
 pub mod NextFutures
 pub mod Receiving
 pub mod WaitingFor

@@ -48,13 +48,13 @@ module _ {T S C R : Type 0} (kind : Kind T S C R) (flow : GateOrigin S) where
   Yields old (x ∷ xs) next = (u : GateNumbered (Said C R)) × FlowReceives kind flow old (answer_by memory_fault x) u × Yields u xs next
 
 -- One poll of a future of a reader, by the reader before it, its answer and the reader after it. A poll after `Ready` does nothing.
-abbrev pub PollsChange : {T S C R : Type 0} → Kind T S C R → Option (ReaderOf TableId S (Said C R)) → Polled (ReaderOf TableId S (Said C R) × Result T MemoryError) → Option (ReaderOf TableId S (Said C R)) → Type 0
-PollsChange kind (Some old) Pending (Some new) = (new.flow ≡ old.flow) × PollsNext kind old.flow old.subscription Pending new.subscription
-PollsChange kind (Some old) (Ready given) None = (given.0.flow ≡ old.flow) × PollsNext kind old.flow old.subscription (Ready given.1) given.0.subscription
-PollsChange kind None Pending None = ⊤
-PollsChange kind _ _ _ = ⊥
+abbrev pub PollsReader : {T S C R : Type 0} → Kind T S C R → Option (ReaderOf TableId S (Said C R)) → Polled (ReaderOf TableId S (Said C R) × Result T MemoryError) → Option (ReaderOf TableId S (Said C R)) → Type 0
+PollsReader kind (Some old) Pending (Some new) = (new.flow ≡ old.flow) × PollsNext kind old.flow old.subscription Pending new.subscription
+PollsReader kind (Some old) (Ready given) None = (given.0.flow ≡ old.flow) × PollsNext kind old.flow old.subscription (Ready given.1) given.0.subscription
+PollsReader kind None Pending None = ⊤
+PollsReader kind _ _ _ = ⊥
 
 -- what a future of a reader may give: the reader, and the value that it received or its refusal; nothing more after `Ready`
-abbrev pub GivesChanged : {T S C R : Type 0} → Kind T S C R → Option (ReaderOf TableId S (Said C R)) → ReaderOf TableId S (Said C R) × Result T MemoryError → Type 0
-GivesChanged kind (Some reader) given = (given.0.flow ≡ reader.flow) × FlowReceives kind reader.flow reader.subscription (answer_by memory_fault given.1) given.0.subscription
-GivesChanged kind None given = ⊥
+abbrev pub GivesNext : {T S C R : Type 0} → Kind T S C R → Option (ReaderOf TableId S (Said C R)) → ReaderOf TableId S (Said C R) × Result T MemoryError → Type 0
+GivesNext kind (Some reader) given = (given.0.flow ≡ reader.flow) × FlowReceives kind reader.flow reader.subscription (answer_by memory_fault given.1) given.0.subscription
+GivesNext kind None given = ⊥

@@ -8,9 +8,9 @@
 //!
 //! `receive`, `changed` and `send` wait for a value and for room: the thread sleeps until another call wakes it.
 //!
-//! # Lent and owned
-//! `BoundSeat` and `BoundSubscription` hold their flow as a `&Flow` or as an `Arc<Flow>` (`HoldsFlow`), and most calls
-//! are written once for both. `another` is written twice: one more owner may be refused.
+//! # Owners
+//! A handle owns its flow together with the flow's other handles, by an `Arc`: a thread or a task that has one may outlive
+//! the function that made the flow. Dropping the last one drops the flow.
 ghost use Rattle.std.specs.Prelude.{◌≡◌, ◌⊎◌};
 ghost use Rattle.flow_law.specs.history.HandleFaults.{number_fault, emit_now_fault, try_next_fault};
 ghost use Rattle.flow_shared.specs.SharedReplies.{IsEmitFault};
@@ -18,7 +18,6 @@ ghost use Rattle.flow_shared.specs.SharedReplies.{IsEmitFault};
 mod bound_emission;
 mod caller;
 mod emitter;
-mod held;
 mod iterating;
 mod reader;
 mod setter;
@@ -28,17 +27,13 @@ mod view_reader;
 mod waits;
 
 pub use bound_emission::{BoundEmission, EmitAnswer, PollAnswer};
-pub use caller::{BoundSeat, FlowCaller, OwnedCaller};
-pub use emitter::{Emitter, OwnedEmitter};
+pub use caller::FlowCaller;
+pub use emitter::Emitter;
 use flow_law::{EmitNowError, FlowFault, NumberError, TryNextError};
-pub use held::{HoldsFlow, SharesFlow};
 pub use iterating::{Values, ValuesUntil};
-pub use reader::{
-    BoundSubscription, FlowReader, OwnedFlowReader, OwnedReader, OwnedStateReader, Reader,
-    StateReader,
-};
-pub use setter::{OwnedSetter, Setter};
-pub use values::{FlowValues, StateChangedFuture};
+pub use reader::{FlowReader, Reader, StateReader};
+pub use setter::Setter;
+pub use values::{FlowValues, ReceiveFuture};
 pub use view::{FlowView, SharedView, StateView};
 pub use view_reader::ViewReader;
 

@@ -7,7 +7,7 @@ ghost use Rattle.flow_law.specs.flow.StateFlow.{state_after_all};
 ghost use Rattle.flow_shared.specs.SeenLaws.{SharedLaws, StateLaws};
 
 use crate::flow::Flow;
-use crate::handles::{BoundSeat, BoundSubscription, HoldsFlow};
+use crate::handles::{FlowCaller, FlowReader};
 use crate::shared::{Seat, Subscription};
 use crate::state::{StateSeat, StateSubscription};
 use flow_core::{SharedCore, StateCore};
@@ -66,39 +66,27 @@ impl<T: FlowValue, A: Allocator + Copy> Flow<StateCore<T, A>, A> {
     }
 }
 
-impl<T: FlowValue, A: Allocator + Copy, H: HoldsFlow<SharedCore<T, A>, A>> BoundSeat<
-    SharedCore<T, A>,
-    A,
-    H,
-> {
+impl<T: FlowValue, A: Allocator + Copy> FlowCaller<SharedCore<T, A>, A> {
     /// Proves the laws of shared flows for what the caller has seen, as `seen` of a flow does.
     pub fn seen(&mut self)
         ensures unchanged { self.new ≡ self.old }
         ensures laws { SharedLaws self.new.flow.first self.new.token.knows.seen }
     {
-        self.flow.lend().seen(&mut self.seat);
+        self.flow.seen(&mut self.seat);
     }
 }
 
-impl<T: FlowValue, A: Allocator + Copy, H: HoldsFlow<StateCore<T, A>, A>> BoundSeat<
-    StateCore<T, A>,
-    A,
-    H,
-> {
+impl<T: FlowValue, A: Allocator + Copy> FlowCaller<StateCore<T, A>, A> {
     /// Proves the laws of state flows for what the caller has seen, as `seen` of a flow does.
     pub fn seen(&mut self)
         ensures unchanged { self.new ≡ self.old }
         ensures laws { StateLaws self.new.flow.first self.new.token.knows.seen }
     {
-        self.flow.lend().seen(&mut self.seat);
+        self.flow.seen(&mut self.seat);
     }
 }
 
-impl<T: FlowValue, A: Allocator + Copy, H: HoldsFlow<SharedCore<T, A>, A>> BoundSubscription<
-    SharedCore<T, A>,
-    A,
-    H,
-> {
+impl<T: FlowValue, A: Allocator + Copy> FlowReader<SharedCore<T, A>, A> {
     /// Proves the laws of shared flows for what the subscription has seen, as `seen` of a flow does.
     pub fn seen(&mut self)
         ensures unchanged { self.new ≡ self.old }
@@ -107,17 +95,11 @@ impl<T: FlowValue, A: Allocator + Copy, H: HoldsFlow<SharedCore<T, A>, A>> Bound
             (state_after self.new.flow.first.config
             self.new.subscription.token.knows.seen).subscribers) }
     {
-        self.flow
-            .lend()
-            .seen_by_subscription(&mut self.subscription);
+        self.flow.seen_by_subscription(&mut self.subscription);
     }
 }
 
-impl<T: FlowValue, A: Allocator + Copy, H: HoldsFlow<StateCore<T, A>, A>> BoundSubscription<
-    StateCore<T, A>,
-    A,
-    H,
-> {
+impl<T: FlowValue, A: Allocator + Copy> FlowReader<StateCore<T, A>, A> {
     /// Proves the laws of state flows for what the subscription has seen, as `seen` of a flow does.
     pub fn seen(&mut self)
         ensures unchanged { self.new ≡ self.old }
@@ -125,8 +107,6 @@ impl<T: FlowValue, A: Allocator + Copy, H: HoldsFlow<StateCore<T, A>, A>> BoundS
         ensures subscribed { IsThere self.new.subscription.number
             (state_after_all self.new.flow.first self.new.subscription.token.knows.seen) }
     {
-        self.flow
-            .lend()
-            .seen_by_subscription(&mut self.subscription);
+        self.flow.seen_by_subscription(&mut self.subscription);
     }
 }

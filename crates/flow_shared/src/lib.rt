@@ -7,10 +7,9 @@
 //! A caller holds a token: a seat, a subscription or a suspended emission. `new` makes the first seat, and `seat` makes
 //! more, one for each thread. A call takes its token and returns it, so two calls through one token never overlap. A
 //! token is used with the flow that made it; each call requires that by the flow's `table_id`. A handle (`Emitter`,
-//! `Setter`, `Reader`, `StateReader`) is a token with its flow, and requires nothing: begin with `flow.emitter(seat)`
-//! or `flow.setter(seat)`. These lend the flow. `flow.into_emitter(alloc, seat)` and `flow.into_setter(alloc, seat)`
-//! give handles that own it together (`OwnedEmitter` and so on), for threads that outlive the function that made the
-//! flow.
+//! `Setter`, `Reader`, `StateReader`) is a token with its flow, and requires nothing: begin with
+//! `flow.into_emitter(alloc, seat)` or `flow.into_setter(alloc, seat)`. The handles of a flow own it together, so a
+//! thread or a task that has one may outlive the function that made the flow.
 //!
 //! # What each call promises
 //! A call that is one event has a clause with the word `SharedCalls` (of a state flow `StateCalls`), or with one like
@@ -41,6 +40,7 @@ mod flow;
 mod handles;
 mod laws;
 mod next_future;
+mod send_future;
 mod shared;
 mod state;
 mod subscriber;
@@ -48,15 +48,15 @@ mod token;
 mod watcher;
 
 pub use drain::DrainEnd;
-pub use emit_future::{EmitFuture, EmitStage, SendFuture, Sent};
+pub use emit_future::{EmitFuture, EmitStage, Sent};
 pub use flow::Flow;
 pub use handles::{
-    BoundEmission, BoundSeat, BoundSubscription, EmitAnswer, Emitter, FlowCaller, FlowReader,
-    FlowValues, FlowView, HoldsFlow, OwnedCaller, OwnedEmitter, OwnedFlowReader, OwnedReader,
-    OwnedSetter, OwnedStateReader, PollAnswer, Reader, Setter, SharedView, SharesFlow,
-    StateChangedFuture, StateReader, StateView, Values, ValuesUntil, ViewReader,
+    BoundEmission, EmitAnswer, Emitter, FlowCaller, FlowReader, FlowValues, FlowView, PollAnswer,
+    Reader, ReceiveFuture, Setter, SharedView, StateReader, StateView, Values, ValuesUntil,
+    ViewReader,
 };
-pub use next_future::{NextFuture, ReceiveFuture, Received};
+pub use next_future::{NextFuture, Received};
+pub use send_future::{SendAnswer, SendFuture};
 pub use shared::{Seat, SendEnd, SharedFlow, Subscription};
 pub use state::{StateFlow, StateSeat, StateSubscription};
 pub use token::{Emission, Emitted, FlowSeat, FlowSubscription, Polled, PolledNow};

@@ -152,7 +152,7 @@ impl<S: ReaderCalls + Drop, A: Allocator + Copy> Flow<S, A> {
     }
 }
 
-impl<'a, S: ReaderCalls + Drop, A: Allocator + Copy> FlowCaller<'a, S, A> {
+impl<S: ReaderCalls + Drop, A: Allocator + Copy> FlowCaller<S, A> {
     /// Counts the subscribers as `subscription_count` does, and wakes all watchers.
     pub fn count_and_wake_watchers<R: Wait>(&mut self, rt: &R) -> u64
         ensures flow { self.new.flow ≡ self.old.flow }

@@ -21,8 +21,8 @@ use std::sync::Wait;
 /// A collection of `stateIn` over `map` of a `StateFlow`.
 pub fn derive_state<R: Wait, T: FlowValue, U: FlowValue, F: Fn(&T) -> U>(
     rt: &R,
-    from: &mut StateReader<'_, T>,
-    to: &mut Setter<'_, U>,
+    from: &mut StateReader<T>,
+    to: &mut Setter<U>,
     map: F,
 ) -> Result<T, OutOfMemory>
     requires callable { F.IsAlwaysCallable map }
@@ -49,8 +49,8 @@ pub fn derive_state<R: Wait, T: FlowValue, U: FlowValue, F: Fn(&T) -> U>(
 /// A collection of `stateIn` over `map` of a `SharedFlow`.
 pub fn derive_from<R: Wait, T: FlowValue, U: FlowValue, F: Fn(&T) -> U>(
     rt: &R,
-    from: &mut Reader<'_, T>,
-    to: &mut Setter<'_, U>,
+    from: &mut Reader<T>,
+    to: &mut Setter<U>,
     map: F,
 ) -> Result<T, OutOfMemory>
     requires callable { F.IsAlwaysCallable map }

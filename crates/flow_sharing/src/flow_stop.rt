@@ -32,7 +32,7 @@ impl FlowStop {
     pub fn ask<R: Wait, S: ReaderCalls + Drop, A: Allocator + Copy>(
         &self,
         rt: &R,
-        caller: &mut FlowCaller<'_, S, A>,
+        caller: &mut FlowCaller<S, A>,
     ) -> u64
         ensures flow { caller.new.flow ≡ caller.old.flow }
         ensures counted { Counts S.kind caller.old.flow caller.old.token result caller.new.token }

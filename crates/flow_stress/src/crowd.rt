@@ -32,7 +32,7 @@ pub fn pause_at_random<R: Wait + Clock>(rt: &R, dice: &mut Pcg32) {
 /// Sends a value, with a time limit or without one. Returns whether it was sent.
 fn is_sent<R: Wait + Clock>(
     rt: &R,
-    emitter: &mut Emitter<'_, u64>,
+    emitter: &mut Emitter<u64>,
     value: u64,
     is_limited: bool,
 ) -> bool {
@@ -50,7 +50,7 @@ fn is_sent<R: Wait + Clock>(
 /// Without a buffer it sends without a time limit: some readers may already have received a value that still waits.
 fn send<R: Wait + Clock>(
     rt: &R,
-    emitter: &mut Emitter<'_, u64>,
+    emitter: &mut Emitter<u64>,
     value: u64,
     has_room: bool,
     dice: &mut Pcg32,
@@ -68,7 +68,7 @@ fn send<R: Wait + Clock>(
 /// Sends all values of the emitter of this number.
 fn send_all<R: Wait + Clock>(
     rt: &R,
-    emitter: &mut Emitter<'_, u64>,
+    emitter: &mut Emitter<u64>,
     number: u32,
     size: CrowdSize,
     dice: &mut Pcg32,
@@ -80,11 +80,7 @@ fn send_all<R: Wait + Clock>(
 }
 
 /// Receives a value, with a time limit or without one. Returns None at the limit, or if memory is refused.
-fn received<R: Wait + Clock>(
-    rt: &R,
-    reader: &mut Reader<'_, u64>,
-    is_limited: bool,
-) -> Option<u64> {
+fn received<R: Wait + Clock>(rt: &R, reader: &mut Reader<u64>, is_limited: bool) -> Option<u64> {
     if is_limited {
         return reader
             .receive_timeout(rt, Duration::from_micros(LIMIT))
@@ -94,7 +90,7 @@ fn received<R: Wait + Clock>(
 }
 
 /// Receives the next value. Now and then a try has a time limit.
-fn receive<R: Wait + Clock>(rt: &R, reader: &mut Reader<'_, u64>, dice: &mut Pcg32) -> u64 {
+fn receive<R: Wait + Clock>(rt: &R, reader: &mut Reader<u64>, dice: &mut Pcg32) -> u64 {
     for _ in rt.forever() {
         pause_at_random(rt, dice);
         let is_limited = dice.next_word() % 32 == 0;
@@ -108,7 +104,7 @@ fn receive<R: Wait + Clock>(rt: &R, reader: &mut Reader<'_, u64>, dice: &mut Pcg
 /// Receives all values. Checks that it got all values of each emitter, in order, and nothing else.
 fn receive_all<R: Wait + Clock>(
     rt: &R,
-    reader: &mut Reader<'_, u64>,
+    reader: &mut Reader<u64>,
     values: u32,
     dice: &mut Pcg32,
 ) -> Found {
@@ -124,7 +120,7 @@ fn receive_all<R: Wait + Clock>(
 /// Receives all values, and unsubscribes. Returns None if there is no subscription.
 fn receive_and_leave<R: Wait + Clock>(
     rt: &R,
-    subscriber: &mut Subscriber<'_, SharedCore<u64>>,
+    subscriber: &mut Subscriber<SharedCore<u64>>,
     values: u32,
     dice: &mut Pcg32,
 ) -> Option<Found> {
@@ -139,7 +135,7 @@ fn receive_and_leave<R: Wait + Clock>(
 /// Does the work of one thread of a crowd. Returns None if memory is refused.
 pub fn work_in_crowd<R: Wait + Clock>(
     rt: &R,
-    subscriber: &mut Subscriber<'_, SharedCore<u64>>,
+    subscriber: &mut Subscriber<SharedCore<u64>>,
     size: CrowdSize,
     turn: &mut Turn,
 ) -> Option<Found> {

@@ -11,7 +11,7 @@ use std::thread::yield_now;
 const POLLS: u32 = 100;
 
 /// Polls an emission, and cancels it if it waits too long. Returns whether its value was emitted.
-fn is_done_in_time<R: Wait>(rt: &R, emission: BoundEmission<'_, u64>) -> bool {
+fn is_done_in_time<R: Wait>(rt: &R, emission: BoundEmission<u64>) -> bool {
     let mut emission = emission;
     for _ in 0..POLLS {
         yield_now();
@@ -25,8 +25,8 @@ fn is_done_in_time<R: Wait>(rt: &R, emission: BoundEmission<'_, u64>) -> bool {
 }
 
 /// Emits a value, and waits a while for room. Returns whether it was emitted, or None if memory is refused.
-fn emit<R: Wait>(rt: &R, emitter: &mut Emitter<'_, u64>, value: u64) -> Option<bool> {
-    match emitter.another().emit(rt, value) {
+fn emit<R: Wait>(rt: &R, emitter: &mut Emitter<u64>, value: u64) -> Option<bool> {
+    match emitter.another(rt).emit(rt, value) {
         EmitAnswer::Done(_emitter) => Some(true),
         EmitAnswer::Queued(emission) => Some(is_done_in_time(rt, emission)),
         EmitAnswer::Refused(_emitter, _rejected) => None,
@@ -35,7 +35,7 @@ fn emit<R: Wait>(rt: &R, emitter: &mut Emitter<'_, u64>, value: u64) -> Option<b
 
 /// Emits once in each round, by the call that the dice choose. Tries a value that was not emitted again in the next
 /// round. Returns None if memory is refused.
-pub fn emit_all<R: Wait>(rt: &R, emitter: &mut Emitter<'_, u64>, turn: &mut Turn) -> Option<Found> {
+pub fn emit_all<R: Wait>(rt: &R, emitter: &mut Emitter<u64>, turn: &mut Turn) -> Option<Found> {
     let mut place = 0u64;
     for _ in 0..turn.rounds {
         let value = value_of(turn.number, place);

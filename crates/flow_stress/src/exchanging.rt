@@ -4,7 +4,7 @@ use crate::found::Found;
 use crate::order::{Gets, Order, value_of};
 use flow_core::SharedCore;
 use flow_law::OutOfMemory;
-use flow_shared::{Emitter, FlowValues, Sent};
+use flow_shared::{Emitter, FlowValues};
 use futures::executor::block_on;
 use futures::{Future, Stream, StreamExt};
 use std::alloc::AllocGlobal;
@@ -21,11 +21,11 @@ fn wait_for<R: Wait + RandomSource + AllocGlobal, F: Future>(rt: &R, future: F) 
 /// Emits a value. Returns None if memory is refused.
 fn send<R: Wait + RandomSource + AllocGlobal>(
     rt: &R,
-    emitter: &mut Emitter<'_, u64>,
+    emitter: &mut Emitter<u64>,
     value: u64,
 ) -> Option<()> {
-    match wait_for(rt, emitter.another().into_send(value)) {
-        Some(Sent::Done(_seat)) => Some(()),
+    match wait_for(rt, emitter.another(rt).into_send(value)) {
+        Some((_emitter, Ok(()))) => Some(()),
         _ => None,
     }
 }
@@ -47,8 +47,8 @@ fn receive<R: Wait + RandomSource + AllocGlobal, S: Stream<Item = Result<u64, Ou
 /// one each time. Returns None if memory is refused.
 fn exchange<R: Wait + RandomSource + AllocGlobal>(
     rt: &R,
-    emitter: &mut Emitter<'_, u64>,
-    values: &mut FlowValues<'_, SharedCore<u64>>,
+    emitter: &mut Emitter<u64>,
+    values: &mut FlowValues<SharedCore<u64>>,
     turn: &Turn,
 ) -> Option<Found> {
     let mut order = Order::new(Gets::Rising);
@@ -64,7 +64,7 @@ fn exchange<R: Wait + RandomSource + AllocGlobal>(
 /// Subscribes, and makes all rounds. Returns None if memory is refused.
 pub fn exchange_all<R: Wait + RandomSource + AllocGlobal>(
     rt: &R,
-    emitter: &mut Emitter<'_, u64>,
+    emitter: &mut Emitter<u64>,
     turn: &Turn,
 ) -> Option<Found> {
     let Ok(reader) = emitter.subscribe(rt) else {

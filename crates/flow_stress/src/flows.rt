@@ -56,7 +56,7 @@ where
     let Ok((flow, seat)) = SharedFlow::new(alloc, config) else {
         return None;
     };
-    let first = Subscriber::new(flow.emitter(seat));
+    let first = Subscriber::new(flow.into_emitter(alloc, seat).ok()?);
     run(rt, alloc, first, job, size)
 }
 
@@ -68,7 +68,7 @@ where
     let Ok((flow, seat)) = StateFlow::new(alloc, 0, u64::MAX) else {
         return None;
     };
-    let first = Subscriber::new(flow.setter(seat));
+    let first = Subscriber::new(flow.into_setter(alloc, seat).ok()?);
     run(rt, alloc, first, job, size)
 }
 
@@ -80,7 +80,7 @@ where
     let Ok((flow, seat)) = WordState::new(alloc, 0, u32::MAX) else {
         return None;
     };
-    let first = WordSubscriber::new(flow.setter(seat));
+    let first = WordSubscriber::new(flow.into_setter(alloc, seat).ok()?);
     run(rt, alloc, first, job, size)
 }
 
@@ -92,7 +92,7 @@ where
     let Ok((flow, seat)) = WordFlow::new(alloc, config) else {
         return None;
     };
-    let first = WordFlowSubscriber::new(flow.emitter(seat));
+    let first = WordFlowSubscriber::new(flow.into_emitter(alloc, seat).ok()?);
     run(rt, alloc, first, job, size)
 }
 

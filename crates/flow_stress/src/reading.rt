@@ -18,7 +18,7 @@ const LATE: u32 = 20_000;
 
 /// Takes the next value without waiting; there is none while another caller is inside the flow. Returns None if memory
 /// is refused, or if there is no subscription.
-fn try_next(subscriber: &mut Subscriber<'_, SharedCore<u64>>) -> Option<Option<u64>> {
+fn try_next(subscriber: &mut Subscriber<SharedCore<u64>>) -> Option<Option<u64>> {
     let Some(reader) = &mut subscriber.reader else {
         return None;
     };
@@ -32,7 +32,7 @@ fn try_next(subscriber: &mut Subscriber<'_, SharedCore<u64>>) -> Option<Option<u
 /// Reads by the calls that the dice choose. Returns None if memory is refused.
 fn read<R: Wait>(
     rt: &R,
-    subscriber: &mut Subscriber<'_, SharedCore<u64>>,
+    subscriber: &mut Subscriber<SharedCore<u64>>,
     dice: &mut Pcg32,
 ) -> Option<Found> {
     let mut order = Order::new(Gets::Following);
@@ -53,7 +53,7 @@ fn read<R: Wait>(
 /// Subscribes, reads and unsubscribes. Returns None if memory is refused.
 fn read_once<R: Wait>(
     rt: &R,
-    subscriber: &mut Subscriber<'_, SharedCore<u64>>,
+    subscriber: &mut Subscriber<SharedCore<u64>>,
     dice: &mut Pcg32,
 ) -> Option<Found> {
     subscriber.subscribe(rt)?;
@@ -66,7 +66,7 @@ fn read_once<R: Wait>(
 /// the flow replays what was emitted. Returns None if memory is refused.
 pub fn read_all<R: Wait>(
     rt: &R,
-    subscriber: &mut Subscriber<'_, SharedCore<u64>>,
+    subscriber: &mut Subscriber<SharedCore<u64>>,
     turn: &mut Turn,
 ) -> Option<Found> {
     let mut found = NOTHING;

@@ -18,7 +18,7 @@ use std::time::{Clock, Duration};
 /// How long an `emit` waits before it is cancelled, in microseconds.
 const LIMIT: u64 = 100;
 
-fn emit<R: Wait + Clock>(rt: &R, emitter: &mut Emitter<'_, u64>, value: u64) -> Option<Answer> {
+fn emit<R: Wait + Clock>(rt: &R, emitter: &mut Emitter<u64>, value: u64) -> Option<Answer> {
     let limit = Duration::from_micros(LIMIT);
     match emitter.send_timeout(rt, value, limit) {
         Ok(SendEnd::Done) => Some(Answer::Done),
@@ -27,32 +27,32 @@ fn emit<R: Wait + Clock>(rt: &R, emitter: &mut Emitter<'_, u64>, value: u64) -> 
     }
 }
 
-fn try_emit<R: Wait>(rt: &R, emitter: &mut Emitter<'_, u64>, value: u64) -> Option<Answer> {
+fn try_emit<R: Wait>(rt: &R, emitter: &mut Emitter<u64>, value: u64) -> Option<Answer> {
     match emitter.try_emit(rt, value) {
         Ok(is_taken) => Some(Answer::Truth(is_taken)),
         Err(_rejected) => None,
     }
 }
 
-fn replay_cache<R: Wait>(rt: &R, emitter: &mut Emitter<'_, u64>) -> Option<Answer> {
+fn replay_cache<R: Wait>(rt: &R, emitter: &mut Emitter<u64>) -> Option<Answer> {
     let Ok(cache) = emitter.replay_cache(rt) else {
         return None;
     };
     Some(Answer::of_cache(cache.as_slice()))
 }
 
-fn reset_replay_cache<R: Wait>(rt: &R, emitter: &mut Emitter<'_, u64>) -> Answer {
+fn reset_replay_cache<R: Wait>(rt: &R, emitter: &mut Emitter<u64>) -> Answer {
     emitter.reset_replay_cache(rt);
     Answer::Done
 }
 
-impl Caller for Subscriber<'_, SharedCore<u64>> {
+impl Caller for Subscriber<SharedCore<u64>> {
     /// Returns another caller. Readers of a crowd subscribe before a thread begins.
     fn another<R: Wait>(&mut self, rt: &R, job: Job, number: u32) -> Option<Self> {
         if job.reads_at_once(number) {
             self.another_reader(rt)
         } else {
-            Some(self.another_caller())
+            Some(self.another_caller(rt))
         }
     }
 
@@ -73,7 +73,7 @@ impl Caller for Subscriber<'_, SharedCore<u64>> {
     }
 }
 
-impl Recorded for Subscriber<'_, SharedCore<u64>> {
+impl Recorded for Subscriber<SharedCore<u64>> {
     fn choose(number: u32, fresh: u64) -> Call {
         call_of_shared(number, fresh)
     }

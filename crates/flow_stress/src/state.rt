@@ -17,7 +17,7 @@ use std::time::Clock;
 
 /// Reads the value and adds 1 to it, unless another thread changes it first. Returns the value and how much was added,
 /// or None if memory is refused.
-fn try_add<R: Wait>(rt: &R, setter: &mut Setter<'_, u64>) -> Option<(u64, u64)> {
+fn try_add<R: Wait>(rt: &R, setter: &mut Setter<u64>) -> Option<(u64, u64)> {
     let value = setter.value(rt).ok()?;
     let is_set = setter.compare_and_set(rt, &value, value.wrapping_add(1));
     Some((value, u64::from(is_set)))
@@ -26,7 +26,7 @@ fn try_add<R: Wait>(rt: &R, setter: &mut Setter<'_, u64>) -> Option<(u64, u64)> 
 /// Subscribes, reads twice, and unsubscribes. Returns whether the values are in order, or None if memory is refused.
 fn reads_in_order<R: Wait>(
     rt: &R,
-    subscriber: &mut Subscriber<'_, StateCore<u64>>,
+    subscriber: &mut Subscriber<StateCore<u64>>,
     last: u64,
 ) -> Option<bool> {
     subscriber.subscribe(rt)?;
@@ -39,7 +39,7 @@ fn reads_in_order<R: Wait>(
 /// Makes rounds of calls that the dice choose. The value must never fall. Returns None if memory is refused.
 fn add_all<R: Wait>(
     rt: &R,
-    subscriber: &mut Subscriber<'_, StateCore<u64>>,
+    subscriber: &mut Subscriber<StateCore<u64>>,
     turn: &mut Turn,
 ) -> Option<Found> {
     let mut last = 0;
@@ -61,14 +61,14 @@ fn try_value_after(value: &u64) -> Result<u64, OutOfMemory> {
     Ok(value_after(*value))
 }
 
-fn update<R: Wait>(rt: &R, setter: &mut Setter<'_, u64>) -> Option<Answer> {
+fn update<R: Wait>(rt: &R, setter: &mut Setter<u64>) -> Option<Answer> {
     let old = setter.get_and_update(rt, try_value_after).ok()?;
     Some(Answer::Exchange(old, value_after(old)))
 }
 
-impl Caller for Subscriber<'_, StateCore<u64>> {
-    fn another<R: Wait>(&mut self, _rt: &R, _job: Job, _number: u32) -> Option<Self> {
-        Some(self.another_caller())
+impl Caller for Subscriber<StateCore<u64>> {
+    fn another<R: Wait>(&mut self, rt: &R, _job: Job, _number: u32) -> Option<Self> {
+        Some(self.another_caller(rt))
     }
 
     fn work<R: Host>(&mut self, rt: &R, turn: &mut Turn, clock: &AtomicU64) -> Option<Found> {
@@ -88,7 +88,7 @@ impl Caller for Subscriber<'_, StateCore<u64>> {
     }
 }
 
-impl Recorded for Subscriber<'_, StateCore<u64>> {
+impl Recorded for Subscriber<StateCore<u64>> {
     fn choose(number: u32, _fresh: u64) -> Call {
         call_of_state(number)
     }

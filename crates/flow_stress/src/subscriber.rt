@@ -6,14 +6,14 @@ use std::sync::Wait;
 
 /// A caller of a shared flow, or of a state flow behind a gate, and its subscription.
 #[derive(Drop)]
-pub struct Subscriber<'a, S: ReaderCalls + Drop> {
-    pub caller: FlowCaller<'a, S>,
-    pub reader: Option<FlowReader<'a, S>>,
+pub struct Subscriber<S: ReaderCalls + Drop> {
+    pub caller: FlowCaller<S>,
+    pub reader: Option<FlowReader<S>>,
 }
 
-impl<'a, S: ReaderCalls + Drop> Subscriber<'a, S> {
+impl<S: ReaderCalls + Drop> Subscriber<S> {
     /// Returns a caller without a subscription.
-    pub fn new(caller: FlowCaller<'a, S>) -> Subscriber<'a, S> {
+    pub fn new(caller: FlowCaller<S>) -> Subscriber<S> {
         Subscriber {
             caller,
             reader: None,
@@ -21,8 +21,8 @@ impl<'a, S: ReaderCalls + Drop> Subscriber<'a, S> {
     }
 
     /// Returns another caller of the same flow, without a subscription.
-    pub fn another_caller(&mut self) -> Subscriber<'a, S> {
-        Subscriber::new(self.caller.another())
+    pub fn another_caller<R: Wait>(&mut self, rt: &R) -> Subscriber<S> {
+        Subscriber::new(self.caller.another(rt))
     }
 
     /// Takes the next value, if there is one. Returns None if memory is refused, or if there is no subscription.
@@ -41,10 +41,10 @@ impl<'a, S: ReaderCalls + Drop> Subscriber<'a, S> {
     }
 }
 
-impl<'a, S: SubscriberCalls + Drop> Subscriber<'a, S> {
+impl<S: SubscriberCalls + Drop> Subscriber<S> {
     /// Returns another caller of the same flow, with a subscription. Returns None if memory is refused.
-    pub fn another_reader<R: Wait>(&mut self, rt: &R) -> Option<Subscriber<'a, S>> {
-        let mut made = self.another_caller();
+    pub fn another_reader<R: Wait>(&mut self, rt: &R) -> Option<Subscriber<S>> {
+        let mut made = self.another_caller(rt);
         made.subscribe(rt)?;
         Some(made)
     }
@@ -56,7 +56,7 @@ impl<'a, S: SubscriberCalls + Drop> Subscriber<'a, S> {
     }
 }
 
-impl<S: FlowCore<Item = u64> + SubscriberCalls + Drop> Subscriber<'_, S> {
+impl<S: FlowCore<Item = u64> + SubscriberCalls + Drop> Subscriber<S> {
     /// Subscribes, reads, unsubscribes or counts. Returns None for another call.
     pub fn make_of_subscriber<R: Wait>(&mut self, rt: &R, call: Call) -> Option<Answer> {
         match call {

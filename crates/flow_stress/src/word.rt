@@ -14,14 +14,14 @@ use std::time::Clock;
 
 /// A caller of a state flow without a lock, and its subscription.
 #[derive(Drop)]
-pub struct WordSubscriber<'a> {
-    pub setter: WordSetter<'a, u64>,
-    pub reader: Option<WordReader<'a, u64>>,
+pub struct WordSubscriber {
+    pub setter: WordSetter<u64>,
+    pub reader: Option<WordReader<u64>>,
 }
 
-impl<'a> WordSubscriber<'a> {
+impl WordSubscriber {
     /// Returns a caller without a subscription.
-    pub fn new(setter: WordSetter<'a, u64>) -> WordSubscriber<'a> {
+    pub fn new(setter: WordSetter<u64>) -> WordSubscriber {
         WordSubscriber {
             setter,
             reader: None,
@@ -34,14 +34,14 @@ fn one_more(value: u64) -> u64 {
 }
 
 /// Reads the value and adds 1 to it, unless another thread changes it first. Returns the value and how much was added.
-fn try_add(setter: &mut WordSetter<'_, u64>) -> (u64, u64) {
+fn try_add(setter: &mut WordSetter<u64>) -> (u64, u64) {
     let value = setter.value();
     let is_set = setter.compare_and_set(value, one_more(value));
     (value, u64::from(is_set))
 }
 
 /// Subscribes, reads twice, and unsubscribes. Returns whether the values are in order.
-fn reads_in_order<R: Wait>(rt: &R, setter: &mut WordSetter<'_, u64>, last: u64) -> bool {
+fn reads_in_order<R: Wait>(rt: &R, setter: &mut WordSetter<u64>, last: u64) -> bool {
     let Ok(mut reader) = setter.subscribe(rt) else {
         return false;
     };
@@ -52,7 +52,7 @@ fn reads_in_order<R: Wait>(rt: &R, setter: &mut WordSetter<'_, u64>, last: u64) 
 }
 
 /// Makes rounds of calls that the dice choose. The value must never fall, and an update must raise it.
-fn add_all<R: Wait>(rt: &R, setter: &mut WordSetter<'_, u64>, turn: &mut Turn) -> Found {
+fn add_all<R: Wait>(rt: &R, setter: &mut WordSetter<u64>, turn: &mut Turn) -> Found {
     let mut last = 0;
     let mut found = NOTHING;
     for _ in 0..turn.rounds {
@@ -76,7 +76,7 @@ fn add_all<R: Wait>(rt: &R, setter: &mut WordSetter<'_, u64>, turn: &mut Turn) -
 }
 
 /// Sets, reads or changes the value. Returns None for another call.
-fn make_of_word<R: Wait>(rt: &R, setter: &mut WordSetter<'_, u64>, call: Call) -> Option<Answer> {
+fn make_of_word<R: Wait>(rt: &R, setter: &mut WordSetter<u64>, call: Call) -> Option<Answer> {
     match call {
         Call::Set(value) => {
             setter.set(value);
@@ -94,7 +94,7 @@ fn make_of_word<R: Wait>(rt: &R, setter: &mut WordSetter<'_, u64>, call: Call) -
     }
 }
 
-impl WordSubscriber<'_> {
+impl WordSubscriber {
     fn next(&mut self) -> Option<Answer> {
         match &mut self.reader {
             Some(reader) => Some(Answer::of(reader.next())),
@@ -103,9 +103,9 @@ impl WordSubscriber<'_> {
     }
 }
 
-impl Caller for WordSubscriber<'_> {
-    fn another<R: Wait>(&mut self, _rt: &R, _job: Job, _number: u32) -> Option<Self> {
-        Some(WordSubscriber::new(self.setter.another()))
+impl Caller for WordSubscriber {
+    fn another<R: Wait>(&mut self, rt: &R, _job: Job, _number: u32) -> Option<Self> {
+        Some(WordSubscriber::new(self.setter.another(rt)))
     }
 
     fn work<R: Host>(&mut self, rt: &R, turn: &mut Turn, clock: &AtomicU64) -> Option<Found> {
@@ -125,7 +125,7 @@ impl Caller for WordSubscriber<'_> {
     }
 }
 
-impl Recorded for WordSubscriber<'_> {
+impl Recorded for WordSubscriber {
     fn choose(number: u32, _fresh: u64) -> Call {
         call_of_state(number)
     }

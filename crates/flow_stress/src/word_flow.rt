@@ -16,14 +16,14 @@ use std::time::{Clock, Duration};
 
 /// A caller of a word flow, and its subscription.
 #[derive(Drop)]
-pub struct WordFlowSubscriber<'a> {
-    pub emitter: WordEmitter<'a, u64>,
-    pub reader: Option<WordFlowReader<'a, u64>>,
+pub struct WordFlowSubscriber {
+    pub emitter: WordEmitter<u64>,
+    pub reader: Option<WordFlowReader<u64>>,
 }
 
-impl<'a> WordFlowSubscriber<'a> {
+impl WordFlowSubscriber {
     /// Returns a caller without a subscription.
-    pub fn new(emitter: WordEmitter<'a, u64>) -> WordFlowSubscriber<'a> {
+    pub fn new(emitter: WordEmitter<u64>) -> WordFlowSubscriber {
         WordFlowSubscriber {
             emitter,
             reader: None,
@@ -31,7 +31,7 @@ impl<'a> WordFlowSubscriber<'a> {
     }
 }
 
-impl WordFlowSubscriber<'_> {
+impl WordFlowSubscriber {
     /// Does the work of one thread of a crowd. Returns None if an emission is refused.
     fn work_in_crowd<R: Wait + Clock>(
         &mut self,
@@ -71,7 +71,7 @@ impl WordFlowSubscriber<'_> {
 /// Emits all values of the emitter of this number. Returns None if one was refused.
 fn emit_all<R: Wait + Clock>(
     rt: &R,
-    emitter: &mut WordEmitter<'_, u64>,
+    emitter: &mut WordEmitter<u64>,
     number: u32,
     size: CrowdSize,
     dice: &mut Pcg32,
@@ -84,7 +84,7 @@ fn emit_all<R: Wait + Clock>(
 }
 
 /// Receives the next value. Now and then a try has a time limit.
-fn receive<R: Wait + Clock>(rt: &R, reader: &mut WordFlowReader<'_, u64>, dice: &mut Pcg32) -> u64 {
+fn receive<R: Wait + Clock>(rt: &R, reader: &mut WordFlowReader<u64>, dice: &mut Pcg32) -> u64 {
     for _ in rt.forever() {
         pause_at_random(rt, dice);
         if dice.next_word() % 32 != 0 {
@@ -100,7 +100,7 @@ fn receive<R: Wait + Clock>(rt: &R, reader: &mut WordFlowReader<'_, u64>, dice: 
 /// Receives all values. Checks that it got all values of each emitter, in order, and nothing else.
 fn receive_all<R: Wait + Clock>(
     rt: &R,
-    reader: &mut WordFlowReader<'_, u64>,
+    reader: &mut WordFlowReader<u64>,
     values: u32,
     dice: &mut Pcg32,
 ) -> Found {
@@ -113,10 +113,10 @@ fn receive_all<R: Wait + Clock>(
     order.found
 }
 
-impl Caller for WordFlowSubscriber<'_> {
+impl Caller for WordFlowSubscriber {
     /// Returns another caller. Readers of a crowd subscribe before a thread begins.
     fn another<R: Wait>(&mut self, rt: &R, job: Job, number: u32) -> Option<Self> {
-        let mut made = WordFlowSubscriber::new(self.emitter.another());
+        let mut made = WordFlowSubscriber::new(self.emitter.another(rt));
         if job.reads_at_once(number) {
             made.reader = Some(made.emitter.subscribe(rt).ok()?);
         }
@@ -139,7 +139,7 @@ impl Caller for WordFlowSubscriber<'_> {
     }
 }
 
-impl Recorded for WordFlowSubscriber<'_> {
+impl Recorded for WordFlowSubscriber {
     fn choose(number: u32, fresh: u64) -> Call {
         call_of_shared(number, fresh)
     }

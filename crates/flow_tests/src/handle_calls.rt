@@ -13,19 +13,19 @@ use std::thread::{sleep, yield_now};
 use std::time::{Clock, Duration};
 
 /// Takes the next value, if there is one.
-pub fn next<R: Wait>(rt: &R, reader: &mut Reader<'_, i64>) -> Result<Option<i64>, OutOfMemory> {
+pub fn next<R: Wait>(rt: &R, reader: &mut Reader<i64>) -> Result<Option<i64>, OutOfMemory> {
     reader.next(rt)
 }
 
 /// Waits for the next value.
-pub fn receive<R: Wait>(rt: &R, reader: &mut Reader<'_, i64>) -> Result<i64, OutOfMemory> {
+pub fn receive<R: Wait>(rt: &R, reader: &mut Reader<i64>) -> Result<i64, OutOfMemory> {
     reader.receive(rt)
 }
 
 /// Emits a value unless it would have to wait for room. Returns whether the flow took it.
 pub fn try_emit<R: Wait>(
     rt: &R,
-    emitter: &mut Emitter<'_, i64>,
+    emitter: &mut Emitter<i64>,
     value: i64,
 ) -> Result<bool, Rejected<i64, Exhausted>> {
     emitter.try_emit(rt, value)
@@ -34,7 +34,7 @@ pub fn try_emit<R: Wait>(
 /// Emits a value, and waits until the emission is done.
 pub fn send<R: Wait>(
     rt: &R,
-    emitter: &mut Emitter<'_, i64>,
+    emitter: &mut Emitter<i64>,
     value: i64,
 ) -> Result<(), Rejected<i64, NumberError>> {
     emitter.send(rt, value)
@@ -75,10 +75,7 @@ pub fn begin<R: Wait>(rt: &R, start: &Barrier, run: u32) {
 }
 
 /// Returns the emission. Ends the test unless it has to wait.
-pub fn queued<'a, R: Abort, E: Drop>(
-    rt: &R,
-    answer: EmitAnswer<'a, i64, E>,
-) -> BoundEmission<'a, i64> {
+pub fn queued<R: Abort, E: Drop>(rt: &R, answer: EmitAnswer<i64, E>) -> BoundEmission<i64> {
     match answer {
         EmitAnswer::Queued(emission) => emission,
         EmitAnswer::Done(_emitter) => panic!(rt; "it waits"),
@@ -87,16 +84,16 @@ pub fn queued<'a, R: Abort, E: Drop>(
 }
 
 /// Emits a value by another handle. Returns the emission, which has to wait.
-pub fn emission_of<'a, R: Wait + Abort>(
+pub fn emission_of<R: Wait + Abort>(
     rt: &R,
-    emitter: &mut Emitter<'a, i64>,
+    emitter: &mut Emitter<i64>,
     value: i64,
-) -> BoundEmission<'a, i64> {
-    queued(rt, emitter.another().emit(rt, value))
+) -> BoundEmission<i64> {
+    queued(rt, emitter.another(rt).emit(rt, value))
 }
 
 /// Polls an emission without waiting for other callers, and returns it if it still waits.
-pub fn try_poll<'a>(emission: BoundEmission<'a, i64>) -> Option<BoundEmission<'a, i64>> {
+pub fn try_poll(emission: BoundEmission<i64>) -> Option<BoundEmission<i64>> {
     match emission.try_poll() {
         Ok(PollAnswer::Waiting(emission)) => Some(emission),
         Ok(PollAnswer::Done(_emitter)) => None,
@@ -105,13 +102,13 @@ pub fn try_poll<'a>(emission: BoundEmission<'a, i64>) -> Option<BoundEmission<'a
 }
 
 /// Cancels an emission. Returns whether it waited.
-pub fn cancel<R: Wait>(rt: &R, emission: BoundEmission<'_, i64>) -> bool {
+pub fn cancel<R: Wait>(rt: &R, emission: BoundEmission<i64>) -> bool {
     let (_emitter, was_waiting) = emission.cancel(rt);
     was_waiting
 }
 
 /// Cancels an emission without waiting for other callers. Returns whether it waited.
-pub fn try_cancel(emission: BoundEmission<'_, i64>) -> bool {
+pub fn try_cancel(emission: BoundEmission<i64>) -> bool {
     match emission.try_cancel() {
         Ok((_emitter, was_waiting)) => was_waiting,
         Err(_emission) => false,
@@ -119,7 +116,7 @@ pub fn try_cancel(emission: BoundEmission<'_, i64>) -> bool {
 }
 
 /// Emits a value, and cancels its emission once another one waits behind it. Returns whether it waited.
-pub fn cancel_late<R: Host>(rt: &R, emitter: &mut Emitter<'_, i64>, value: i64) -> bool {
+pub fn cancel_late<R: Host>(rt: &R, emitter: &mut Emitter<i64>, value: i64) -> bool {
     let emission = emission_of(rt, emitter, value);
     pause(rt);
     pause(rt);

@@ -2,7 +2,7 @@
 //! kotlinx.coroutines' documentation.
 mod errors;
 mod meetings;
-mod owned;
+mod outliving;
 mod refusals;
 mod shared;
 mod state;

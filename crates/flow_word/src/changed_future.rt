@@ -21,11 +21,11 @@ use std::marker::Model;
 /// Dropping the future ends its subscription, as dropping its reader does. Its task may be woken once more. Call
 /// `into_reader` to get the reader back.
 #[derive(Drop)]
-pub struct ChangedFuture<'a, T: Packed> {
-    reader: Option<WordReader<'a, T>>,
+pub struct ChangedFuture<T: Packed> {
+    reader: Option<WordReader<T>>,
 }
 
-impl<'a, T: Packed> Model for ChangedFuture<'a, T> {
+impl<T: Packed> Model for ChangedFuture<T> {
     ghost use Rattle.std.specs.Prelude.{Option};
     ghost use Rattle.flow_law.specs.declared.history.Said.{Said};
     ghost use Rattle.flow_law.specs.declared.call.StateCall.{StateCall};
@@ -40,31 +40,31 @@ impl<'a, T: Packed> Model for ChangedFuture<'a, T> {
     ghost view = { λ f. f.reader };
 }
 
-impl<'a, T: Packed> WordReader<'a, T> {
+impl<T: Packed> WordReader<T> {
     /// Returns a future that waits until the value changes. Nothing is received before it is polled.
-    pub fn into_changed(self) -> ChangedFuture<'a, T>
-        ensures { result ≡ Some self.entry }
+    pub fn into_changed(self) -> ChangedFuture<T>
+        ensures { result ≡ Some self }
     {
         ChangedFuture { reader: Some(self) }
     }
 }
 
-impl<'a, T: Packed> ChangedFuture<'a, T> {
+impl<T: Packed> ChangedFuture<T> {
     /// Ends the future, and returns the reader, or `None` after `Ready`, when the output had it.
-    pub fn into_reader(self) -> Option<WordReader<'a, T>>
-        ensures { result ≡ self.entry }
+    pub fn into_reader(self) -> Option<WordReader<T>>
+        ensures { result ≡ self }
     {
         let ChangedFuture { reader } = self;
         reader
     }
 }
 
-impl<'a, T: Packed> Future for ChangedFuture<'a, T> {
-    type Output = (WordReader<'a, T>, T);
+impl<T: Packed> Future for ChangedFuture<T> {
+    type Output = (WordReader<T>, T);
 
     ghost gives = { λ f given. WordGivesChanged state_flow f given };
 
-    fn poll(&mut self, cx: &mut Context<'_>) -> Poll<(WordReader<'a, T>, T)>
+    fn poll(&mut self, cx: &mut Context<'_>) -> Poll<(WordReader<T>, T)>
         ensures polls { WordPollsChange state_flow self.old result self.new }
         // The clauses of the trait. A pending poll has left its waker, or asked to be polled again (`registered`).
         ensures value { IfReady result (WordGivesChanged state_flow self.old) }

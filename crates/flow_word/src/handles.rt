@@ -1,4 +1,5 @@
-//! Handles: tokens bound to their word states, so that no caller has to show that they belong together.
+//! Handles: tokens bound to their word states, so that no caller has to show that they belong together. A handle owns its
+//! word state together with the other handles, by an `Arc`.
 mod many;
 mod reader;
 mod setter;

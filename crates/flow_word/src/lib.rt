@@ -13,8 +13,9 @@
 //!
 //! # Tokens
 //! A caller holds a token: a seat or a subscription. `new` makes the first seat, and `seat` makes more, one for each
-//! thread. A token is used with the flow that made it; each call requires that by `table_id`. Handles (`WordSetter`,
-//! `WordReader`) are tokens with their flow, and require nothing.
+//! thread. A token is used with the flow that made it; each call requires that by `table_id`. A handle (`WordSetter`,
+//! `WordReader`) is a token with its flow, and requires nothing: begin with `flow.into_setter(alloc, seat)`. The handles
+//! of a flow own it together, so a thread or a task that has one may outlive the function that made the flow.
 //!
 //! # What each call promises
 //! A call promises what the call of a `StateFlow` does, in the same words: the token has then seen a history of the
@@ -26,7 +27,7 @@
 //!
 //! # Dropping
 //! A dropped seat makes no more calls. A dropped subscription stays in the flow, and still counts. Dropping a reader,
-//! or a stream or a future of one, ends its subscription.
+//! or a stream or a future of one, ends its subscription. Dropping the last handle drops the flow.
 #![tactic(auto)]
 
 mod calls;

@@ -24,11 +24,11 @@ use std::marker::Model;
 /// # Source
 /// `StateFlow.collect`.
 #[derive(Drop)]
-pub struct WordValues<'a, T: Packed> {
-    reader: WordReader<'a, T>,
+pub struct WordValues<T: Packed> {
+    reader: WordReader<T>,
 }
 
-impl<'a, T: Packed> Model for WordValues<'a, T> {
+impl<T: Packed> Model for WordValues<T> {
     ghost use Rattle.flow_law.specs.declared.history.Said.{Said};
     ghost use Rattle.flow_law.specs.declared.call.StateCall.{StateCall};
     ghost use Rattle.flow_law.specs.declared.call.StateReply.{StateReply};
@@ -41,19 +41,19 @@ impl<'a, T: Packed> Model for WordValues<'a, T> {
     ghost view = { λ v. v.reader };
 }
 
-impl<'a, T: Packed> WordReader<'a, T> {
+impl<T: Packed> WordReader<T> {
     /// Returns the values that the subscriber receives, as a stream that is woken.
-    pub fn into_stream(self) -> WordValues<'a, T>
-        ensures { result ≡ self.entry }
+    pub fn into_stream(self) -> WordValues<T>
+        ensures { result ≡ self }
     {
         WordValues { reader: self }
     }
 }
 
-impl<'a, T: Packed> WordValues<'a, T> {
+impl<T: Packed> WordValues<T> {
     /// Ends the stream, and returns the reader.
-    pub fn into_reader(self) -> WordReader<'a, T>
-        ensures { result ≡ self.entry }
+    pub fn into_reader(self) -> WordReader<T>
+        ensures { result ≡ self }
     {
         let WordValues { reader } = self;
         reader
@@ -71,7 +71,7 @@ impl<'a, T: Packed> WordValues<'a, T> {
     }
 }
 
-impl<'a, T: Packed> Stream for WordValues<'a, T> {
+impl<T: Packed> Stream for WordValues<T> {
     type Item = T;
 
     ghost yields = { λ v values next. WordYields state_flow v.flow.first v.subscription values next };

@@ -25,8 +25,9 @@
 //! removes it.
 //!
 //! # Tokens and handles
-//! A token is used with the flow that made it; each call requires that by `table_id`. Handles (`WordEmitter`,
-//! `WordFlowReader`) are tokens with their flow, and require nothing: begin with `flow.emitter(seat)`.
+//! A token is used with the flow that made it; each call requires that by `table_id`. A handle (`WordEmitter`,
+//! `WordFlowReader`) is a token with its flow, and requires nothing: begin with `flow.into_emitter(alloc, seat)`. The
+//! handles of a flow own it together, so a thread or a task that has one may outlive the function that made the flow.
 //!
 //! # What each call promises
 //! A call promises what the call of a `SharedFlow` does, in the same words: the token has then seen a history of the
@@ -40,7 +41,7 @@
 //! # Dropping
 //! A dropped seat makes no more calls. A dropped subscription stays in the flow, and still counts: under `DROP_LATEST` it
 //! keeps its place, and emitters drop all values once it is a full buffer behind. Dropping a reader, or a stream or a
-//! future of one, ends its subscription.
+//! future of one, ends its subscription. Dropping the last handle drops the flow.
 #![tactic(auto)]
 
 mod cache;

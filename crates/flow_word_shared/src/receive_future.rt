@@ -20,11 +20,11 @@ use std::marker::Model;
 /// Dropping the future ends its subscription, as dropping its reader does. Its task may be woken once more. Call
 /// `into_reader` to get the reader back.
 #[derive(Drop)]
-pub struct WordReceiveFuture<'a, T: Words> {
-    reader: Option<WordFlowReader<'a, T>>,
+pub struct WordReceiveFuture<T: Words> {
+    reader: Option<WordFlowReader<T>>,
 }
 
-impl<'a, T: Words> Model for WordReceiveFuture<'a, T> {
+impl<T: Words> Model for WordReceiveFuture<T> {
     ghost use Rattle.std.specs.Prelude.{Option};
     ghost use Rattle.flow_word_shared.specs.Handles.{WordFlowReaderOf};
 
@@ -33,32 +33,32 @@ impl<'a, T: Words> Model for WordReceiveFuture<'a, T> {
     ghost view = { λ f. f.reader };
 }
 
-impl<'a, T: Words> WordFlowReader<'a, T> {
+impl<T: Words> WordFlowReader<T> {
     /// Returns a future that waits for the next value, and is woken when there is one. Nothing is received before it is
     /// polled.
-    pub fn into_receive(self) -> WordReceiveFuture<'a, T>
-        ensures { result ≡ Some self.entry }
+    pub fn into_receive(self) -> WordReceiveFuture<T>
+        ensures { result ≡ Some self }
     {
         WordReceiveFuture { reader: Some(self) }
     }
 }
 
-impl<'a, T: Words> WordReceiveFuture<'a, T> {
+impl<T: Words> WordReceiveFuture<T> {
     /// Ends the future, and returns the reader, or `None` after `Ready`, when the output had it.
-    pub fn into_reader(self) -> Option<WordFlowReader<'a, T>>
-        ensures { result ≡ self.entry }
+    pub fn into_reader(self) -> Option<WordFlowReader<T>>
+        ensures { result ≡ self }
     {
         let WordReceiveFuture { reader } = self;
         reader
     }
 }
 
-impl<'a, T: Words> Future for WordReceiveFuture<'a, T> {
-    type Output = (WordFlowReader<'a, T>, T);
+impl<T: Words> Future for WordReceiveFuture<T> {
+    type Output = (WordFlowReader<T>, T);
 
     ghost gives = { λ f given. WordFlowGives f given };
 
-    fn poll(&mut self, cx: &mut Context<'_>) -> Poll<(WordFlowReader<'a, T>, T)>
+    fn poll(&mut self, cx: &mut Context<'_>) -> Poll<(WordFlowReader<T>, T)>
         ensures polls { WordFlowPollsOnce self.old result self.new }
         // The clauses of the trait. A pending poll has left its waker, or asked to be polled again (`registered`).
         ensures value { IfReady result (WordFlowGives self.old) }

@@ -26,11 +26,11 @@ use std::marker::Model;
 /// # Source
 /// `SharedFlow.collect`.
 #[derive(Drop)]
-pub struct WordFlowValues<'a, T: Words> {
-    reader: WordFlowReader<'a, T>,
+pub struct WordFlowValues<T: Words> {
+    reader: WordFlowReader<T>,
 }
 
-impl<'a, T: Words> Model for WordFlowValues<'a, T> {
+impl<T: Words> Model for WordFlowValues<T> {
     ghost use Rattle.flow_word_shared.specs.Handles.{WordFlowReaderOf};
 
     ghost Value = { WordFlowReaderOf T };
@@ -38,19 +38,19 @@ impl<'a, T: Words> Model for WordFlowValues<'a, T> {
     ghost view = { λ v. v.reader };
 }
 
-impl<'a, T: Words> WordFlowReader<'a, T> {
+impl<T: Words> WordFlowReader<T> {
     /// Returns the values that the subscriber receives, as a stream that is woken.
-    pub fn into_stream(self) -> WordFlowValues<'a, T>
-        ensures { result ≡ self.entry }
+    pub fn into_stream(self) -> WordFlowValues<T>
+        ensures { result ≡ self }
     {
         WordFlowValues { reader: self }
     }
 }
 
-impl<'a, T: Words> WordFlowValues<'a, T> {
+impl<T: Words> WordFlowValues<T> {
     /// Ends the stream, and returns the reader.
-    pub fn into_reader(self) -> WordFlowReader<'a, T>
-        ensures { result ≡ self.entry }
+    pub fn into_reader(self) -> WordFlowReader<T>
+        ensures { result ≡ self }
     {
         let WordFlowValues { reader } = self;
         reader
@@ -68,7 +68,7 @@ impl<'a, T: Words> WordFlowValues<'a, T> {
     }
 }
 
-impl<'a, T: Words> Stream for WordFlowValues<'a, T> {
+impl<T: Words> Stream for WordFlowValues<T> {
     type Item = T;
 
     ghost yields = { λ v values next. WordYields shared_flow v.flow.first v.subscription values next };

@@ -92,11 +92,11 @@ impl Company {
     ) -> Outcome {
         match call {
             Call::Step(FlowStep::Subscribe) | Call::SubscribeWith(_) => {
-                let worker = crew.start(maker.subscriber())?;
+                let worker = crew.start(maker.subscriber(crew.rt))?;
                 call_first(crew.rt, &mut self.subscribers, worker, call)
             }
             Call::Step(FlowStep::Emit(_)) => {
-                let worker = crew.start(maker.emission())?;
+                let worker = crew.start(maker.emission(crew.rt))?;
                 call_first(crew.rt, &mut self.emissions, worker, call)
             }
             _ => self.call(crew.rt, call),
@@ -122,7 +122,7 @@ where
         None => None,
     };
     let mut company = Company {
-        caller: Some(crew.start(maker.caller())?),
+        caller: Some(crew.start(maker.caller(crew.rt))?),
         driver,
         subscribers: Vec::new(crew.alloc),
         emissions: Vec::new(crew.alloc),

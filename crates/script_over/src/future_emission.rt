@@ -3,7 +3,7 @@
 
 use crate::call::Call;
 use crate::polled::{Polled, new_task, poll_if_woken};
-use crate::refused::{Outcome, answered, flow_refused};
+use crate::refused::{Outcome, answered, flow_refused, number_refused};
 use crate::said::Said;
 use crate::seated::Seated;
 use crate::token::{Host, Reply, Token, gone, left, not_asked};
@@ -17,7 +17,7 @@ use futures::test::MockTask;
 #[derive(Drop)]
 pub enum EmissionFuture<'a> {
     Asks(EmitFuture<'a, i64>),
-    Sleeps(SendFuture<'a, i64>),
+    Sleeps(SendFuture<i64>),
 }
 
 /// An emission, before and after its first poll.
@@ -28,27 +28,25 @@ pub enum FutureEmission<'a> {
 }
 
 impl<'a> Polled for EmissionFuture<'a> {
-    type Output = Sent<i64>;
+    /// Why the value was refused, if it was.
+    type Output = Result<(), Outcome>;
 
-    fn poll_once(self, cx: &mut Context<'_>) -> Result<Sent<i64>, EmissionFuture<'a>> {
+    fn poll_once(self, cx: &mut Context<'_>) -> Result<Result<(), Outcome>, EmissionFuture<'a>> {
         match self {
             EmissionFuture::Asks(mut future) => match future.poll(cx) {
-                Poll::Ready(sent) => Ok(sent),
+                Poll::Ready(Sent::Done(_seat)) => Ok(Ok(())),
+                Poll::Ready(Sent::Refused(_seat, _value, fault)) => {
+                    Ok(Err(flow_refused(fault).map(Said::Answer)))
+                }
                 Poll::Pending => Err(EmissionFuture::Asks(future)),
             },
             EmissionFuture::Sleeps(mut future) => match future.poll(cx) {
-                Poll::Ready(sent) => Ok(sent),
+                Poll::Ready((_emitter, sent)) => {
+                    Ok(sent.map_err(|rejected| number_refused(rejected.error)))
+                }
                 Poll::Pending => Err(EmissionFuture::Sleeps(future)),
             },
         }
-    }
-}
-
-/// Returns the outcome of a future that has sent, with the answer if the emission is done.
-fn outcome_of(sent: Sent<i64>, done: Answer) -> Outcome {
-    match sent {
-        Sent::Done(_seat) => answered(done),
-        Sent::Refused(_seat, _value, fault) => flow_refused(fault).map(Said::Answer),
     }
 }
 
@@ -60,7 +58,8 @@ fn poll<'a>(
     waits: Answer,
 ) -> Reply<FutureEmission<'a>> {
     match poll_if_woken(&task, emitting) {
-        Ok(sent) => gone(outcome_of(sent, done)),
+        Ok(Ok(())) => gone(answered(done)),
+        Ok(Err(refused)) => gone(refused),
         Err(emitting) => left(FutureEmission::Pending(emitting, task), answered(waits)),
     }
 }
@@ -69,7 +68,7 @@ fn poll<'a>(
 fn emit<'a, R: Host>(seated: Seated<'a>, rt: &R, value: i64) -> Reply<FutureEmission<'a>> {
     match new_task(rt) {
         Ok(task) => poll(
-            seated.into_emitting(value),
+            seated.into_emitting(rt, value),
             task,
             Answer::Done,
             Answer::Queued,
@@ -80,13 +79,15 @@ fn emit<'a, R: Host>(seated: Seated<'a>, rt: &R, value: i64) -> Reply<FutureEmis
 
 /// Cancels an emission. Returns whether it still waited.
 fn cancel<R: Host>(emitting: EmissionFuture<'_>, rt: &R) -> bool {
-    let cancelled = match emitting {
-        EmissionFuture::Asks(future) => future.cancel(rt),
-        EmissionFuture::Sleeps(future) => future.cancel(rt),
-    };
-    match cancelled {
-        Some((_seat, was_waiting)) => was_waiting,
-        None => false,
+    match emitting {
+        EmissionFuture::Asks(future) => match future.cancel(rt) {
+            Some((_seat, was_waiting)) => was_waiting,
+            None => false,
+        },
+        EmissionFuture::Sleeps(future) => match future.cancel(rt) {
+            Some((_emitter, was_waiting)) => was_waiting,
+            None => false,
+        },
     }
 }
 

@@ -1,45 +1,51 @@
 //! A subscriber of a shared flow that receives by futures: by turns by a `NextFuture`, which asks to be polled again,
 //! and by a `ReceiveFuture`, which is woken.
-ghost use Rattle.std.specs.Prelude.{◌≡◌};
+ghost use Rattle.std.specs.Prelude.{◌≡◌, IfSome};
+ghost use Rattle.std.specs.Arc.{arc_value};
+ghost use Rattle.std.proofs.Props.{props};
 
 use crate::call::Call;
 use crate::polled::{Polled, new_task, poll_if_woken};
 use crate::refused::{Outcome, answered, flow_refused};
 use crate::said::Said;
 use crate::seated::Seated;
-use crate::shared_tokens::received;
+use crate::shared_tokens::{received, waited};
 use crate::token::{Host, Reply, Token, gone, left, not_asked};
+use flow_core::SharedCore;
 use flow_law::FlowFault;
 use flow_script::{Answer, FlowStep};
-use flow_shared::{NextFuture, ReceiveFuture, SharedFlow, Subscription};
+use flow_shared::{NextFuture, Reader, ReceiveFuture, SharedFlow, Subscription};
+use flow_sleepers::one_more_owner;
 use futures::Future;
 use futures::task::{Context, Poll};
 use futures::test::MockTask;
+use std::sync::Arc;
 
 /// A subscription, and its flow.
 #[derive(Drop)]
 pub struct Subscribed<'a> {
-    flow: &'a SharedFlow<i64>,
+    flow: &'a Arc<SharedFlow<i64>>,
     subscription: Subscription<i64>,
     /// Whether the next future is one that is woken.
     is_odd: bool,
-    ghost of_flow: { subscription.token.table_id ≡ flow.now.table_id },
+    ghost of_flow: { subscription.token.table_id ≡ (arc_value flow.now).table_id },
 }
 
 /// A future that asks to be polled again, and its flow.
 #[derive(Drop)]
 pub struct AskingNext<'a> {
-    flow: &'a SharedFlow<i64>,
+    flow: &'a Arc<SharedFlow<i64>>,
     future: NextFuture<'a, i64>,
-    ghost of_flow: { future.flow.table_id ≡ flow.now.table_id },
+    ghost of_flow: { future.flow.table_id ≡ (arc_value flow.now).table_id },
 }
 
 /// A future that is woken, and its flow.
 #[derive(Drop)]
 pub struct WokenNext<'a> {
-    flow: &'a SharedFlow<i64>,
-    future: ReceiveFuture<'a, i64>,
-    ghost of_flow: { future.flow.table_id ≡ flow.now.table_id },
+    flow: &'a Arc<SharedFlow<i64>>,
+    future: ReceiveFuture<SharedCore<i64>>,
+    ghost of_flow: { IfSome future (λ reader.
+        reader.flow.table_id ≡ (arc_value flow.now).table_id) } by { Prim.hlevel props },
 }
 
 /// A future of a subscriber.
@@ -57,8 +63,8 @@ pub enum FutureSubscriber<'a> {
     Pending(NextOf<'a>, MockTask),
 }
 
-/// A subscription, and what it has received.
-type Given<'a> = (Subscribed<'a>, Result<i64, FlowFault>);
+/// A subscription, and what is said of what it has received.
+type Given<'a> = (Subscribed<'a>, Outcome);
 
 impl<'a> AskingNext<'a> {
     fn poll(self, cx: &mut Context<'_>) -> Result<Given<'a>, AskingNext<'a>> {
@@ -70,7 +76,7 @@ impl<'a> AskingNext<'a> {
                     subscription,
                     is_odd: true,
                 };
-                Ok((subscribed, value))
+                Ok((subscribed, outcome_of(value)))
             }
             Poll::Pending => Err(AskingNext { flow, future }),
         }
@@ -91,13 +97,13 @@ impl<'a> WokenNext<'a> {
     fn poll(self, cx: &mut Context<'_>) -> Result<Given<'a>, WokenNext<'a>> {
         let WokenNext { flow, mut future } = self;
         match future.poll(cx) {
-            Poll::Ready((subscription, value)) => {
+            Poll::Ready((reader, value)) => {
                 let subscribed = Subscribed {
                     flow,
-                    subscription,
+                    subscription: reader.into_subscription(),
                     is_odd: false,
                 };
-                Ok((subscribed, value))
+                Ok((subscribed, waited(value)))
             }
             Poll::Pending => Err(WokenNext { flow, future }),
         }
@@ -105,10 +111,10 @@ impl<'a> WokenNext<'a> {
 
     fn into_subscribed(self) -> Option<Subscribed<'a>> {
         let WokenNext { flow, future } = self;
-        let subscription = future.into_subscription()?;
+        let reader = future.into_reader()?;
         Some(Subscribed {
             flow,
-            subscription,
+            subscription: reader.into_subscription(),
             is_odd: false,
         })
     }
@@ -127,14 +133,15 @@ impl<'a> Polled for NextOf<'a> {
 
 impl<'a> Subscribed<'a> {
     /// Makes a future that receives.
-    fn into_next(self) -> NextOf<'a> {
+    fn into_next<R: Host>(self, rt: &R) -> NextOf<'a> {
         let Subscribed {
             flow,
             subscription,
             is_odd,
         } = self;
         if is_odd {
-            let future = ReceiveFuture::new(flow, subscription);
+            let reader = Reader::new(one_more_owner(rt, flow), subscription);
+            let future = reader.into_receive();
             NextOf::Sleeps(WokenNext { flow, future })
         } else {
             let future = NextFuture::new(flow, subscription);
@@ -200,9 +207,7 @@ fn outcome_of(value: Result<i64, FlowFault>) -> Outcome {
 /// Polls a future of a subscriber.
 fn poll<'a>(next: NextOf<'a>, task: MockTask) -> Reply<FutureSubscriber<'a>> {
     match poll_if_woken(&task, next) {
-        Ok((subscribed, value)) => {
-            left(FutureSubscriber::Subscribed(subscribed), outcome_of(value))
-        }
+        Ok((subscribed, outcome)) => left(FutureSubscriber::Subscribed(subscribed), outcome),
         Err(next) => left(FutureSubscriber::Pending(next, task), received(None)),
     }
 }
@@ -210,7 +215,7 @@ fn poll<'a>(next: NextOf<'a>, task: MockTask) -> Reply<FutureSubscriber<'a>> {
 /// Makes a future that receives, and polls it.
 fn begin_next<'a, R: Host>(subscribed: Subscribed<'a>, rt: &R) -> Reply<FutureSubscriber<'a>> {
     match new_task(rt) {
-        Ok(task) => poll(subscribed.into_next(), task),
+        Ok(task) => poll(subscribed.into_next(rt), task),
         Err(refused) => gone(Err(refused)),
     }
 }

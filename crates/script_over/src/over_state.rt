@@ -1,5 +1,6 @@
 //! A state flow, which is played by its handles or by futures.
 ghost use Rattle.std.specs.Prelude.{◌≡◌};
+ghost use Rattle.std.specs.Arc.{arc_value};
 
 use crate::company::{PlacedSaid, play_calls};
 use crate::flow_calls::{Calls, PlayedCalls, Shared, made};
@@ -7,9 +8,11 @@ use crate::state_future::ChangedMaker;
 use crate::token::Host;
 use crate::way::Way;
 use flow_cold::ScriptChain;
-use flow_shared::{StateFlow, StateSeat};
+use flow_shared::{Setter, StateFlow, StateSeat};
 use flow_sharing::{Sharing, StateFlowHub};
+use flow_sleepers::one_more_owner;
 use std::alloc::{AllocError, Global};
+use std::sync::Arc;
 use std::thread::Threads;
 
 /// Shares a chain into a state flow, if there is one.
@@ -27,20 +30,21 @@ fn share<'a>(
     Some(Sharing::new(chain, started, hub))
 }
 
+/// Plays the calls at a flow that its handles own together with the caller.
 fn play_on<R: Threads + Host + Sync>(
     rt: &R,
     alloc: Global,
-    flow: &StateFlow<i64>,
+    flow: &Arc<StateFlow<i64>>,
     seat: StateSeat<i64>,
     initial: i64,
     calls: Calls,
 ) -> Result<Vec<PlacedSaid>, AllocError>
-    requires { seat.table_id ≡ flow.now.table_id }
+    requires { seat.table_id ≡ (arc_value flow.now).table_id }
 {
     let Calls { way, calls, shared } = calls;
     let mut seat = seat;
     let driver = share(flow, &mut seat, initial, shared);
-    let setter = flow.setter(seat);
+    let setter = Setter::new(one_more_owner(rt, flow), seat);
     match way {
         Way::Futures => play_calls(rt, alloc, ChangedMaker { setter }, driver, calls),
         _ => play_calls(rt, alloc, setter, driver, calls),
@@ -55,8 +59,9 @@ pub fn play_state_flow<R: Threads + Host + Sync>(
     limit: u64,
     calls: Calls,
 ) -> Result<PlayedCalls, AllocError> {
-    match StateFlow::new(alloc, initial, limit) {
-        Ok((flow, seat)) => Ok(made(play_on(rt, alloc, &flow, seat, initial, calls)?)),
-        Err(_) => Err(AllocError),
-    }
+    let Ok((flow, seat)) = StateFlow::new(alloc, initial, limit) else {
+        return Err(AllocError);
+    };
+    let flow = Arc::new(alloc, flow)?;
+    Ok(made(play_on(rt, alloc, &flow, seat, initial, calls)?))
 }

@@ -53,11 +53,14 @@ pub fn play_word_flow<R: Threads + Host + Sync>(
         shared: _,
     } = calls;
     // A chain is shared into a flow that suspends, so there is none here.
-    let driver: Option<WordEmitter<'_, i64>> = None;
+    let driver: Option<WordEmitter<i64>> = None;
     let subscribers = subscribers_in(calls.as_slice());
     match WordFlow::for_subscribers(alloc, config, subscribers) {
         Ok(_) if has_first_values(calls.as_slice()) => no_flow(alloc, "first", calls),
-        Ok((flow, seat)) => Ok(made(play_calls(rt, alloc, flow.emitter(seat), driver, calls)?)),
+        Ok((flow, seat)) => {
+            let emitter = flow.into_emitter(alloc, seat).map_err(|_| AllocError)?;
+            Ok(made(play_calls(rt, alloc, emitter, driver, calls)?))
+        }
         Err(WordFlowFault::Strategy(overflow)) => no_flow(alloc, word_of(overflow), calls),
         Err(WordFlowFault::Flow(fault)) => Ok(refused_flow(alloc, refused_with(fault, false)?)),
     }

@@ -1,24 +1,27 @@
-//! A seat of a shared flow, from which futures are made.
+//! A seat of a shared flow, from which handles and futures are made.
 ghost use Rattle.std.specs.Prelude.{◌≡◌};
+ghost use Rattle.std.specs.Arc.{arc_value};
 
 use crate::future_emission::{EmissionFuture, FutureEmission};
 use crate::future_reader::FutureSubscriber;
 use crate::token::MakesTokens;
-use flow_shared::{EmitFuture, Emitter, Seat, SendFuture, SharedFlow};
+use flow_shared::{EmitFuture, Emitter, Seat, SharedFlow};
+use flow_sleepers::one_more_owner;
+use std::sync::{Arc, Wait};
 
 /// A seat, and its flow.
 #[derive(Drop)]
 pub struct Seated<'a> {
-    pub flow: &'a SharedFlow<i64>,
+    pub flow: &'a Arc<SharedFlow<i64>>,
     pub seat: Seat<i64>,
     /// Which of two futures the seat begins with: seats take turns.
     pub is_odd: bool,
-    ghost of_flow: { seat.table_id ≡ flow.now.table_id },
+    ghost of_flow: { seat.table_id ≡ (arc_value flow.now).table_id },
 }
 
 impl<'a> Seated<'a> {
-    pub fn new(flow: &'a SharedFlow<i64>, seat: Seat<i64>) -> Seated<'a>
-        requires { seat.table_id ≡ flow.now.table_id }
+    pub fn new(flow: &'a Arc<SharedFlow<i64>>, seat: Seat<i64>) -> Seated<'a>
+        requires { seat.table_id ≡ (arc_value flow.now).table_id }
     {
         Seated {
             flow,
@@ -38,42 +41,46 @@ impl<'a> Seated<'a> {
     }
 
     /// Binds the seat to its flow.
-    pub fn into_emitter(self) -> Emitter<'a, i64> {
+    pub fn into_emitter<R: Wait>(self, rt: &R) -> Emitter<i64> {
         let Seated {
             flow,
             seat,
             is_odd: _,
         } = self;
-        flow.emitter(seat)
+        Emitter::new(one_more_owner(rt, flow), seat)
     }
 
     /// Returns a future that emits a value.
-    pub fn into_emitting(self, value: i64) -> EmissionFuture<'a> {
-        let Seated { flow, seat, is_odd } = self;
-        if is_odd {
-            EmissionFuture::Sleeps(SendFuture::new(flow, seat, value))
+    pub fn into_emitting<R: Wait>(self, rt: &R, value: i64) -> EmissionFuture<'a> {
+        if self.is_odd {
+            EmissionFuture::Sleeps(self.into_emitter(rt).into_send(value))
         } else {
+            let Seated {
+                flow,
+                seat,
+                is_odd: _,
+            } = self;
             EmissionFuture::Asks(EmitFuture::new(flow, seat, value))
         }
     }
 }
 
 impl<'a> MakesTokens for Seated<'a> {
-    type Caller = Emitter<'a, i64>;
+    type Caller = Emitter<i64>;
 
     type Subscriber = FutureSubscriber<'a>;
 
     type Emission = FutureEmission<'a>;
 
-    fn caller(&mut self) -> Emitter<'a, i64> {
-        self.another().into_emitter()
+    fn caller<R: Wait>(&mut self, rt: &R) -> Emitter<i64> {
+        self.another().into_emitter(rt)
     }
 
-    fn subscriber(&mut self) -> FutureSubscriber<'a> {
+    fn subscriber<R: Wait>(&mut self, _rt: &R) -> FutureSubscriber<'a> {
         FutureSubscriber::Fresh(self.another())
     }
 
-    fn emission(&mut self) -> FutureEmission<'a> {
+    fn emission<R: Wait>(&mut self, _rt: &R) -> FutureEmission<'a> {
         FutureEmission::Fresh(self.another())
     }
 }

@@ -11,7 +11,7 @@ use std::alloc::AllocError;
 use std::sync::Wait;
 
 /// Makes a call of an emitter that has no name.
-pub fn call_emitter<R: Wait>(emitter: &mut Emitter<'_, i64>, rt: &R, call: Call) -> Outcome {
+pub fn call_emitter<R: Wait>(emitter: &mut Emitter<i64>, rt: &R, call: Call) -> Outcome {
     match call {
         Call::Step(FlowStep::TryEmit(value)) => match emitter.try_emit(rt, value) {
             Ok(taken) => answered(Answer::Tested(taken)),
@@ -30,7 +30,7 @@ pub fn call_emitter<R: Wait>(emitter: &mut Emitter<'_, i64>, rt: &R, call: Call)
     }
 }
 
-impl<'a> Token for Emitter<'a, i64> {
+impl Token for Emitter<i64> {
     fn call<R: Host>(self, rt: &R, call: Call) -> Reply<Self> {
         let mut emitter = self;
         let outcome = call_emitter(&mut emitter, rt, call);
@@ -46,9 +46,17 @@ pub fn received(value: Option<i64>) -> Outcome {
     }
 }
 
+/// Returns the outcome of a future that has received.
+pub fn waited(value: Result<i64, OutOfMemory>) -> Outcome {
+    match value {
+        Ok(value) => received(Some(value)),
+        Err(OutOfMemory) => Err(AllocError),
+    }
+}
+
 /// Takes the next value of a reader.
 pub fn next<R: Wait, S: SubscriberCalls<Item = i64> + Drop>(
-    reader: &mut FlowReader<'_, S>,
+    reader: &mut FlowReader<S>,
     rt: &R,
 ) -> Outcome {
     match reader.next(rt) {
@@ -59,17 +67,17 @@ pub fn next<R: Wait, S: SubscriberCalls<Item = i64> + Drop>(
 
 /// A subscriber of a shared flow, before and after it has subscribed.
 #[derive(Drop)]
-pub enum SharedSubscriber<'a> {
-    Fresh(Emitter<'a, i64>),
-    Subscribed(Reader<'a, i64>),
+pub enum SharedSubscriber {
+    Fresh(Emitter<i64>),
+    Subscribed(Reader<i64>),
 }
 
 /// Subscribes, with first values of its own if the call has some.
-fn subscribed<'a, R: Wait>(
-    emitter: &mut Emitter<'a, i64>,
+fn subscribed<R: Wait>(
+    emitter: &mut Emitter<i64>,
     rt: &R,
     call: Call,
-) -> Result<Reader<'a, i64>, Outcome> {
+) -> Result<Reader<i64>, Outcome> {
     match call {
         Call::SubscribeWith(first) => match emitter.subscribe_with(rt, first) {
             Ok(reader) => Ok(reader),
@@ -79,7 +87,7 @@ fn subscribed<'a, R: Wait>(
     }
 }
 
-impl<'a> Token for SharedSubscriber<'a> {
+impl Token for SharedSubscriber {
     fn call<R: Host>(self, rt: &R, call: Call) -> Reply<Self> {
         match self {
             SharedSubscriber::Fresh(mut emitter) => match subscribed(&mut emitter, rt, call) {
@@ -106,12 +114,12 @@ impl<'a> Token for SharedSubscriber<'a> {
 
 /// An emission into a shared flow, before and after it has been made.
 #[derive(Drop)]
-pub enum SharedEmission<'a> {
-    Fresh(Emitter<'a, i64>),
-    Waiting(BoundEmission<'a, i64>),
+pub enum SharedEmission {
+    Fresh(Emitter<i64>),
+    Waiting(BoundEmission<i64>),
 }
 
-fn emit<'a, R: Wait>(emitter: Emitter<'a, i64>, rt: &R, value: i64) -> Reply<SharedEmission<'a>> {
+fn emit<R: Wait>(emitter: Emitter<i64>, rt: &R, value: i64) -> Reply<SharedEmission> {
     match emitter.emit(rt, value) {
         EmitAnswer::Done(_emitter) => gone(answered(Answer::Done)),
         EmitAnswer::Queued(emission) => {
@@ -121,7 +129,7 @@ fn emit<'a, R: Wait>(emitter: Emitter<'a, i64>, rt: &R, value: i64) -> Reply<Sha
     }
 }
 
-fn poll<'a, R: Wait>(emission: BoundEmission<'a, i64>, rt: &R) -> Reply<SharedEmission<'a>> {
+fn poll<R: Wait>(emission: BoundEmission<i64>, rt: &R) -> Reply<SharedEmission> {
     match emission.poll(rt) {
         PollAnswer::Done(_emitter) => gone(answered(Answer::Waits(false))),
         PollAnswer::Waiting(emission) => left(
@@ -132,11 +140,11 @@ fn poll<'a, R: Wait>(emission: BoundEmission<'a, i64>, rt: &R) -> Reply<SharedEm
 }
 
 /// Makes a call of an emission that waits.
-fn call_waiting<'a, R: Wait>(
-    emission: BoundEmission<'a, i64>,
+fn call_waiting<R: Wait>(
+    emission: BoundEmission<i64>,
     rt: &R,
     step: FlowStep,
-) -> Reply<SharedEmission<'a>> {
+) -> Reply<SharedEmission> {
     match step {
         FlowStep::Poll(_) => poll(emission, rt),
         FlowStep::Cancel(_) => {
@@ -147,7 +155,7 @@ fn call_waiting<'a, R: Wait>(
     }
 }
 
-impl<'a> Token for SharedEmission<'a> {
+impl Token for SharedEmission {
     fn call<R: Host>(self, rt: &R, call: Call) -> Reply<Self> {
         let Call::Step(step) = call else {
             return not_asked(self);
@@ -162,22 +170,22 @@ impl<'a> Token for SharedEmission<'a> {
     }
 }
 
-impl<'a> MakesTokens for Emitter<'a, i64> {
-    type Caller = Emitter<'a, i64>;
+impl MakesTokens for Emitter<i64> {
+    type Caller = Emitter<i64>;
 
-    type Subscriber = SharedSubscriber<'a>;
+    type Subscriber = SharedSubscriber;
 
-    type Emission = SharedEmission<'a>;
+    type Emission = SharedEmission;
 
-    fn caller(&mut self) -> Emitter<'a, i64> {
-        self.another()
+    fn caller<R: Wait>(&mut self, rt: &R) -> Emitter<i64> {
+        self.another(rt)
     }
 
-    fn subscriber(&mut self) -> SharedSubscriber<'a> {
-        SharedSubscriber::Fresh(self.another())
+    fn subscriber<R: Wait>(&mut self, rt: &R) -> SharedSubscriber {
+        SharedSubscriber::Fresh(self.another(rt))
     }
 
-    fn emission(&mut self) -> SharedEmission<'a> {
-        SharedEmission::Fresh(self.another())
+    fn emission<R: Wait>(&mut self, rt: &R) -> SharedEmission {
+        SharedEmission::Fresh(self.another(rt))
     }
 }

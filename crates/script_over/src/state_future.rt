@@ -1,42 +1,43 @@
-//! A subscriber of a state flow that receives by a `StateChangedFuture`.
+//! A subscriber of a state flow that receives by the future of `into_changed`.
 
 use crate::call::Call;
 use crate::polled::{Polled, new_task, poll_if_woken};
-use crate::refused::{Outcome, answered, number_refused};
-use crate::shared_tokens::received;
+use crate::refused::{answered, number_refused};
+use crate::shared_tokens::{received, waited};
 use crate::token::{Host, MakesTokens, Reply, Token, gone, left, not_asked};
+use flow_core::StateCore;
 use flow_law::OutOfMemory;
 use flow_script::{Answer, FlowStep};
-use flow_shared::{Setter, StateChangedFuture, StateReader};
+use flow_shared::{ReceiveFuture, Setter, StateReader};
 use futures::Future;
 use futures::task::{Context, Poll};
 use futures::test::MockTask;
-use std::alloc::AllocError;
+use std::sync::Wait;
 
 /// Makes the tokens of a state flow whose subscribers receive by futures.
 #[derive(Drop)]
-pub struct ChangedMaker<'a> {
-    pub setter: Setter<'a, i64>,
+pub struct ChangedMaker {
+    pub setter: Setter<i64>,
 }
 
 /// A future of a subscriber.
 #[derive(Drop)]
-pub struct Changed<'a> {
-    future: StateChangedFuture<'a, i64>,
+pub struct Changed {
+    future: ReceiveFuture<StateCore<i64>>,
 }
 
 /// A subscriber, before and after it has subscribed, and while its future is pending.
 #[derive(Drop)]
-pub enum ChangedSubscriber<'a> {
-    Fresh(Setter<'a, i64>),
-    Subscribed(StateReader<'a, i64>),
-    Pending(Changed<'a>, MockTask),
+pub enum ChangedSubscriber {
+    Fresh(Setter<i64>),
+    Subscribed(StateReader<i64>),
+    Pending(Changed, MockTask),
 }
 
-impl<'a> Polled for Changed<'a> {
-    type Output = (StateReader<'a, i64>, Result<i64, OutOfMemory>);
+impl Polled for Changed {
+    type Output = (StateReader<i64>, Result<i64, OutOfMemory>);
 
-    fn poll_once(self, cx: &mut Context<'_>) -> Result<Self::Output, Changed<'a>> {
+    fn poll_once(self, cx: &mut Context<'_>) -> Result<Self::Output, Changed> {
         let Changed { mut future } = self;
         match future.poll(cx) {
             Poll::Ready(given) => Ok(given),
@@ -45,24 +46,16 @@ impl<'a> Polled for Changed<'a> {
     }
 }
 
-/// Returns the outcome of a future that has received.
-fn outcome_of(value: Result<i64, OutOfMemory>) -> Outcome {
-    match value {
-        Ok(value) => received(Some(value)),
-        Err(OutOfMemory) => Err(AllocError),
-    }
-}
-
 /// Polls a future of a subscriber.
-fn poll<'a>(changed: Changed<'a>, task: MockTask) -> Reply<ChangedSubscriber<'a>> {
+fn poll(changed: Changed, task: MockTask) -> Reply<ChangedSubscriber> {
     match poll_if_woken(&task, changed) {
-        Ok((reader, value)) => left(ChangedSubscriber::Subscribed(reader), outcome_of(value)),
+        Ok((reader, value)) => left(ChangedSubscriber::Subscribed(reader), waited(value)),
         Err(changed) => left(ChangedSubscriber::Pending(changed, task), received(None)),
     }
 }
 
 /// Makes a future that receives, and polls it.
-fn begin_next<'a, R: Host>(reader: StateReader<'a, i64>, rt: &R) -> Reply<ChangedSubscriber<'a>> {
+fn begin_next<R: Host>(reader: StateReader<i64>, rt: &R) -> Reply<ChangedSubscriber> {
     match new_task(rt) {
         Ok(task) => {
             let future = reader.into_changed();
@@ -73,13 +66,13 @@ fn begin_next<'a, R: Host>(reader: StateReader<'a, i64>, rt: &R) -> Reply<Change
 }
 
 /// Ends a subscription.
-fn leave<'a, R: Host>(reader: StateReader<'a, i64>, rt: &R) -> Reply<ChangedSubscriber<'a>> {
+fn leave<R: Host>(reader: StateReader<i64>, rt: &R) -> Reply<ChangedSubscriber> {
     let _setter = reader.unsubscribe(rt);
     gone(answered(Answer::Tested(true)))
 }
 
 /// Ends a subscription that a pending future has.
-fn leave_pending<'a, R: Host>(changed: Changed<'a>, rt: &R) -> Reply<ChangedSubscriber<'a>> {
+fn leave_pending<R: Host>(changed: Changed, rt: &R) -> Reply<ChangedSubscriber> {
     let Changed { future } = changed;
     match future.into_reader() {
         Some(reader) => leave(reader, rt),
@@ -88,7 +81,7 @@ fn leave_pending<'a, R: Host>(changed: Changed<'a>, rt: &R) -> Reply<ChangedSubs
 }
 
 /// Subscribes.
-fn subscribe<'a, R: Host>(setter: Setter<'a, i64>, rt: &R) -> Reply<ChangedSubscriber<'a>> {
+fn subscribe<R: Host>(setter: Setter<i64>, rt: &R) -> Reply<ChangedSubscriber> {
     let mut setter = setter;
     match setter.subscribe(rt) {
         Ok(reader) => left(
@@ -100,11 +93,11 @@ fn subscribe<'a, R: Host>(setter: Setter<'a, i64>, rt: &R) -> Reply<ChangedSubsc
 }
 
 /// Makes a call of a subscriber that has no pending future.
-fn call_subscribed<'a, R: Host>(
-    reader: StateReader<'a, i64>,
+fn call_subscribed<R: Host>(
+    reader: StateReader<i64>,
     rt: &R,
     call: Call,
-) -> Reply<ChangedSubscriber<'a>> {
+) -> Reply<ChangedSubscriber> {
     match call {
         Call::Step(FlowStep::Next(_)) => begin_next(reader, rt),
         Call::Step(FlowStep::Unsubscribe(_)) => leave(reader, rt),
@@ -113,12 +106,12 @@ fn call_subscribed<'a, R: Host>(
 }
 
 /// Makes a call of a subscriber that has a pending future.
-fn call_pending<'a, R: Host>(
-    changed: Changed<'a>,
+fn call_pending<R: Host>(
+    changed: Changed,
     task: MockTask,
     rt: &R,
     call: Call,
-) -> Reply<ChangedSubscriber<'a>> {
+) -> Reply<ChangedSubscriber> {
     match call {
         Call::Step(FlowStep::Next(_)) => poll(changed, task),
         Call::Step(FlowStep::Unsubscribe(_)) => leave_pending(changed, rt),
@@ -126,7 +119,7 @@ fn call_pending<'a, R: Host>(
     }
 }
 
-impl<'a> Token for ChangedSubscriber<'a> {
+impl Token for ChangedSubscriber {
     fn call<R: Host>(self, rt: &R, call: Call) -> Reply<Self> {
         match self {
             ChangedSubscriber::Fresh(setter) => subscribe(setter, rt),
@@ -137,22 +130,22 @@ impl<'a> Token for ChangedSubscriber<'a> {
 }
 
 /// A state flow has no emission that waits.
-impl<'a> MakesTokens for ChangedMaker<'a> {
-    type Caller = Setter<'a, i64>;
+impl MakesTokens for ChangedMaker {
+    type Caller = Setter<i64>;
 
-    type Subscriber = ChangedSubscriber<'a>;
+    type Subscriber = ChangedSubscriber;
 
-    type Emission = Setter<'a, i64>;
+    type Emission = Setter<i64>;
 
-    fn caller(&mut self) -> Setter<'a, i64> {
-        self.setter.another()
+    fn caller<R: Wait>(&mut self, rt: &R) -> Setter<i64> {
+        self.setter.another(rt)
     }
 
-    fn subscriber(&mut self) -> ChangedSubscriber<'a> {
-        ChangedSubscriber::Fresh(self.setter.another())
+    fn subscriber<R: Wait>(&mut self, rt: &R) -> ChangedSubscriber {
+        ChangedSubscriber::Fresh(self.setter.another(rt))
     }
 
-    fn emission(&mut self) -> Setter<'a, i64> {
-        self.setter.another()
+    fn emission<R: Wait>(&mut self, rt: &R) -> Setter<i64> {
+        self.setter.another(rt)
     }
 }

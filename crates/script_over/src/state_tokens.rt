@@ -11,7 +11,7 @@ use std::alloc::AllocError;
 use std::sync::Wait;
 
 /// Makes a call on the value of a state flow.
-fn call_on_value<R: Wait>(setter: &mut Setter<'_, i64>, rt: &R, step: FlowStep) -> Outcome {
+fn call_on_value<R: Wait>(setter: &mut Setter<i64>, rt: &R, step: FlowStep) -> Outcome {
     match step {
         FlowStep::Value => match setter.value(rt) {
             Ok(value) => answered(Answer::Got(value)),
@@ -30,7 +30,7 @@ fn call_on_value<R: Wait>(setter: &mut Setter<'_, i64>, rt: &R, step: FlowStep) 
 }
 
 /// Makes a call of a setter that has no name.
-fn call_setter<R: Wait>(setter: &mut Setter<'_, i64>, rt: &R, step: FlowStep) -> Outcome {
+fn call_setter<R: Wait>(setter: &mut Setter<i64>, rt: &R, step: FlowStep) -> Outcome {
     match step {
         FlowStep::Cache => match setter.replay_cache(rt) {
             Ok(values) => answered(Answer::Cached(values)),
@@ -45,7 +45,7 @@ fn call_setter<R: Wait>(setter: &mut Setter<'_, i64>, rt: &R, step: FlowStep) ->
     }
 }
 
-impl<'a> Token for Setter<'a, i64> {
+impl Token for Setter<i64> {
     fn call<R: Host>(self, rt: &R, call: Call) -> Reply<Self> {
         let mut setter = self;
         let Call::Step(step) = call else {
@@ -58,12 +58,12 @@ impl<'a> Token for Setter<'a, i64> {
 
 /// A subscriber of a state flow, before and after it has subscribed.
 #[derive(Drop)]
-pub enum StateSubscriber<'a> {
-    Fresh(Setter<'a, i64>),
-    Subscribed(StateReader<'a, i64>),
+pub enum StateSubscriber {
+    Fresh(Setter<i64>),
+    Subscribed(StateReader<i64>),
 }
 
-impl<'a> Token for StateSubscriber<'a> {
+impl Token for StateSubscriber {
     fn call<R: Host>(self, rt: &R, call: Call) -> Reply<Self> {
         match self {
             StateSubscriber::Fresh(mut setter) => match setter.subscribe(rt) {
@@ -89,22 +89,22 @@ impl<'a> Token for StateSubscriber<'a> {
 }
 
 /// A state flow has no emission that waits.
-impl<'a> MakesTokens for Setter<'a, i64> {
-    type Caller = Setter<'a, i64>;
+impl MakesTokens for Setter<i64> {
+    type Caller = Setter<i64>;
 
-    type Subscriber = StateSubscriber<'a>;
+    type Subscriber = StateSubscriber;
 
-    type Emission = Setter<'a, i64>;
+    type Emission = Setter<i64>;
 
-    fn caller(&mut self) -> Setter<'a, i64> {
-        self.another()
+    fn caller<R: Wait>(&mut self, rt: &R) -> Setter<i64> {
+        self.another(rt)
     }
 
-    fn subscriber(&mut self) -> StateSubscriber<'a> {
-        StateSubscriber::Fresh(self.another())
+    fn subscriber<R: Wait>(&mut self, rt: &R) -> StateSubscriber {
+        StateSubscriber::Fresh(self.another(rt))
     }
 
-    fn emission(&mut self) -> Setter<'a, i64> {
-        self.another()
+    fn emission<R: Wait>(&mut self, rt: &R) -> Setter<i64> {
+        self.another(rt)
     }
 }

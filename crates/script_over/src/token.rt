@@ -55,9 +55,9 @@ pub trait MakesTokens: Drop {
     /// Emits first.
     type Emission: Token;
 
-    fn caller(&mut self) -> Self::Caller;
+    fn caller<R: Wait>(&mut self, rt: &R) -> Self::Caller;
 
-    fn subscriber(&mut self) -> Self::Subscriber;
+    fn subscriber<R: Wait>(&mut self, rt: &R) -> Self::Subscriber;
 
-    fn emission(&mut self) -> Self::Emission;
+    fn emission<R: Wait>(&mut self, rt: &R) -> Self::Emission;
 }

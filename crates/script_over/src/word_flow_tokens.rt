@@ -11,7 +11,7 @@ use std::alloc::AllocError;
 use std::sync::Wait;
 
 /// Emits a value. The emission never waits.
-fn emit<R: Wait>(emitter: &mut WordEmitter<'_, i64>, rt: &R, value: i64) -> Outcome {
+fn emit<R: Wait>(emitter: &mut WordEmitter<i64>, rt: &R, value: i64) -> Outcome {
     match emitter.emit(rt, value) {
         Ok(()) => answered(Answer::Done),
         Err(rejected) => exhausted(rejected.error),
@@ -19,7 +19,7 @@ fn emit<R: Wait>(emitter: &mut WordEmitter<'_, i64>, rt: &R, value: i64) -> Outc
 }
 
 /// Makes a call of an emitter that has no name.
-fn call_emitter<R: Wait>(emitter: &mut WordEmitter<'_, i64>, rt: &R, step: FlowStep) -> Outcome {
+fn call_emitter<R: Wait>(emitter: &mut WordEmitter<i64>, rt: &R, step: FlowStep) -> Outcome {
     match step {
         FlowStep::TryEmit(value) => match emitter.try_emit(rt, value) {
             Ok(taken) => answered(Answer::Tested(taken)),
@@ -39,7 +39,7 @@ fn call_emitter<R: Wait>(emitter: &mut WordEmitter<'_, i64>, rt: &R, step: FlowS
 }
 
 /// An emitter that has emitted for a name is gone: no emission waits, so none is polled or cancelled.
-impl<'a> Token for WordEmitter<'a, i64> {
+impl Token for WordEmitter<i64> {
     fn call<R: Host>(self, rt: &R, call: Call) -> Reply<Self> {
         let mut emitter = self;
         match call {
@@ -55,12 +55,12 @@ impl<'a> Token for WordEmitter<'a, i64> {
 
 /// A subscriber of a shared flow that is read without a lock, before and after it has subscribed.
 #[derive(Drop)]
-pub enum WordFlowSubscriber<'a> {
-    Fresh(WordEmitter<'a, i64>),
-    Subscribed(WordFlowReader<'a, i64>),
+pub enum WordFlowSubscriber {
+    Fresh(WordEmitter<i64>),
+    Subscribed(WordFlowReader<i64>),
 }
 
-impl<'a> Token for WordFlowSubscriber<'a> {
+impl Token for WordFlowSubscriber {
     fn call<R: Host>(self, rt: &R, call: Call) -> Reply<Self> {
         match self {
             WordFlowSubscriber::Fresh(mut emitter) => match emitter.subscribe(rt) {
@@ -85,22 +85,22 @@ impl<'a> Token for WordFlowSubscriber<'a> {
     }
 }
 
-impl<'a> MakesTokens for WordEmitter<'a, i64> {
-    type Caller = WordEmitter<'a, i64>;
+impl MakesTokens for WordEmitter<i64> {
+    type Caller = WordEmitter<i64>;
 
-    type Subscriber = WordFlowSubscriber<'a>;
+    type Subscriber = WordFlowSubscriber;
 
-    type Emission = WordEmitter<'a, i64>;
+    type Emission = WordEmitter<i64>;
 
-    fn caller(&mut self) -> WordEmitter<'a, i64> {
-        self.another()
+    fn caller<R: Wait>(&mut self, rt: &R) -> WordEmitter<i64> {
+        self.another(rt)
     }
 
-    fn subscriber(&mut self) -> WordFlowSubscriber<'a> {
-        WordFlowSubscriber::Fresh(self.another())
+    fn subscriber<R: Wait>(&mut self, rt: &R) -> WordFlowSubscriber {
+        WordFlowSubscriber::Fresh(self.another(rt))
     }
 
-    fn emission(&mut self) -> WordEmitter<'a, i64> {
-        self.another()
+    fn emission<R: Wait>(&mut self, rt: &R) -> WordEmitter<i64> {
+        self.another(rt)
     }
 }

@@ -8,9 +8,10 @@ use crate::shared_tokens::received;
 use crate::token::{Host, MakesTokens, Reply, Token, gone, left, not_asked};
 use flow_script::{Answer, FlowStep};
 use flow_word::{WordReader, WordSetter};
+use std::sync::Wait;
 
 /// Makes a call of a setter that has no name.
-fn call_setter(setter: &mut WordSetter<'_, i64>, step: FlowStep) -> Outcome {
+fn call_setter(setter: &mut WordSetter<i64>, step: FlowStep) -> Outcome {
     match step {
         FlowStep::Value => answered(Answer::Got(setter.value())),
         FlowStep::Set(value) => {
@@ -31,7 +32,7 @@ fn call_setter(setter: &mut WordSetter<'_, i64>, step: FlowStep) -> Outcome {
     }
 }
 
-impl<'a> Token for WordSetter<'a, i64> {
+impl Token for WordSetter<i64> {
     fn call<R: Host>(self, _rt: &R, call: Call) -> Reply<Self> {
         let mut setter = self;
         let Call::Step(step) = call else {
@@ -44,12 +45,12 @@ impl<'a> Token for WordSetter<'a, i64> {
 
 /// A subscriber of a state flow without a lock, before and after it has subscribed.
 #[derive(Drop)]
-pub enum WordSubscriber<'a> {
-    Fresh(WordSetter<'a, i64>),
-    Subscribed(WordReader<'a, i64>),
+pub enum WordSubscriber {
+    Fresh(WordSetter<i64>),
+    Subscribed(WordReader<i64>),
 }
 
-impl<'a> Token for WordSubscriber<'a> {
+impl Token for WordSubscriber {
     fn call<R: Host>(self, rt: &R, call: Call) -> Reply<Self> {
         match self {
             WordSubscriber::Fresh(mut setter) => match setter.subscribe(rt) {
@@ -75,22 +76,22 @@ impl<'a> Token for WordSubscriber<'a> {
 }
 
 /// A state flow has no emission that waits.
-impl<'a> MakesTokens for WordSetter<'a, i64> {
-    type Caller = WordSetter<'a, i64>;
+impl MakesTokens for WordSetter<i64> {
+    type Caller = WordSetter<i64>;
 
-    type Subscriber = WordSubscriber<'a>;
+    type Subscriber = WordSubscriber;
 
-    type Emission = WordSetter<'a, i64>;
+    type Emission = WordSetter<i64>;
 
-    fn caller(&mut self) -> WordSetter<'a, i64> {
-        self.another()
+    fn caller<R: Wait>(&mut self, rt: &R) -> WordSetter<i64> {
+        self.another(rt)
     }
 
-    fn subscriber(&mut self) -> WordSubscriber<'a> {
-        WordSubscriber::Fresh(self.another())
+    fn subscriber<R: Wait>(&mut self, rt: &R) -> WordSubscriber {
+        WordSubscriber::Fresh(self.another(rt))
     }
 
-    fn emission(&mut self) -> WordSetter<'a, i64> {
-        self.another()
+    fn emission<R: Wait>(&mut self, rt: &R) -> WordSetter<i64> {
+        self.another(rt)
     }
 }

@@ -33,14 +33,14 @@ impl FlowValue for Screen {
 }
 
 /// Sets the states of a screen whose page loads at the second try.
-fn load<R: Wait>(rt: &R, screen: &mut Setter<'_, Screen>, page: Text) {
+fn load<R: Wait>(rt: &R, screen: &mut Setter<Screen>, page: Text) {
     screen.set(rt, Screen::Failed(503));
     screen.set(rt, Screen::Loading);
     screen.set(rt, Screen::Ready(page));
 }
 
-/// Waits until the page is ready, and returns it. A slow reader skips states, and always gets the most recent one.
-fn page_of<R: Wait>(rt: &R, screen: &mut StateReader<'_, Screen>) -> Result<Text, FlowFault> {
+/// Waits until the page is ready, and returns it.
+fn page_of<R: Wait>(rt: &R, screen: &mut StateReader<Screen>) -> Result<Text, FlowFault> {
     for _ in rt.forever() {
         if let Screen::Ready(page) = screen.changed(rt)? {
             return Ok(page);
@@ -56,7 +56,7 @@ pub fn show_page<R: Wait + Threads + Sync>(
     page: Text,
 ) -> Result<Text, FlowFault> {
     let (flow, seat) = StateFlow::new(alloc, Screen::Loading, u64::MAX)?;
-    let mut setter = flow.setter(seat);
+    let mut setter = flow.into_setter(alloc, seat)?;
     let mut reader = setter.subscribe(rt)?;
     let (shown, ()) = join(
         rt,

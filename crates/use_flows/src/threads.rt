@@ -10,7 +10,7 @@ use std::thread::{Threads, join};
 /// the reader finds all values in the flow.
 pub fn add_up<R: Wait + Threads + Sync>(rt: &R, alloc: Global) -> Result<i64, FlowFault> {
     let (flow, seat) = SharedFlow::new(alloc, Config::new().extra(16))?;
-    let mut emitter = flow.emitter(seat);
+    let mut emitter = flow.into_emitter(alloc, seat)?;
     let mut reader = emitter.subscribe(rt)?;
     let (sum, sent) = join(
         rt,
@@ -23,7 +23,7 @@ pub fn add_up<R: Wait + Threads + Sync>(rt: &R, alloc: Global) -> Result<i64, Fl
 /// Sends the values in order, and waits while there is no room.
 pub fn send<R: Wait>(
     rt: &R,
-    emitter: &mut Emitter<'_, i64>,
+    emitter: &mut Emitter<i64>,
     values: Range<i64>,
 ) -> Result<(), FlowFault> {
     for value in values {
@@ -33,7 +33,7 @@ pub fn send<R: Wait>(
 }
 
 /// Returns the sum of the next `count` values. The thread sleeps while it waits for one.
-pub fn sum_of<R: Wait>(rt: &R, reader: &mut Reader<'_, i64>, count: u32) -> Result<i64, FlowFault> {
+pub fn sum_of<R: Wait>(rt: &R, reader: &mut Reader<i64>, count: u32) -> Result<i64, FlowFault> {
     let mut sum = 0i64;
     for _ in 0..count {
         sum = sum.wrapping_add(reader.receive(rt)?);

@@ -61,11 +61,11 @@ pub fn receives_twice<R: Wait + Clock + Abort, C: Caller>(rt: &R, caller: &mut C
     is_right
 }
 
-impl<'a, S: ReaderCalls + Drop> Follows<FlowCaller<'a, S>> for FlowStop
+impl<S: ReaderCalls + Drop> Follows<FlowCaller<S>> for FlowStop
 where
-    FlowCaller<'a, S>: Caller,
+    FlowCaller<S>: Caller,
 {
-    fn follow<R: Wait + Clock + Abort>(&self, rt: &R, caller: &mut FlowCaller<'a, S>) -> bool {
+    fn follow<R: Wait + Clock + Abort>(&self, rt: &R, caller: &mut FlowCaller<S>) -> bool {
         let follows = receives_twice(rt, caller);
         self.ask(rt, caller);
         follows

@@ -26,8 +26,8 @@ impl StopSignal for AfterVisit<'_> {
     }
 }
 
-impl<'a> Follows<WordSetter<'a, i64>> for AfterVisit<'a> {
-    fn follow<R: Wait + Clock + Abort>(&self, rt: &R, caller: &mut WordSetter<'a, i64>) -> bool {
+impl Follows<WordSetter<i64>> for AfterVisit<'_> {
+    fn follow<R: Wait + Clock + Abort>(&self, rt: &R, caller: &mut WordSetter<i64>) -> bool {
         let mut reader = new_word_reader(rt, caller);
         let _value = reader.changed(rt);
         drop(reader);
@@ -38,7 +38,7 @@ impl<'a> Follows<WordSetter<'a, i64>> for AfterVisit<'a> {
 }
 
 /// Waits until the chain's item is the state, without subscribing. Returns false after a bounded number of checks.
-fn waits_for_item<R: Clock>(rt: &R, caller: &mut WordSetter<'_, i64>) -> bool {
+fn waits_for_item<R: Clock>(rt: &R, caller: &mut WordSetter<i64>) -> bool {
     for _ in 0..100_000 {
         if caller.value() == 239 {
             return true;
@@ -50,18 +50,19 @@ fn waits_for_item<R: Clock>(rt: &R, caller: &mut WordSetter<'_, i64>) -> bool {
 
 /// Shares a chain of 239 into a new state, and runs it beside a subscriber that comes and leaves.
 fn visit_once<R: Threads + Wait + Clock + Abort + Sync>(rt: &R, alloc: Global) {
-    let (flow, mut seat) = new_word_state(rt, alloc, 42, u32::MAX);
+    let (flow, mut setter) = new_word_state(rt, alloc, 42, u32::MAX);
     let mut sharing = share_into_word(
-        &flow,
-        &mut seat,
+        rt,
+        &*flow,
+        &mut setter,
         chain_of(rt, alloc, &[239]),
         Started::Lazily,
     );
     compare(rt, "nobody", sharing.turn(0).is_ok(), true);
     let stop = AfterVisit {
-        stop: WordStop::new(&flow),
+        stop: WordStop::new(&*flow),
     };
-    run_beside(rt, &mut sharing, &stop, &mut flow.setter(seat));
+    run_beside(rt, &mut sharing, &stop, &mut setter);
 }
 
 /// `flowOf(239).stateIn(scope, Lazily, 42)` starts with a subscriber that takes one value and leaves at once, in each of
@@ -82,11 +83,10 @@ const RESTS: Report = Report {
 /// Without other threads: after a subscriber that came and left, a run needs no present one to start the chain.
 #[test]
 fn a_run_starts_after_a_visit(rt: HostRuntime) {
-    let (flow, mut seat) = new_word_state(&rt, rt.alloc(), 42, u32::MAX);
+    let (flow, mut setter) = new_word_state(&rt, rt.alloc(), 42, u32::MAX);
     let chain = chain_of(&rt, rt.alloc(), &[239]);
-    let mut sharing = share_into_word(&flow, &mut seat, chain, Started::Lazily);
+    let mut sharing = share_into_word(&rt, &*flow, &mut setter, chain, Started::Lazily);
     compare(&rt, "nobody", sharing.turn(0), Ok(RESTS));
-    let mut setter = flow.setter(seat);
     drop(new_word_reader(&rt, &mut setter));
     compare(&rt, "the run", sharing.run_to_end(&rt), Ok(()));
     compare(&rt, "the state", setter.value(), 239);
@@ -95,11 +95,10 @@ fn a_run_starts_after_a_visit(rt: HostRuntime) {
 /// The same over a state flow that has a lock.
 #[test]
 fn a_run_over_a_state_flow_starts_after_a_visit(rt: HostRuntime) {
-    let (flow, mut seat) = new_state_flow(&rt, rt.alloc(), 42, u64::MAX);
+    let (flow, mut setter) = new_state_flow(&rt, rt.alloc(), 42, u64::MAX);
     let chain = chain_of(&rt, rt.alloc(), &[239]);
-    let mut sharing = share_into_state(&flow, &mut seat, chain, Started::Lazily);
+    let mut sharing = share_into_state(&rt, &*flow, &mut setter, chain, Started::Lazily);
     compare(&rt, "nobody", sharing.turn(0), Ok(RESTS));
-    let mut setter = flow.setter(seat);
     drop(new_state_reader(&rt, &mut setter));
     compare(&rt, "the run", sharing.run_to_end(&rt), Ok(()));
     compare(&rt, "the state", setter.value(&rt), Ok(239));
@@ -108,11 +107,10 @@ fn a_run_over_a_state_flow_starts_after_a_visit(rt: HostRuntime) {
 /// The same over a shared flow that replays a value.
 #[test]
 fn a_run_over_a_shared_flow_starts_after_a_visit(rt: HostRuntime) {
-    let (flow, mut seat) = new_flow(&rt, rt.alloc(), Config::new().replay(1));
+    let (flow, mut emitter) = new_flow(&rt, rt.alloc(), Config::new().replay(1));
     let chain = chain_of(&rt, rt.alloc(), &[239]);
-    let mut sharing = share_into(&flow, &mut seat, chain, Started::Lazily);
+    let mut sharing = share_into(&rt, &*flow, &mut emitter, chain, Started::Lazily);
     compare(&rt, "nobody", sharing.turn(0), Ok(RESTS));
-    let mut emitter = flow.emitter(seat);
     drop(new_reader(&rt, &mut emitter));
     compare(&rt, "the run", sharing.run_to_end(&rt), Ok(()));
     let mut reader = new_reader(&rt, &mut emitter);

@@ -3,11 +3,12 @@ ghost use Rattle.std.specs.Prelude.{◌≡◌};
 
 use flow_cold::{Entry, Scripted};
 use flow_law::{Command, Event, Report, Started};
-use flow_shared::{Seat, SharedFlow, StateFlow, StateSeat};
+use flow_shared::{Emitter, Setter, SharedFlow, StateFlow};
 use flow_sharing::{SharedFlowHub, Sharing, StateFlowHub, WordHub};
-use flow_word::{WordSeat, WordState};
+use flow_word::{WordSetter, WordState};
 use std::alloc::Global;
 use std::process::Abort;
+use std::sync::Wait;
 
 /// The report of a turn that starts the chain and puts its first item.
 pub const STARTS: Report = Report {
@@ -40,40 +41,46 @@ pub fn count_to(rt: &impl Abort, alloc: Global, last: i64) -> Scripted<i64> {
 }
 
 /// Shares a chain into the flow.
-pub fn share_into<'a>(
+pub fn share_into<'a, R: Wait>(
+    rt: &R,
     flow: &'a SharedFlow<i64>,
-    seat: &mut Seat<i64>,
+    emitter: &mut Emitter<i64>,
     chain: Scripted<i64>,
     started: Started,
 ) -> Sharing<Scripted<i64>, SharedFlowHub<'a, i64>>
-    requires { seat.old.table_id ≡ flow.now.table_id }
-    ensures { seat.new.table_id ≡ flow.entry.now.table_id }
+    requires { emitter.old.flow ≡ flow.now }
+    ensures { emitter.new.flow ≡ emitter.old.flow }
 {
-    Sharing::new(chain, started, SharedFlowHub::new(flow, seat))
+    let mut seat = emitter.another(rt).into_seat();
+    Sharing::new(chain, started, SharedFlowHub::new(flow, &mut seat))
 }
 
 /// Shares a chain into the state flow, whose initial value is 0.
-pub fn share_into_state<'a>(
+pub fn share_into_state<'a, R: Wait>(
+    rt: &R,
     flow: &'a StateFlow<i64>,
-    seat: &mut StateSeat<i64>,
+    setter: &mut Setter<i64>,
     chain: Scripted<i64>,
     started: Started,
 ) -> Sharing<Scripted<i64>, StateFlowHub<'a, i64>>
-    requires { seat.old.table_id ≡ flow.now.table_id }
-    ensures { seat.new.table_id ≡ flow.entry.now.table_id }
+    requires { setter.old.flow ≡ flow.now }
+    ensures { setter.new.flow ≡ setter.old.flow }
 {
-    Sharing::new(chain, started, StateFlowHub::new(flow, seat, 0))
+    let mut seat = setter.another(rt).into_seat();
+    Sharing::new(chain, started, StateFlowHub::new(flow, &mut seat, 0))
 }
 
 /// Shares a chain into the word state, whose initial value is 0.
-pub fn share_into_word<'a>(
+pub fn share_into_word<'a, R: Wait>(
+    rt: &R,
     flow: &'a WordState<i64>,
-    seat: &mut WordSeat<i64>,
+    setter: &mut WordSetter<i64>,
     chain: Scripted<i64>,
     started: Started,
 ) -> Sharing<Scripted<i64>, WordHub<'a, i64>>
-    requires { seat.old.table_id ≡ flow.now.table_id }
-    ensures { seat.new.table_id ≡ flow.entry.now.table_id }
+    requires { setter.old.flow ≡ flow.now }
+    ensures { setter.new.flow ≡ setter.old.flow }
 {
-    Sharing::new(chain, started, WordHub::new(flow, seat, 0))
+    let mut seat = setter.another(rt).into_seat();
+    Sharing::new(chain, started, WordHub::new(flow, &mut seat, 0))
 }

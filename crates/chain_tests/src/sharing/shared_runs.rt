@@ -7,8 +7,8 @@ use crate::sharing::beside::{AT_ONCE, Caller, Follows, SHORTLY, run_beside};
 use crate::sharing::shared::{chain_of, share_into};
 use flow_cold::Scripted;
 use flow_law::{Config, Started};
-use flow_shared::{Emitter, Reader, Seat, SharedFlow};
-use flow_sharing::{FlowStop, SharedFlowHub, Sharing, StopSignal};
+use flow_shared::{Emitter, Reader, SharedFlow};
+use flow_sharing::{FlowStop, StopSignal};
 use std::process::Abort;
 use std::sync::Wait;
 use std::sync::atomic::{AtomicU64, Ordering};
@@ -16,7 +16,7 @@ use std::thread::sleep;
 use std::time::{Clock, Duration};
 
 /// Receives three items. Returns whether they are 3, 3 and 4.
-fn receives_all<R: Wait>(rt: &R, reader: &mut Reader<'_, i64>) -> bool {
+fn receives_all<R: Wait>(rt: &R, reader: &mut Reader<i64>) -> bool {
     let mut is_right = true;
     for item in [3, 3, 4] {
         is_right &= reader.receive(rt) == Ok(item);
@@ -24,7 +24,7 @@ fn receives_all<R: Wait>(rt: &R, reader: &mut Reader<'_, i64>) -> bool {
     is_right
 }
 
-impl<'a> Caller for Emitter<'a, i64> {
+impl Caller for Emitter<i64> {
     fn receives<R: Wait + Abort>(&mut self, rt: &R) -> bool {
         receives_all(rt, &mut new_reader(rt, self))
     }
@@ -61,7 +61,7 @@ impl CountedStop {
     }
 
     /// Receives 1, 2 and 3. Returns whether the run sleeps before each of them and after the last one.
-    fn sleeps_between<R: Wait + Clock>(&self, rt: &R, reader: &mut Reader<'_, i64>) -> bool {
+    fn sleeps_between<R: Wait + Clock>(&self, rt: &R, reader: &mut Reader<i64>) -> bool {
         let mut is_right = true;
         for item in 1..4 {
             is_right &= self.sleeps(rt) && reader.receive(rt) == Ok(item);
@@ -74,7 +74,7 @@ impl CountedStop {
     fn sleeps_beside_reader<R: Wait + Clock + Abort>(
         &self,
         rt: &R,
-        emitter: &mut Emitter<'_, i64>,
+        emitter: &mut Emitter<i64>,
     ) -> bool {
         self.sleeps_between(rt, &mut new_reader(rt, emitter))
     }
@@ -87,8 +87,8 @@ impl StopSignal for CountedStop {
     }
 }
 
-impl<'a> Follows<Emitter<'a, i64>> for CountedStop {
-    fn follow<R: Wait + Clock + Abort>(&self, rt: &R, caller: &mut Emitter<'a, i64>) -> bool {
+impl Follows<Emitter<i64>> for CountedStop {
+    fn follow<R: Wait + Clock + Abort>(&self, rt: &R, caller: &mut Emitter<i64>) -> bool {
         let before = self.sleeps(rt);
         let is_right = before && self.sleeps_beside_reader(rt, caller) && self.sleeps(rt);
         self.stop.ask(rt, caller);
@@ -96,29 +96,13 @@ impl<'a> Follows<Emitter<'a, i64>> for CountedStop {
     }
 }
 
-/// Shares a chain into the flow, and binds the seat.
-fn share<'a>(
-    flow: &'a SharedFlow<i64>,
-    mut seat: Seat<i64>,
-    chain: Scripted<i64>,
-    started: Started,
-) -> (
-    Sharing<Scripted<i64>, SharedFlowHub<'a, i64>>,
-    Emitter<'a, i64>,
-)
-    requires { seat.table_id ≡ flow.now.table_id }
-{
-    let sharing = share_into(flow, &mut seat, chain, started);
-    (sharing, flow.emitter(seat))
-}
-
 /// `shareIn` with `replay = 1` and `WhileSubscribed(stopTimeoutMillis = 3, replayExpirationMillis = 3)`: six
 /// milliseconds after a subscriber has gone the replay cache is empty. The next subscriber starts the chain anew.
 #[test]
 fn a_shared_flows_run_is_woken_by_subscribers_and_at_the_expiry(rt: HostRuntime) {
     let chain = chain_of(&rt, rt.alloc(), &[3, 3, 4]);
-    let (flow, seat) = new_flow(&rt, rt.alloc(), Config::new().replay(1).extra(2));
-    let (mut sharing, mut emitter) = share(&flow, seat, chain, SHORTLY);
+    let (flow, mut emitter) = new_flow(&rt, rt.alloc(), Config::new().replay(1).extra(2));
+    let mut sharing = share_into(&rt, &*flow, &mut emitter, chain, SHORTLY);
     run_beside(&rt, &mut sharing, &FlowStop::new(), &mut emitter);
 }
 
@@ -127,8 +111,8 @@ fn a_shared_flows_run_is_woken_by_subscribers_and_at_the_expiry(rt: HostRuntime)
 #[test]
 fn a_run_sleeps_while_there_is_nothing_to_do(rt: HostRuntime) {
     let chain = chain_of(&rt, rt.alloc(), &[1, 2, 3]);
-    let (flow, seat) = new_flow(&rt, rt.alloc(), Config::new());
-    let (mut sharing, mut emitter) = share(&flow, seat, chain, AT_ONCE);
+    let (flow, mut emitter) = new_flow(&rt, rt.alloc(), Config::new());
+    let mut sharing = share_into(&rt, &*flow, &mut emitter, chain, AT_ONCE);
     run_beside(&rt, &mut sharing, &CountedStop::new(), &mut emitter);
 }
 
@@ -136,13 +120,12 @@ fn a_run_sleeps_while_there_is_nothing_to_do(rt: HostRuntime) {
 fn share_to_end<R: Wait + Clock + Abort>(
     rt: &R,
     flow: &SharedFlow<i64>,
-    seat: &mut Seat<i64>,
+    emitter: &mut Emitter<i64>,
     chain: Scripted<i64>,
 )
-    requires { seat.old.table_id ≡ flow.now.table_id }
-    ensures { seat.new.table_id ≡ flow.entry.now.table_id }
+    requires { emitter.old.flow ≡ flow.now }
 {
-    let mut sharing = share_into(flow, seat, chain, Started::Eagerly);
+    let mut sharing = share_into(rt, flow, emitter, chain, Started::Eagerly);
     compare(rt, "run_to_end", sharing.run_to_end(rt), Ok(()));
 }
 
@@ -150,7 +133,7 @@ fn share_to_end<R: Wait + Clock + Abort>(
 #[test]
 fn a_run_to_the_end_emits_each_item(rt: HostRuntime) {
     let chain = chain_of(&rt, rt.alloc(), &[1, 2, 3]);
-    let (flow, mut seat) = new_flow(&rt, rt.alloc(), Config::new().replay(3));
-    share_to_end(&rt, &flow, &mut seat, chain);
-    reads_cache(&rt, &flow, &mut seat, &[1, 2, 3]);
+    let (flow, mut emitter) = new_flow(&rt, rt.alloc(), Config::new().replay(3));
+    share_to_end(&rt, &*flow, &mut emitter, chain);
+    reads_cache(&rt, &mut emitter, &[1, 2, 3]);
 }

@@ -1,23 +1,20 @@
 //! Sharings over state flows that are run by one call, on a thread of their own.
-ghost use Rattle.std.specs.Prelude.{◌≡◌};
-
 use crate::flows::{new_state_flow, new_state_reader};
 use crate::sharing::beside::{AT_ONCE, Caller, Follows, SHORTLY, run_beside};
 use crate::sharing::shared::{chain_of, share_into_state};
 use flow_cold::Scripted;
-use flow_law::Started;
-use flow_shared::{Setter, StateFlow, StateReader, StateSeat};
+use flow_shared::{Setter, StateReader};
 use flow_sharing::{FlowStop, Sharing, StateFlowHub, StopSignal};
 use std::process::Abort;
 use std::sync::Wait;
 use std::thread::{Threads, yield_now};
 use std::time::Clock;
 
-fn waits_for_last<R: Wait>(rt: &R, reader: &mut StateReader<'_, i64>) -> bool {
+fn waits_for_last<R: Wait>(rt: &R, reader: &mut StateReader<i64>) -> bool {
     reader.wait_for(rt, |item| *item == 4) == Ok(4)
 }
 
-impl<'a> Caller for Setter<'a, i64> {
+impl Caller for Setter<i64> {
     fn receives<R: Wait + Abort>(&mut self, rt: &R) -> bool {
         let mut reader = new_state_reader(rt, self);
         let is_right = waits_for_last(rt, &mut reader);
@@ -43,8 +40,8 @@ impl StopSignal for LateStop {
     }
 }
 
-impl<'a> Follows<Setter<'a, i64>> for LateStop {
-    fn follow<R: Wait + Clock + Abort>(&self, rt: &R, caller: &mut Setter<'a, i64>) -> bool {
+impl Follows<Setter<i64>> for LateStop {
+    fn follow<R: Wait + Clock + Abort>(&self, rt: &R, caller: &mut Setter<i64>) -> bool {
         for _ in 0..self.yields {
             yield_now();
         }
@@ -53,29 +50,13 @@ impl<'a> Follows<Setter<'a, i64>> for LateStop {
     }
 }
 
-/// Shares a chain into the flow, and binds the seat.
-fn share<'a>(
-    flow: &'a StateFlow<i64>,
-    mut seat: StateSeat<i64>,
-    chain: Scripted<i64>,
-    started: Started,
-) -> (
-    Sharing<Scripted<i64>, StateFlowHub<'a, i64>>,
-    Setter<'a, i64>,
-)
-    requires { seat.table_id ≡ flow.now.table_id }
-{
-    let sharing = share_into_state(flow, &mut seat, chain, started);
-    (sharing, flow.setter(seat))
-}
-
 /// `stateIn` with `WhileSubscribed(stopTimeoutMillis = 3, replayExpirationMillis = 3)`: six milliseconds after a
 /// subscriber has gone the state is the initial one, 0. The next subscriber starts the chain anew.
 #[test]
 fn a_state_flows_run_is_woken_by_subscribers_and_at_the_expiry(rt: HostRuntime) {
     let chain = chain_of(&rt, rt.alloc(), &[3, 3, 4]);
-    let (flow, seat) = new_state_flow(&rt, rt.alloc(), 0, u64::MAX);
-    let (mut sharing, mut setter) = share(&flow, seat, chain, SHORTLY);
+    let (flow, mut setter) = new_state_flow(&rt, rt.alloc(), 0, u64::MAX);
+    let mut sharing = share_into_state(&rt, &*flow, &mut setter, chain, SHORTLY);
     run_beside(&rt, &mut sharing, &FlowStop::new(), &mut setter);
 }
 
@@ -83,7 +64,7 @@ fn a_state_flows_run_is_woken_by_subscribers_and_at_the_expiry(rt: HostRuntime) 
 fn run_often<R: Threads + Wait + Clock + Abort + Sync>(
     rt: &R,
     sharing: &mut Sharing<Scripted<i64>, StateFlowHub<'_, i64>>,
-    setter: &mut Setter<'_, i64>,
+    setter: &mut Setter<i64>,
 ) {
     for yields in 0..200 {
         let stop = LateStop {
@@ -98,7 +79,7 @@ fn run_often<R: Threads + Wait + Clock + Abort + Sync>(
 #[test]
 fn a_stop_that_comes_before_the_sleep_is_not_missed(rt: HostRuntime) {
     let chain = chain_of(&rt, rt.alloc(), &[1]);
-    let (flow, seat) = new_state_flow(&rt, rt.alloc(), 0, u64::MAX);
-    let (mut sharing, mut setter) = share(&flow, seat, chain, AT_ONCE);
+    let (flow, mut setter) = new_state_flow(&rt, rt.alloc(), 0, u64::MAX);
+    let mut sharing = share_into_state(&rt, &*flow, &mut setter, chain, AT_ONCE);
     run_often(&rt, &mut sharing, &mut setter);
 }

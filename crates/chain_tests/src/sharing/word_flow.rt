@@ -1,15 +1,16 @@
 //! A chain that is shared into a flow that is read without a lock.
 ghost use Rattle.std.specs.Prelude.{◌≡◌};
+ghost use Rattle.std.specs.Arc.{arc_value};
 
 use crate::compare::compare;
 use crate::sharing::shared::{PUTS, STARTS, count_to};
 use flow_cold::Scripted;
 use flow_law::{Command, Config, Event, Overflow, Report, Started};
 use flow_sharing::{Sharing, WordFlowHub};
-use flow_word_shared::{WordEmitter, WordFlow, WordFlowReader, WordFlowSeat};
+use flow_word_shared::{WordEmitter, WordFlow, WordFlowReader};
 use std::alloc::Global;
 use std::process::Abort;
-use std::sync::Wait;
+use std::sync::{Arc, Wait};
 
 /// The chain stops and the flow is reset as soon as the last subscriber has gone.
 const AT_ONCE: Started = Started::WhileSubscribed { stop: 0, expire: 0 };
@@ -20,30 +21,31 @@ const RESETS: Report = Report {
     event: Event::Idle,
 };
 
-/// Returns a flow that replays a value and keeps another one, and its first seat.
-fn new_word_flow(rt: &impl Abort, alloc: Global) -> (WordFlow<i64>, WordFlowSeat<i64>)
-    ensures { result.1.table_id ≡ result.0.table_id }
+/// Returns a flow that replays a value and keeps another one, and its first emitter.
+fn new_word_flow(rt: &impl Abort, alloc: Global) -> (Arc<WordFlow<i64>>, WordEmitter<i64>)
+    ensures { result.1.flow ≡ arc_value result.0 }
 {
     let config = Config::new()
         .replay(1)
         .extra(1)
         .overflow(Overflow::DropOldest);
-    WordFlow::new(alloc, config).expect(rt, "a flow")
+    let (flow, seat) = WordFlow::new(alloc, config).expect(rt, "a flow");
+    let flow = Arc::new(alloc, flow).expect(rt, "memory");
+    let again = Arc::try_clone(&flow).expect(rt, "an owner");
+    (flow, WordEmitter::new(again, seat))
 }
 
-/// Shares a chain into the flow, and binds the seat.
-fn share<'a>(
+/// Shares a chain into the flow.
+fn share<'a, R: Wait>(
+    rt: &R,
     flow: &'a WordFlow<i64>,
-    mut seat: WordFlowSeat<i64>,
+    emitter: &mut WordEmitter<i64>,
     chain: Scripted<i64>,
-) -> (
-    Sharing<Scripted<i64>, WordFlowHub<'a, i64>>,
-    WordEmitter<'a, i64>,
-)
-    requires { seat.table_id ≡ flow.now.table_id }
+) -> Sharing<Scripted<i64>, WordFlowHub<'a, i64>>
+    requires { emitter.old.flow ≡ flow.now }
 {
-    let sharing = Sharing::new(chain, AT_ONCE, WordFlowHub::new(flow, &mut seat));
-    (sharing, flow.emitter(seat))
+    let mut seat = emitter.another(rt).into_seat();
+    Sharing::new(chain, AT_ONCE, WordFlowHub::new(flow, &mut seat))
 }
 
 /// Takes a turn, and compares its report.
@@ -57,7 +59,7 @@ fn turns(
 }
 
 /// Receives these values, and nothing after them.
-fn receives<R: Wait + Abort>(rt: &R, reader: &mut WordFlowReader<'_, i64>, values: &[i64]) {
+fn receives<R: Wait + Abort>(rt: &R, reader: &mut WordFlowReader<i64>, values: &[i64]) {
     for value in values {
         compare(rt, "next", reader.next(rt), Some(*value));
     }
@@ -65,7 +67,7 @@ fn receives<R: Wait + Abort>(rt: &R, reader: &mut WordFlowReader<'_, i64>, value
 }
 
 /// Compares the replay cache.
-fn replays<R: Wait + Abort>(rt: &R, emitter: &mut WordEmitter<'_, i64>, values: &[i64]) {
+fn replays<R: Wait + Abort>(rt: &R, emitter: &mut WordEmitter<i64>, values: &[i64]) {
     let cache = emitter.replay_cache(rt).expect(rt, "a cache");
     compare(rt, "replay cache", cache.as_slice() == values, true);
 }
@@ -74,8 +76,9 @@ fn replays<R: Wait + Abort>(rt: &R, emitter: &mut WordEmitter<'_, i64>, values: 
 /// which misses the oldest of three values. When it has gone, the replay cache is emptied.
 #[test]
 fn a_shared_chain_does_not_wait_for_a_subscriber(rt: HostRuntime) {
-    let (flow, seat) = new_word_flow(&rt, rt.alloc());
-    let (mut sharing, mut emitter) = share(&flow, seat, count_to(&rt, rt.alloc(), 3));
+    let (flow, mut emitter) = new_word_flow(&rt, rt.alloc());
+    let chain = count_to(&rt, rt.alloc(), 3);
+    let mut sharing = share(&rt, &*flow, &mut emitter, chain);
     let mut reader = emitter.subscribe(&rt).expect(&rt, "a reader");
     turns(&rt, &mut sharing, 0, STARTS);
     turns(&rt, &mut sharing, 1, PUTS);

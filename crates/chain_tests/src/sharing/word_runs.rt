@@ -8,11 +8,11 @@ use std::process::Abort;
 use std::sync::Wait;
 use std::time::Clock;
 
-fn waits_for_last<R: Wait>(rt: &R, reader: &mut WordReader<'_, i64>) -> bool {
+fn waits_for_last<R: Wait>(rt: &R, reader: &mut WordReader<i64>) -> bool {
     reader.wait_for(rt, |item| *item == 4) == 4
 }
 
-impl<'a> Caller for WordSetter<'a, i64> {
+impl Caller for WordSetter<i64> {
     fn receives<R: Wait + Abort>(&mut self, rt: &R) -> bool {
         waits_for_last(rt, &mut new_word_reader(rt, self))
     }
@@ -22,8 +22,8 @@ impl<'a> Caller for WordSetter<'a, i64> {
     }
 }
 
-impl<'a> Follows<WordSetter<'a, i64>> for WordStop<'a, i64> {
-    fn follow<R: Wait + Clock + Abort>(&self, rt: &R, caller: &mut WordSetter<'a, i64>) -> bool {
+impl Follows<WordSetter<i64>> for WordStop<'_, i64> {
+    fn follow<R: Wait + Clock + Abort>(&self, rt: &R, caller: &mut WordSetter<i64>) -> bool {
         let follows = receives_twice(rt, caller);
         self.ask();
         follows
@@ -36,8 +36,8 @@ impl<'a> Follows<WordSetter<'a, i64>> for WordStop<'a, i64> {
 #[test]
 fn a_run_is_woken_by_subscribers_and_at_the_expiry(rt: HostRuntime) {
     let chain = chain_of(&rt, rt.alloc(), &[3, 3, 4]);
-    let (flow, mut seat) = new_word_state(&rt, rt.alloc(), 0, u32::MAX);
-    let mut sharing = share_into_word(&flow, &mut seat, chain, SHORTLY);
-    let stop = WordStop::new(&flow);
-    run_beside(&rt, &mut sharing, &stop, &mut flow.setter(seat));
+    let (flow, mut setter) = new_word_state(&rt, rt.alloc(), 0, u32::MAX);
+    let mut sharing = share_into_word(&rt, &*flow, &mut setter, chain, SHORTLY);
+    let stop = WordStop::new(&*flow);
+    run_beside(&rt, &mut sharing, &stop, &mut setter);
 }

@@ -11,24 +11,24 @@ use std::sync::Wait;
 
 /// The emitters and the subscribers of a crowd.
 #[derive(Drop)]
-pub struct Callers<'a> {
-    pub emitters: Vec<Emitter<'a, u64>>,
-    pub readers: Vec<Reader<'a, u64>>,
+pub struct Callers {
+    pub emitters: Vec<Emitter<u64>>,
+    pub readers: Vec<Reader<u64>>,
 }
 
 /// Makes all callers of a crowd through the first one of its flow. `None` if memory was refused.
-pub fn callers_of<'a, R: Wait>(
+pub fn callers_of<R: Wait>(
     rt: &R,
     alloc: Global,
-    maker: &mut Emitter<'a, u64>,
+    maker: &mut Emitter<u64>,
     size: CrowdSize,
-) -> Option<Callers<'a>>
+) -> Option<Callers>
     requires { maker.old.token.knows ≡ first_knowledge }
     ensures flow { maker.new.flow ≡ maker.old.flow }
     ensures made { IfSome result (λ r. AreMade size maker.old.flow
         maker.new.token.knows r.emitters.items r.readers.items) }
 {
-    let Ok(emitters) = maker.others(alloc, size.emitters) else {
+    let Ok(emitters) = maker.others(rt, alloc, size.emitters) else {
         return None;
     };
     let readers = subscribe_all(rt, alloc, maker, size.subscribers)?;

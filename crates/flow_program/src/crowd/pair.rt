@@ -1,12 +1,13 @@
 //! A pair of threads at a shared flow: one sends the numbers from 1 to n, the other receives them.
 ghost use Rattle.std.specs.Prelude.{◌≡◌, IfOk, IfErr, IfSome};
-ghost use Rattle.flow_program.specs.Crowds.{IsNewFlow};
+ghost use Rattle.flow_program.specs.Crowds.{IsFirst};
 ghost use Rattle.flow_program.specs.Numbers.{numbers_from};
 
 use crate::crowd::emitters::start_emitter;
+use crate::crowd::new_flow;
 use crate::crowd::receiving::receive_all;
-use flow_law::{Config, FlowFault};
-use flow_shared::{Seat, SharedFlow};
+use flow_law::FlowFault;
+use flow_shared::Emitter;
 use std::alloc::Global;
 use std::sync::Wait;
 use std::thread;
@@ -18,44 +19,41 @@ fn hand_over<'s, E, R: Threads + Wait + Sync>(
     rt: &'s R,
     alloc: Global,
     scope: &Scope<'s, E>,
-    flow: &'s SharedFlow<u64>,
-    seat: Seat<u64>,
+    emitter: Emitter<u64>,
     count: u64,
 ) -> Option<Vec<u64>>
-    requires { IsNewFlow flow.now seat }
+    requires { IsFirst emitter }
     ensures { IfSome result (λ got. got.items ≡ numbers_from 1 count) }
 {
     let list = Vec::with_capacity(alloc, count as usize).ok()?;
-    let mut seat = seat;
-    let Ok(subscription) = flow.subscribe(rt, &mut seat) else {
+    let mut emitter = emitter;
+    let Ok(mut reader) = emitter.subscribe(rt) else {
         return None;
     };
-    let sender = start_emitter(rt, scope, flow, seat, 1, count)?;
-    let mut reader = flow.reader(subscription);
+    let sender = start_emitter(rt, scope, emitter, 1, count)?;
     let got = receive_all(rt, &mut reader, count, list);
-    let mut emitter = flow.emitter(sender.join(rt));
+    let mut emitter = sender.join(rt);
     emitter.meet_twice(rt, &mut [], &mut [reader]);
     Some(got)
 }
 
-/// Hands over the numbers through this flow, in a scope of its own.
-fn at_flow<R: Threads + Wait + Sync>(
+/// Hands over the numbers through the flow of this first caller, in a scope of its own.
+fn hand_over_in_scope<R: Threads + Wait + Sync>(
     rt: &R,
     alloc: Global,
-    flow: &SharedFlow<u64>,
-    seat: Seat<u64>,
+    emitter: Emitter<u64>,
     count: u64,
 ) -> Option<Vec<u64>>
-    requires { IsNewFlow flow.now seat }
+    requires { IsFirst emitter }
     ensures { IfSome result (λ got. got.items ≡ numbers_from 1 count) }
 {
     thread::scope(
         thread::scope_env(),
         rt,
         move |scope| -> Option<Vec<u64>>
-            requires { IsNewFlow flow.now seat }
+            requires { IsFirst emitter }
             ensures { IfSome result (λ got. got.items ≡ numbers_from 1 count) }
-        { hand_over(rt, alloc, scope, flow, seat, count) },
+        { hand_over(rt, alloc, scope, emitter, count) },
     )
 }
 
@@ -63,8 +61,8 @@ fn at_flow<R: Threads + Wait + Sync>(
 fn through_new_flow<R: Threads + Wait + Sync>(rt: &R, alloc: Global, count: u64) -> Option<Vec<u64>>
     ensures { IfSome result (λ got. got.items ≡ numbers_from 1 count) }
 {
-    let (flow, seat) = SharedFlow::new(alloc, Config::new().extra(16)).ok()?;
-    at_flow(rt, alloc, &flow, seat, count)
+    let emitter = new_flow(alloc)?;
+    hand_over_in_scope(rt, alloc, emitter, count)
 }
 
 /// Makes a shared flow with no replay and room for 16 values, whose emitter waits for the subscriber

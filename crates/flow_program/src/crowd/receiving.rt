@@ -8,7 +8,7 @@ use std::sync::Wait;
 /// Receives `count` values into a list that is empty and has room for them.
 pub fn receive_all<R: Wait>(
     rt: &R,
-    reader: &mut Reader<'_, u64>,
+    reader: &mut Reader<u64>,
     count: u64,
     list: Vec<u64>,
 ) -> Vec<u64>

@@ -1,26 +1,26 @@
 //! The threads of a crowd, from their start to their end.
-ghost use Rattle.std.specs.Prelude.{◌≡◌, [], ◌≤◌, All, IfSome, vec_capacity, vec_len};
+ghost use Rattle.std.specs.Prelude.{◌≡◌, [], ◌≤◌, IfSome, vec_capacity, vec_len};
 ghost use Rattle.flow_program.specs.Crowds.{HaveRun};
 
 use crate::crowd::callers::Callers;
 use crate::crowd::emitters::{join_emitters, start_emitters};
 use crate::crowd::size::CrowdSize;
 use crate::crowd::subscribers::{join_subscribers, start_subscribers};
-use flow_shared::{Emitter, Reader, SharedFlow};
+use flow_shared::{Emitter, Reader};
 use std::alloc::Global;
 use std::sync::Wait;
 use std::thread::{Scope, Threads};
 
 /// The callers of a crowd whose threads have ended, and what each of its subscribers got.
 #[derive(Drop)]
-pub struct Ended<'a> {
-    pub emitters: Vec<Emitter<'a, u64>>,
-    pub readers: Vec<Reader<'a, u64>>,
+pub struct Ended {
+    pub emitters: Vec<Emitter<u64>>,
+    pub readers: Vec<Reader<u64>>,
     pub got: Vec<Vec<u64>>,
 }
 
 /// Returns room for this many callers, and for the lists of the subscribers. `None` if memory was refused.
-fn room_for<'a>(alloc: Global, emitters: usize, subscribers: usize) -> Option<Ended<'a>>
+fn room_for(alloc: Global, emitters: usize, subscribers: usize) -> Option<Ended>
     ensures emitters { IfSome result
         (λ r. (r.emitters.items ≡ []) × (emitters ≤ vec_capacity r.emitters)) }
     ensures readers { IfSome result
@@ -48,28 +48,25 @@ pub fn run_threads<'s, E, R: Threads + Wait + Sync>(
     rt: &'s R,
     alloc: Global,
     scope: &Scope<'s, E>,
-    flow: &'s SharedFlow<u64>,
-    callers: Callers<'s>,
+    callers: Callers,
     size: CrowdSize,
-) -> Option<Ended<'s>>
-    requires count { vec_len callers.emitters ≡ size.emitters }
-    requires emitters { All (λ c. c.flow.table_id ≡ flow.now.table_id) callers.emitters.items }
-    requires readers { All (λ r. r.flow.table_id ≡ flow.now.table_id) callers.readers.items }
-    ensures { IfSome result (λ r. HaveRun size flow.entry.now
-        callers.entry.emitters.items callers.entry.readers.items
+) -> Option<Ended>
+    requires { vec_len callers.emitters ≡ size.emitters }
+    ensures { IfSome result (λ r. HaveRun size
+        callers.emitters.items callers.readers.items
         r.emitters.items r.readers.items r.got.items) }
 {
     let Callers { emitters, readers } = callers;
-    let emitting = start_emitters(rt, alloc, scope, flow, emitters, u64::from(size.values))?;
-    let reading = start_subscribers(rt, alloc, scope, flow, readers, size.emitted())?;
+    let emitting = start_emitters(rt, alloc, scope, emitters, u64::from(size.values))?;
+    let reading = start_subscribers(rt, alloc, scope, readers, size.emitted())?;
     let room = room_for(alloc, emitting.len(), reading.len())?;
     let Ended {
         mut emitters,
         mut readers,
         mut got,
     } = room;
-    join_emitters(rt, flow, emitting, &mut emitters);
-    join_subscribers(rt, flow, reading, &mut readers, &mut got);
+    join_emitters(rt, emitting, &mut emitters);
+    join_subscribers(rt, reading, &mut readers, &mut got);
     Some(Ended {
         emitters,
         readers,

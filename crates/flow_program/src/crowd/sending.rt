@@ -8,7 +8,7 @@ use std::sync::Wait;
 use std::thread;
 
 /// Sends a value. If it is refused, lets other threads run and sends it again: the receiver makes room meanwhile.
-fn send<R: Wait>(rt: &R, emitter: &mut Emitter<'_, u64>, value: u64)
+fn send<R: Wait>(rt: &R, emitter: &mut Emitter<u64>, value: u64)
     ensures flow { emitter.new.flow ≡ emitter.old.flow }
     ensures sent { OnlyEmits (value ∷ []) emitter.old.token.knows emitter.new.token.knows }
 {
@@ -22,7 +22,7 @@ fn send<R: Wait>(rt: &R, emitter: &mut Emitter<'_, u64>, value: u64)
 }
 
 /// Sends `count` numbers, from `first` on.
-pub fn send_all<R: Wait>(rt: &R, emitter: &mut Emitter<'_, u64>, first: u64, count: u64)
+pub fn send_all<R: Wait>(rt: &R, emitter: &mut Emitter<u64>, first: u64, count: u64)
     requires { first + count ≤ 2 ^ 64 }
     ensures flow { emitter.new.flow ≡ emitter.old.flow }
     ensures sent { OnlyEmits

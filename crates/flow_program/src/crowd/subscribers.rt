@@ -1,11 +1,10 @@
 //! The subscribers of a crowd, and their threads.
-ghost use Rattle.std.specs.Prelude.{◌≡◌, [], ◌+◌, ◌<◌, ◌≤◌, All, ℕ, IfSome, length, slice_index_or, vec_capacity, vec_len};
+ghost use Rattle.std.specs.Prelude.{◌≡◌, [], ◌+◌, ◌<◌, ◌≤◌, ℕ, IfSome, slice_index_or, vec_capacity, vec_len};
 ghost use Rattle.flow_law.specs.history.Done.{done_by};
-ghost use Rattle.flow_program.specs.Callers.{Reads};
-ghost use Rattle.flow_program.specs.Crowds.{HasTakenAs, IsMaker, IsNewSubscription, WillRead};
+ghost use Rattle.flow_program.specs.Crowds.{HasTaken, HasTakenAs, IsMaker, IsNewSubscription, WillRead};
 
 use crate::crowd::receiving::receive_all;
-use flow_shared::{Emitter, Reader, SharedFlow, Subscription};
+use flow_shared::{Emitter, Reader};
 use std::alloc::Global;
 use std::snapshot::Snapshot;
 use std::sync::Wait;
@@ -13,12 +12,12 @@ use std::thread::{Promise, PromisedHandle, Scope, Threads};
 use std::vec::IntoIter;
 
 /// Subscribes `count` times. `None` if memory was refused.
-pub fn subscribe_all<'a, R: Wait>(
+pub fn subscribe_all<R: Wait>(
     rt: &R,
     alloc: Global,
-    maker: &mut Emitter<'a, u64>,
+    maker: &mut Emitter<u64>,
     count: u32,
-) -> Option<Vec<Reader<'a, u64>>>
+) -> Option<Vec<Reader<u64>>>
     requires { IsMaker maker.old.token.knows }
     ensures flow { maker.new.flow ≡ maker.old.flow }
     ensures maker { IfSome result (λ readers. IsMaker maker.new.token.knows) }
@@ -41,48 +40,36 @@ pub fn subscribe_all<'a, R: Wait>(
     Some(readers)
 }
 
-/// The promise of a thread that reads: it returns its subscription, which has received `count` values, and these
-/// values.
+/// The promise of a thread that reads: it returns its reader, which has received `count` values, and these values.
 #[derive(Drop)]
 pub struct ReadsAll {
-    pub subscription: Snapshot<Subscription<u64>>,
+    pub reader: Snapshot<Reader<u64>>,
     pub count: u64,
 }
 
-impl Promise<(Subscription<u64>, Vec<u64>)> for ReadsAll {
-    ghost use Rattle.std.specs.Prelude.{◌≡◌, length};
-    ghost use Rattle.flow_program.specs.Callers.{Reads};
+impl Promise<(Reader<u64>, Vec<u64>)> for ReadsAll {
+    ghost use Rattle.flow_program.specs.Crowds.{HasTaken};
 
-    ghost kept_by = { λ p ended. (ended.0.token.table_id ≡ p.subscription.value.token.table_id)
-        × (ended.0.number ≡ p.subscription.value.number)
-        × Reads p.subscription.value.number ended.1.items
-        p.subscription.value.token.knows ended.0.token.knows
-        × (length ended.1.items ≡ p.count) };
+    ghost kept_by = { λ p ended. HasTaken p.count p.reader.value ended.0 ended.1.items };
 }
 
 /// A thread that reads.
-pub type Reading = PromisedHandle<(Subscription<u64>, Vec<u64>), ReadsAll>;
+pub type Reading = PromisedHandle<(Reader<u64>, Vec<u64>), ReadsAll>;
 
-/// Receives `count` values into a list that is empty and has room for them. Returns the subscription and the list.
+/// Receives `count` values into a list that is empty and has room for them. Returns the reader and the list.
 fn read_all<R: Wait>(
     rt: &R,
-    flow: &SharedFlow<u64>,
-    subscription: Subscription<u64>,
+    reader: Reader<u64>,
     count: u64,
     list: Vec<u64>,
-) -> (Subscription<u64>, Vec<u64>)
-    requires table { subscription.token.table_id ≡ flow.now.table_id }
+) -> (Reader<u64>, Vec<u64>)
     requires empty { list.items ≡ [] }
     requires room { count ≤ vec_capacity list }
-    ensures table { result.0.token.table_id ≡ flow.entry.now.table_id }
-    ensures number { result.0.number ≡ subscription.number }
-    ensures received { Reads subscription.number
-        result.1.items subscription.token.knows result.0.token.knows }
-    ensures count { length result.1.items ≡ count }
+    ensures { HasTaken count reader result.0 result.1.items }
 {
-    let mut reader = flow.reader(subscription);
+    let mut reader = reader;
     let got = receive_all(rt, &mut reader, count, list);
-    (reader.into_subscription(), got)
+    (reader, got)
 }
 
 /// Starts a thread that receives `count` values into this list, and returns the readers that have no thread yet. If no
@@ -91,33 +78,25 @@ fn read_all<R: Wait>(
 fn start_subscriber<'s, E, R: Wait + Sync>(
     rt: &'s R,
     scope: &Scope<'s, E>,
-    flow: &'s SharedFlow<u64>,
-    subscription: Subscription<u64>,
+    reader: Reader<u64>,
     count: u64,
     list: Vec<u64>,
-    left: IntoIter<Reader<'s, u64>>,
-) -> Option<(Reading, IntoIter<Reader<'s, u64>>)>
-    requires table { subscription.token.table_id ≡ flow.now.table_id }
+    left: IntoIter<Reader<u64>>,
+) -> Option<(Reading, IntoIter<Reader<u64>>)>
     requires empty { list.items ≡ [] }
     requires room { count ≤ vec_capacity list }
-    ensures thread { IfSome result (λ started.
-        WillRead flow.entry.now.table_id subscription count started.0.promise) }
-    ensures left { IfSome result (λ started. started.1 ≡ left.entry) }
+    ensures thread { IfSome result (λ started. WillRead reader count started.0.promise) }
+    ensures left { IfSome result (λ started. started.1 ≡ left) }
 {
     let promise = ReadsAll {
-        subscription: Snapshot::of(&subscription),
+        reader: Snapshot::of(&reader),
         count,
     };
-    let started = scope.spawn_with(
-        promise,
-        move || read_all(rt, flow, subscription, count, list),
-    );
-    match started {
+    match scope.spawn_with(promise, move || read_all(rt, reader, count, list)) {
         Ok(thread) => Some((thread, left)),
         Err(refused) => {
             drop(left);
-            let (subscription, _got) = (refused.value)();
-            drop(flow.reader(subscription));
+            let _read = (refused.value)();
             None
         }
     }
@@ -129,50 +108,44 @@ pub fn start_subscribers<'s, E, R: Wait + Sync>(
     rt: &'s R,
     alloc: Global,
     scope: &Scope<'s, E>,
-    flow: &'s SharedFlow<u64>,
-    readers: Vec<Reader<'s, u64>>,
+    readers: Vec<Reader<u64>>,
     count: u64,
 ) -> Option<Vec<Reading>>
-    requires { All (λ r. r.flow.table_id ≡ flow.now.table_id) readers.items }
-    ensures count { IfSome result (λ threads. vec_len threads ≡ vec_len readers.entry) }
-    ensures promised { IfSome result (λ threads. (i : ℕ) (d r : _) → i < vec_len readers.entry →
-        WillRead flow.entry.now.table_id (slice_index_or readers.entry.items i r).subscription count
+    ensures count { IfSome result (λ threads. vec_len threads ≡ vec_len readers) }
+    ensures promised { IfSome result (λ threads. (i : ℕ) (d r : _) → i < vec_len readers →
+        WillRead (slice_index_or readers.items i r) count
         (slice_index_or threads.items i d).promise) }
 {
     let mut threads = Vec::with_capacity(alloc, readers.len()).ok()?;
     let mut left = readers.into_iter();
     while let Some(reader) = left.next() {
         let list = Vec::with_capacity(alloc, count as usize).ok()?;
-        let subscription = reader.into_subscription();
-        let (thread, others) = start_subscriber(rt, scope, flow, subscription, count, list, left)?;
+        let (thread, others) = start_subscriber(rt, scope, reader, count, list, left)?;
         threads.push_reserved(thread);
         left = others;
     }
     Some(threads)
 }
 
-/// Waits until all threads have ended, and adds their subscribers, and what each of them got, to two lists that are
-/// empty and have room for them.
-pub fn join_subscribers<'a, R: Threads>(
+/// Waits until all threads have ended, and adds their readers, and what each of them got, to two lists that are empty
+/// and have room for them.
+pub fn join_subscribers<R: Threads>(
     rt: &R,
-    flow: &'a SharedFlow<u64>,
     threads: Vec<Reading>,
-    readers: &mut Vec<Reader<'a, u64>>,
+    readers: &mut Vec<Reader<u64>>,
     got: &mut Vec<Vec<u64>>,
 )
-    requires table { All
-        (λ t. t.promise.subscription.value.token.table_id ≡ flow.now.table_id) threads.items }
     requires readers { (readers.old.items ≡ []) × (vec_len threads ≤ vec_capacity readers.old) }
     requires lists { (got.old.items ≡ []) × (vec_len threads ≤ vec_capacity got.old) }
     ensures readers { vec_len readers.new ≡ vec_len threads }
     ensures lists { vec_len got.new ≡ vec_len threads }
-    ensures taken { (i : ℕ) (d v t : _) → i < vec_len threads → HasTakenAs flow.entry.now
+    ensures taken { (i : ℕ) (d v t : _) → i < vec_len threads → HasTakenAs
         (slice_index_or threads.items i t).promise
         (slice_index_or readers.new.items i d) (slice_index_or got.new.items i v).items }
 {
     for thread in threads {
-        let (subscription, list) = thread.join(rt);
-        readers.push_reserved(flow.reader(subscription));
+        let (reader, list) = thread.join(rt);
+        readers.push_reserved(reader);
         got.push_reserved(list);
     }
 }

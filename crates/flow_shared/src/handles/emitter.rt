@@ -11,10 +11,9 @@ ghost use Rattle.flow_shared.specs.SharedReplies.{SharedCalls, Emits, EmitsNow, 
 ghost use Rattle.flow_shared.specs.BoundReplies.{emitted_by, emitted_flow};
 ghost use Rattle.flow_shared.specs.Sending.{Sends, SendsInTime};
 
-use super::bound_emission::EmitAnswer;
-use super::caller::{BoundSeat, FlowCaller, OwnedCaller};
-use super::held::{HoldsFlow, SharesFlow, once_more};
-use super::reader::BoundSubscription;
+use super::bound_emission::{BoundEmission, EmitAnswer};
+use super::caller::FlowCaller;
+use super::reader::FlowReader;
 use super::{emit_now_error, number_error};
 use crate::flow::Flow;
 use crate::shared::{Seat, SendEnd};
@@ -23,48 +22,32 @@ use flow_core::SharedCore;
 use flow_law::{
     Busy, EmitNowError, Exhausted, FlowValue, NumberError, OutOfMemory, Refused, Rejected,
 };
-use flow_sleepers::Limit;
+use flow_sleepers::{Limit, one_more_owner};
 use std::alloc::{Allocator, Global};
 use std::sync::{Arc, Wait};
 use std::time::{Clock, Duration};
 
 /// A caller of a shared flow.
-pub type Emitter<'a, T, A = Global> = FlowCaller<'a, SharedCore<T, A>, A>;
-
-/// A caller of a shared flow that owns the flow together with other handles. It has the calls of an `Emitter`, except
-/// `emit`, `emit_now`, `into_send` and `view`.
-pub type OwnedEmitter<T, A = Global> = OwnedCaller<SharedCore<T, A>, A>;
+pub type Emitter<T, A = Global> = FlowCaller<SharedCore<T, A>, A>;
 
 impl<T: FlowValue, A: Allocator + Copy> Flow<SharedCore<T, A>, A> {
-    /// Binds a seat to its flow.
-    pub fn emitter(&self, seat: Seat<T, A>) -> Emitter<'_, T, A>
-        requires { seat.table_id ≡ self.now.table_id }
-        ensures { result ≡ called_by self.now seat }
-    {
-        BoundSeat::new(self, seat)
-    }
-
     /// Binds a seat to its flow, and puts the flow into memory that its handles own together: dropping the last one
-    /// ends the flow. `another` and `subscribe` make more of them.
+    /// drops the flow. `another` and `subscribe` make more of them.
     ///
     /// # Errors
     /// `OutOfMemory`. The flow and the seat are dropped.
-    pub fn into_emitter(self, alloc: A, seat: Seat<T, A>) -> Result<OwnedEmitter<T, A>, OutOfMemory>
+    pub fn into_emitter(self, alloc: A, seat: Seat<T, A>) -> Result<Emitter<T, A>, OutOfMemory>
         requires { seat.table_id ≡ self.table_id }
         ensures { IfOk result (λ emitter. emitter ≡ called_by self seat) }
     {
         match Arc::new(alloc, self) {
-            Ok(flow) => Ok(BoundSeat::new(flow, seat)),
+            Ok(flow) => Ok(FlowCaller::new(flow, seat)),
             Err(_failed) => Err(OutOfMemory),
         }
     }
 }
 
-impl<T: FlowValue, A: Allocator + Copy, H: HoldsFlow<SharedCore<T, A>, A>> BoundSeat<
-    SharedCore<T, A>,
-    A,
-    H,
-> {
+impl<T: FlowValue, A: Allocator + Copy> FlowCaller<SharedCore<T, A>, A> {
     /// Emits a value if it need not wait for room, and returns `true` if the flow took it or, under `DropLatest`,
     /// dropped it. If `emit` would wait, it returns `false`, drops the value and does not change the flow.
     ///
@@ -81,7 +64,7 @@ impl<T: FlowValue, A: Allocator + Copy, H: HoldsFlow<SharedCore<T, A>, A>> Bound
             (try_emit_reply (handed_by limit_fault result)) self.new.token }
         ensures handed_back { IfErr result (λ rejected. rejected.value ≡ value) }
     {
-        match self.flow.lend().try_emit(rt, &mut self.seat, value) {
+        match self.flow.try_emit(rt, &mut self.seat, value) {
             Ok(taken) => Ok(taken),
             Err(Refused { value, fault: _ }) => Err(Rejected {
                 value,
@@ -105,7 +88,7 @@ impl<T: FlowValue, A: Allocator + Copy, H: HoldsFlow<SharedCore<T, A>, A>> Bound
             (handed_by number_fault result) self.new.token }
         ensures handed_back { IfErr result (λ rejected. rejected.value ≡ value) }
     {
-        match self.flow.lend().send(rt, &mut self.seat, value) {
+        match self.flow.send(rt, &mut self.seat, value) {
             Ok(()) => Ok(()),
             Err(Refused { value, fault }) => Err(Rejected {
                 value,
@@ -136,11 +119,7 @@ impl<T: FlowValue, A: Allocator + Copy, H: HoldsFlow<SharedCore<T, A>, A>> Bound
         ensures handed_back { IfErr result (λ rejected. rejected.value ≡ value) }
     {
         let limit = Limit::new(rt, limit);
-        match self
-            .flow
-            .lend()
-            .send_within(rt, &mut self.seat, value, &limit)
-        {
+        match self.flow.send_within(rt, &mut self.seat, value, &limit) {
             Ok(end) => Ok(end),
             Err(Refused { value, fault }) => Err(Rejected {
                 value,
@@ -158,7 +137,7 @@ impl<T: FlowValue, A: Allocator + Copy, H: HoldsFlow<SharedCore<T, A>, A>> Bound
         ensures called { SharedCalls self.old.flow self.old.token call.ReplayCache
             (cache_reply (answer_by memory_fault result)) self.new.token }
     {
-        let values = self.flow.lend().replay_cache(rt, &mut self.seat);
+        let values = self.flow.replay_cache(rt, &mut self.seat);
         values.map_err(|_fault| OutOfMemory)
     }
 
@@ -168,7 +147,7 @@ impl<T: FlowValue, A: Allocator + Copy, H: HoldsFlow<SharedCore<T, A>, A>> Bound
         ensures called { SharedCalls self.old.flow self.old.token
             call.ResetReplayCache reply.Reset self.new.token }
     {
-        self.flow.lend().reset_replay_cache(rt, &mut self.seat);
+        self.flow.reset_replay_cache(rt, &mut self.seat);
     }
 
     /// Empties the replay cache if no other caller holds the flow; otherwise returns `Busy`.
@@ -177,31 +156,27 @@ impl<T: FlowValue, A: Allocator + Copy, H: HoldsFlow<SharedCore<T, A>, A>> Bound
         ensures called { ResetsNow self.old.flow self.old.token
             (answer_by busy_fault result) self.new.token }
     {
-        let reset = self.flow.lend().reset_now(&mut self.seat);
+        let reset = self.flow.reset_now(&mut self.seat);
         reset.map_err(|_busy| Busy)
     }
 }
 
-impl<T: FlowValue, A: Allocator + Copy, H: SharesFlow<SharedCore<T, A>, A>> BoundSeat<
-    SharedCore<T, A>,
-    A,
-    H,
-> {
+impl<T: FlowValue, A: Allocator + Copy> FlowCaller<SharedCore<T, A>, A> {
     /// Subscribes. The reader gets these values before any value of the flow (`onSubscription`). An error returns them.
     pub fn subscribe_with<R: Wait>(
         &mut self,
         rt: &R,
         first: Vec<T, A>,
-    ) -> Result<BoundSubscription<SharedCore<T, A>, A, H>, Rejected<Vec<T, A>, NumberError>>
+    ) -> Result<FlowReader<SharedCore<T, A>, A>, Rejected<Vec<T, A>, NumberError>>
         ensures flow { self.new.flow ≡ self.old.flow }
         ensures subscribed { SubscribesBound shared_flow
             (λ name. call.Subscribe name first.items) self.old
             (fault_alone (handed_by number_fault result)) self.new.token }
         ensures handed_back { IfErr result (λ rejected. rejected.value ≡ first) }
     {
-        let flow = once_more(rt, &self.flow);
-        match self.flow.lend().subscribe_with(rt, &mut self.seat, first) {
-            Ok(subscription) => Ok(BoundSubscription::new(flow, subscription)),
+        let flow = one_more_owner(rt, &self.flow);
+        match self.flow.subscribe_with(rt, &mut self.seat, first) {
+            Ok(subscription) => Ok(FlowReader::new(flow, subscription)),
             Err(Refused { value, fault }) => Err(Rejected {
                 value,
                 error: number_error(fault),
@@ -210,24 +185,23 @@ impl<T: FlowValue, A: Allocator + Copy, H: SharesFlow<SharedCore<T, A>, A>> Boun
     }
 }
 
-impl<'a, T: FlowValue, A: Allocator + Copy> FlowCaller<'a, SharedCore<T, A>, A> {
+impl<T: FlowValue, A: Allocator + Copy> FlowCaller<SharedCore<T, A>, A> {
     /// Emits a value, or queues it. Poll a queued emission until it is done, or cancel it; dropping it cancels it.
     ///
     /// # Errors
     /// `Refused`, with the emitter and the value: `Exhausted`, or `OutOfMemory` if the value would have to wait and
     /// there is no memory for it.
-    pub fn emit<R: Wait>(self, rt: &R, value: T) -> EmitAnswer<'a, T, NumberError, A>
-        ensures flow { emitted_flow result ≡ self.entry.flow }
-        ensures emits { Emits self.entry.flow self.entry.token value
+    pub fn emit<R: Wait>(self, rt: &R, value: T) -> EmitAnswer<T, NumberError, A>
+        ensures flow { emitted_flow result ≡ self.flow }
+        ensures emits { Emits self.flow self.token value
             (emitted_by number_fault result) }
     {
-        let flow = self.flow;
-        let seat = self.into_seat();
+        let (flow, seat) = self.into_parts();
         match flow.emit(rt, seat, value) {
-            Emitted::Done(seat) => EmitAnswer::Done(BoundSeat::new(flow, seat)),
-            Emitted::Queued(emission) => EmitAnswer::Queued(flow.emission(emission)),
+            Emitted::Done(seat) => EmitAnswer::Done(FlowCaller::new(flow, seat)),
+            Emitted::Queued(emission) => EmitAnswer::Queued(BoundEmission::new(flow, emission)),
             Emitted::Refused(seat, value, fault) => EmitAnswer::Refused(
-                BoundSeat::new(flow, seat),
+                FlowCaller::new(flow, seat),
                 Rejected {
                     value,
                     error: number_error(fault),
@@ -237,18 +211,17 @@ impl<'a, T: FlowValue, A: Allocator + Copy> FlowCaller<'a, SharedCore<T, A>, A> 
     }
 
     /// Emits a value as `emit` does if no other caller holds the flow; otherwise the error is `Busy`.
-    pub fn emit_now(self, value: T) -> EmitAnswer<'a, T, EmitNowError, A>
-        ensures flow { emitted_flow result ≡ self.entry.flow }
-        ensures emits { EmitsNow self.entry.flow self.entry.token value
+    pub fn emit_now(self, value: T) -> EmitAnswer<T, EmitNowError, A>
+        ensures flow { emitted_flow result ≡ self.flow }
+        ensures emits { EmitsNow self.flow self.token value
             (emitted_by emit_now_fault result) }
     {
-        let flow = self.flow;
-        let seat = self.into_seat();
+        let (flow, seat) = self.into_parts();
         match flow.emit_now(seat, value) {
-            Emitted::Done(seat) => EmitAnswer::Done(BoundSeat::new(flow, seat)),
-            Emitted::Queued(emission) => EmitAnswer::Queued(flow.emission(emission)),
+            Emitted::Done(seat) => EmitAnswer::Done(FlowCaller::new(flow, seat)),
+            Emitted::Queued(emission) => EmitAnswer::Queued(BoundEmission::new(flow, emission)),
             Emitted::Refused(seat, value, fault) => EmitAnswer::Refused(
-                BoundSeat::new(flow, seat),
+                FlowCaller::new(flow, seat),
                 Rejected {
                     value,
                     error: emit_now_error(fault),

@@ -4,8 +4,7 @@ ghost use Rattle.std.specs.Iterator.{at_most};
 ghost use Rattle.std.specs.Sync.Forever.{forever_left};
 ghost use Rattle.flow_shared.specs.Iterating.{GivesNextReceived, GivesInTime};
 
-use super::held::HoldsFlow;
-use super::reader::BoundSubscription;
+use super::reader::FlowReader;
 use flow_core::ReaderCalls;
 use flow_law::OutOfMemory;
 use flow_sleepers::Limit;
@@ -16,28 +15,28 @@ use std::time::{Clock, Duration};
 /// An iterator over the values of a reader. Each item is what one `receive`, or one `changed` of a state flow's reader,
 /// gives: the thread sleeps while there is no value. It does not end: leave the loop by `break`, `return` or `?`.
 #[derive(Drop)]
-pub struct Values<'r, S: ReaderCalls, R: Wait, A: Allocator + Copy, H: HoldsFlow<S, A>> {
-    reader: &'r mut BoundSubscription<S, A, H>,
+pub struct Values<'r, S: ReaderCalls, R: Wait, A: Allocator + Copy> {
+    reader: &'r mut FlowReader<S, A>,
     rt: &'r R,
     turns: Forever<'r, R>,
 }
 
 /// An iterator over the values of a reader that ends when its time is up, or if the clock cannot be read.
 #[derive(Drop)]
-pub struct ValuesUntil<'r, S: ReaderCalls, R: Wait, A: Allocator + Copy, H: HoldsFlow<S, A>> {
-    reader: &'r mut BoundSubscription<S, A, H>,
+pub struct ValuesUntil<'r, S: ReaderCalls, R: Wait, A: Allocator + Copy> {
+    reader: &'r mut FlowReader<S, A>,
     rt: &'r R,
     limit: Limit,
     turns: Forever<'r, R>,
 }
 
-impl<S: ReaderCalls + Drop, A: Allocator + Copy, H: HoldsFlow<S, A>> BoundSubscription<S, A, H> {
+impl<S: ReaderCalls + Drop, A: Allocator + Copy> FlowReader<S, A> {
     /// Returns an iterator over the next values. Each item is a value, or `OutOfMemory` if it could not be copied: it
     /// is then the next item.
     ///
     /// # Source
     /// `Flow.collect`.
-    pub fn values<'r, R: Wait>(&'r mut self, rt: &'r R) -> Values<'r, S, R, A, H>
+    pub fn values<'r, R: Wait>(&'r mut self, rt: &'r R) -> Values<'r, S, R, A>
         ensures { result.reader.now ≡ self.old }
     {
         Values {
@@ -56,7 +55,7 @@ impl<S: ReaderCalls + Drop, A: Allocator + Copy, H: HoldsFlow<S, A>> BoundSubscr
         &'r mut self,
         rt: &'r R,
         limit: Duration,
-    ) -> ValuesUntil<'r, S, R, A, H>
+    ) -> ValuesUntil<'r, S, R, A>
         ensures { result.reader.now ≡ self.old }
     {
         ValuesUntil {
@@ -68,8 +67,7 @@ impl<S: ReaderCalls + Drop, A: Allocator + Copy, H: HoldsFlow<S, A>> BoundSubscr
     }
 }
 
-impl<'r, S: ReaderCalls + Drop, R: Wait, A: Allocator + Copy, H: HoldsFlow<S, A>> Iterator
-    for Values<'r, S, R, A, H> {
+impl<'r, S: ReaderCalls + Drop, R: Wait, A: Allocator + Copy> Iterator for Values<'r, S, R, A> {
     type Item = Result<S::Item, OutOfMemory>;
 
     ghost next_gives = { λ s item t. GivesNextReceived S.kind s.reader.now item t.reader.now };
@@ -86,8 +84,8 @@ impl<'r, S: ReaderCalls + Drop, R: Wait, A: Allocator + Copy, H: HoldsFlow<S, A>
     }
 }
 
-impl<'r, S: ReaderCalls + Drop, R: Wait + Clock, A: Allocator + Copy, H: HoldsFlow<S, A>> Iterator
-    for ValuesUntil<'r, S, R, A, H> {
+impl<'r, S: ReaderCalls + Drop, R: Wait + Clock, A: Allocator + Copy> Iterator
+    for ValuesUntil<'r, S, R, A> {
     type Item = Result<S::Item, OutOfMemory>;
 
     ghost next_gives = { λ s item t. GivesInTime S.kind s.reader.now item t.reader.now };

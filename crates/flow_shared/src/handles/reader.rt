@@ -1,17 +1,17 @@
 //! A subscription bound to its flow.
-ghost use Rattle.std.specs.Prelude.{◌≡◌, IsOk, IfErr, MatchResult};
+ghost use Rattle.std.specs.Prelude.{◌≡◌, IsOk, IfErr};
+ghost use Rattle.std.specs.Arc.{arc_value};
 ghost use Rattle.std.specs.Result.{OnErr};
 ghost use Rattle.flow_law.specs.declared.errors.TryNextError.TheVariants as try_next;
 ghost use Rattle.flow_law.specs.flow.Draining.{DrainsBy, IsFull};
 ghost use Rattle.flow_law.specs.history.Growth.{makes, child};
 ghost use Rattle.flow_law.specs.history.HandleFaults.{answer_by, memory_fault, try_next_fault};
-ghost use Rattle.flow_law.specs.history.Handles.{called_by, read_by, next_in};
+ghost use Rattle.flow_law.specs.history.Handles.{read_by, next_in};
 ghost use Rattle.flow_law.specs.history.Tokens.{knowing};
 ghost use Rattle.flow_shared.specs.Calls.{NextsOf, NextsNow, Unsubscribes, UnsubscribesNow};
 ghost use Rattle.flow_shared.specs.BoundReplies.{drained_by, left_by, left_flow};
 
-use super::caller::{BoundSeat, FlowCaller, OwnedCaller};
-use super::held::HoldsFlow;
+use super::caller::FlowCaller;
 use super::try_next_error;
 use crate::calling::Sleepless;
 use crate::drain::DrainEnd;
@@ -20,6 +20,7 @@ use crate::flow::Flow;
 use crate::token::FlowSubscription;
 use flow_core::{ReaderCalls, SharedCore, StateCore, SubscriberCalls};
 use flow_law::{Next, OutOfMemory, TryNextError};
+use flow_sleepers::one_more_owner;
 use std::alloc::{Allocator, Global};
 use std::marker::Model;
 use std::sync::{Arc, Wait};
@@ -28,70 +29,46 @@ use std::sync::{Arc, Wait};
 ///
 /// # Dropping
 /// Dropping the reader ends its subscription, as `unsubscribe` does, without waiting. If other callers hold the flow at
-/// each of many tries, the subscription stays in the flow.
-pub struct BoundSubscription<S: ReaderCalls, A: Allocator + Copy, H: HoldsFlow<S, A>> {
-    pub(crate) flow: H,
+/// each of many tries, the subscription stays in the flow. The last handle drops the flow.
+pub struct FlowReader<S: ReaderCalls, A: Allocator + Copy = Global> {
+    pub(crate) flow: Arc<Flow<S, A>, A>,
     pub(crate) subscription: FlowSubscription<S, A>,
 }
 
-/// A subscription and its flow, which is lent.
-pub type FlowReader<'a, S, A = Global> = BoundSubscription<S, A, &'a Flow<S, A>>;
-
-/// A subscription that owns its flow together with other handles. It has the calls of a `FlowReader`, except
-/// `into_stream`.
-pub type OwnedFlowReader<S, A = Global> = BoundSubscription<S, A, Arc<Flow<S, A>, A>>;
-
 /// A subscription to a shared flow.
-pub type Reader<'a, T, A = Global> = FlowReader<'a, SharedCore<T, A>, A>;
-
-/// A subscription to a shared flow that owns the flow together with other handles. It has the calls of a `Reader`,
-/// except `into_stream` and `into_receive`.
-pub type OwnedReader<T, A = Global> = OwnedFlowReader<SharedCore<T, A>, A>;
+pub type Reader<T, A = Global> = FlowReader<SharedCore<T, A>, A>;
 
 /// A subscription to a state flow.
-pub type StateReader<'a, T, A = Global> = FlowReader<'a, StateCore<T, A>, A>;
+pub type StateReader<T, A = Global> = FlowReader<StateCore<T, A>, A>;
 
-/// A subscription to a state flow that owns the flow together with other handles. It has the calls of a `StateReader`,
-/// except `into_stream` and `into_changed`.
-pub type OwnedStateReader<T, A = Global> = OwnedFlowReader<StateCore<T, A>, A>;
-
-impl<S: ReaderCalls + Drop, A: Allocator + Copy, H: HoldsFlow<S, A>> Drop
-    for BoundSubscription<S, A, H> {
+impl<S: ReaderCalls + Drop, A: Allocator + Copy> Drop for FlowReader<S, A> {
     fn drop(self) {
         let Self { flow, subscription } = self;
-        let _ended = flow.lend().unsubscribe_within(subscription, TRIES);
+        let _ended = flow.unsubscribe_within(subscription, TRIES);
     }
 }
 
-impl<S: ReaderCalls, A: Allocator + Copy, H: HoldsFlow<S, A>> Model for BoundSubscription<S, A, H> {
+impl<S: ReaderCalls, A: Allocator + Copy> Model for FlowReader<S, A> {
     ghost use Rattle.std.specs.Prelude.{◌≡◌};
+    ghost use Rattle.std.specs.Arc.{arc_value};
     ghost use Rattle.atomic_table.specs.Seated.{TableId};
     ghost use Rattle.flow_law.specs.declared.history.Said.{Said};
     ghost use Rattle.flow_law.specs.history.Handles.{ReaderOf, read_by};
 
     ghost Value = { ReaderOf TableId S.State (Said S.Call S.Reply) };
 
-    ghost view = { λ r. read_by (H.held r.flow) r.subscription };
+    ghost view = { λ r. read_by (arc_value r.flow) r.subscription };
 
-    ghost invariant = { λ r. r.subscription.token.table_id ≡ (H.held r.flow).table_id };
+    ghost invariant = { λ r. r.subscription.token.table_id ≡ (arc_value r.flow).table_id };
 }
 
-impl<S: ReaderCalls + Drop, A: Allocator + Copy> Flow<S, A> {
+impl<S: ReaderCalls + Drop, A: Allocator + Copy> FlowReader<S, A> {
     /// Binds a subscription to its flow.
-    pub fn reader(&self, subscription: FlowSubscription<S, A>) -> FlowReader<'_, S, A>
-        requires { subscription.token.table_id ≡ self.now.table_id }
-        ensures { result ≡ read_by self.now subscription }
+    pub fn new(flow: Arc<Flow<S, A>, A>, subscription: FlowSubscription<S, A>) -> FlowReader<S, A>
+        requires { subscription.token.table_id ≡ (arc_value flow).table_id }
+        ensures { result ≡ read_by (arc_value flow) subscription }
     {
-        BoundSubscription::new(self, subscription)
-    }
-}
-
-impl<S: ReaderCalls + Drop, A: Allocator + Copy, H: HoldsFlow<S, A>> BoundSubscription<S, A, H> {
-    pub(crate) fn new(flow: H, subscription: FlowSubscription<S, A>) -> BoundSubscription<S, A, H>
-        requires { subscription.token.table_id ≡ (H.held flow).table_id }
-        ensures { result ≡ read_by (H.held flow) subscription }
-    {
-        BoundSubscription { flow, subscription }
+        FlowReader { flow, subscription }
     }
 
     /// Takes the next value, or returns `None` if the subscriber has received all values.
@@ -117,7 +94,7 @@ impl<S: ReaderCalls + Drop, A: Allocator + Copy, H: HoldsFlow<S, A>> BoundSubscr
             (next_in (answer_by try_next_fault result)) self.new.subscription }
         ensures given { S.Item.IsAlwaysCopied → IfErr result (λ error. error ≡ try_next.Busy) }
     {
-        match self.flow.lend().next_now(&mut self.subscription) {
+        match self.flow.next_now(&mut self.subscription) {
             Ok(Next::Value(value)) => Ok(Some(value)),
             Ok(_) => Ok(None),
             Err(fault) => Err(try_next_error(fault)),
@@ -125,25 +102,25 @@ impl<S: ReaderCalls + Drop, A: Allocator + Copy, H: HoldsFlow<S, A>> BoundSubscr
     }
 
     /// Ends the subscription, and returns a caller with its seat. Emitters that waited only for it stop waiting.
-    pub fn unsubscribe<R: Wait>(self, rt: &R) -> BoundSeat<S, A, H>
+    pub fn unsubscribe<R: Wait>(self, rt: &R) -> FlowCaller<S, A>
         ensures flow { result.flow ≡ self.flow }
         ensures left { Unsubscribes S.kind self.flow self.subscription result.token }
     {
-        let BoundSubscription { flow, subscription } = self;
-        let seat = flow.lend().unsubscribe(rt, subscription);
-        BoundSeat::new(flow, seat)
+        let FlowReader { flow, subscription } = self;
+        let seat = flow.unsubscribe(rt, subscription);
+        FlowCaller::new(flow, seat)
     }
 
     /// Ends the subscription if no other caller holds the flow; otherwise returns the reader.
-    pub fn try_unsubscribe(self) -> Result<BoundSeat<S, A, H>, BoundSubscription<S, A, H>>
+    pub fn try_unsubscribe(self) -> Result<FlowCaller<S, A>, FlowReader<S, A>>
         ensures flow { left_flow result ≡ self.flow }
         ensures left { UnsubscribesNow S.kind self.flow self.subscription
             (left_by result) }
     {
-        let BoundSubscription { flow, subscription } = self;
-        match flow.lend().unsubscribe_now(subscription) {
-            Ok(seat) => Ok(BoundSeat::new(flow, seat)),
-            Err(back) => Err(BoundSubscription::new(flow, back)),
+        let FlowReader { flow, subscription } = self;
+        match flow.unsubscribe_now(subscription) {
+            Ok(seat) => Ok(FlowCaller::new(flow, seat)),
+            Err(back) => Err(FlowReader::new(flow, back)),
         }
     }
 
@@ -152,7 +129,7 @@ impl<S: ReaderCalls + Drop, A: Allocator + Copy, H: HoldsFlow<S, A>> BoundSubscr
         ensures subscription { result ≡ self.subscription }
         ensures flow { result.token.table_id ≡ self.flow.table_id }
     {
-        let BoundSubscription {
+        let FlowReader {
             flow: _,
             subscription,
         } = self;
@@ -160,9 +137,9 @@ impl<S: ReaderCalls + Drop, A: Allocator + Copy, H: HoldsFlow<S, A>> BoundSubscr
     }
 }
 
-impl<'a, S: ReaderCalls + Drop, A: Allocator + Copy> FlowReader<'a, S, A> {
-    /// Makes a caller of the same flow through the seat of this subscription.
-    pub fn another(&mut self) -> FlowCaller<'a, S, A>
+impl<S: ReaderCalls + Drop, A: Allocator + Copy> FlowReader<S, A> {
+    /// Makes a caller of the same flow through the seat of this subscription. It waits while the flow has 2^63 owners.
+    pub fn another<R: Wait>(&mut self, rt: &R) -> FlowCaller<S, A>
         ensures flow { (self.new.flow ≡ self.old.flow) × (result.flow ≡ self.old.flow) }
         ensures maker { self.new.subscription.token
             ≡ knowing self.old.subscription.token (makes self.old.subscription.token.knows) }
@@ -170,39 +147,13 @@ impl<'a, S: ReaderCalls + Drop, A: Allocator + Copy> FlowReader<'a, S, A> {
         ensures made { result.token ≡ knowing self.old.subscription.token
             (child self.old.subscription.token.knows) }
     {
+        let flow = one_more_owner(rt, &self.flow);
         let made = self.flow.seat_by(&mut self.subscription);
-        BoundSeat::new(self.flow, made)
+        FlowCaller::new(flow, made)
     }
 }
 
-impl<S: ReaderCalls + Drop, A: Allocator + Copy> OwnedFlowReader<S, A> {
-    /// Makes a caller of the same flow through the seat of this subscription. It owns the flow, too.
-    ///
-    /// # Errors
-    /// `OutOfMemory` if the flow has 2^63 owners.
-    pub fn another(&mut self) -> Result<OwnedCaller<S, A>, OutOfMemory>
-        ensures flow { self.new.flow ≡ self.old.flow }
-        ensures number { self.new.subscription.number ≡ self.old.subscription.number }
-        ensures made { MatchResult result
-            (λ made. (self.new.subscription.token
-            ≡ knowing self.old.subscription.token (makes self.old.subscription.token.knows)) ×
-            (made ≡ called_by self.old.flow (knowing self.old.subscription.token
-            (child self.old.subscription.token.knows))))
-            (λ _. self.new.subscription.token ≡ self.old.subscription.token) }
-    {
-        let Ok(flow) = Arc::try_clone(&self.flow) else {
-            return Err(OutOfMemory);
-        };
-        let made = flow.seat_by(&mut self.subscription);
-        Ok(BoundSeat::new(flow, made))
-    }
-}
-
-impl<S: SubscriberCalls + Drop, A: Allocator + Copy, H: HoldsFlow<S, A>> BoundSubscription<
-    S,
-    A,
-    H,
-> {
+impl<S: SubscriberCalls + Drop, A: Allocator + Copy> FlowReader<S, A> {
     /// Appends the values that the subscriber can receive now, at most `most`, to the list.
     ///
     /// # Errors
@@ -221,8 +172,6 @@ impl<S: SubscriberCalls + Drop, A: Allocator + Copy, H: HoldsFlow<S, A>> BoundSu
         ensures number { self.new.subscription.number ≡ self.old.subscription.number }
         ensures full { S.Item.IsAlwaysCopied → OnErr result (IsFull values.new) }
     {
-        self.flow
-            .lend()
-            .drain(rt, &mut self.subscription, most, values)
+        self.flow.drain(rt, &mut self.subscription, most, values)
     }
 }

@@ -11,8 +11,7 @@ ghost use Rattle.flow_law.specs.declared.call.StateReply.TheVariants as reply;
 ghost use Rattle.flow_core.specs.StateCore.{value_reply, state_cache_reply, reset_reply};
 ghost use Rattle.flow_shared.specs.StateReplies.{StateCalls, SetsNow};
 
-use super::caller::{BoundSeat, FlowCaller, OwnedCaller};
-use super::held::HoldsFlow;
+use super::caller::FlowCaller;
 use crate::flow::Flow;
 use crate::state::StateSeat;
 use flow_core::StateCore;
@@ -22,46 +21,26 @@ use std::sync::{Arc, Wait};
 use std::thread;
 
 /// A caller of a state flow.
-pub type Setter<'a, T, A = Global> = FlowCaller<'a, StateCore<T, A>, A>;
-
-/// A caller of a state flow that owns the flow together with other handles. It has the calls of a `Setter`, except
-/// `view`.
-pub type OwnedSetter<T, A = Global> = OwnedCaller<StateCore<T, A>, A>;
+pub type Setter<T, A = Global> = FlowCaller<StateCore<T, A>, A>;
 
 impl<T: FlowValue, A: Allocator + Copy> Flow<StateCore<T, A>, A> {
-    /// Binds a seat to its flow.
-    pub fn setter(&self, seat: StateSeat<T, A>) -> Setter<'_, T, A>
-        requires { seat.table_id ≡ self.now.table_id }
-        ensures { result ≡ called_by self.now seat }
-    {
-        BoundSeat::new(self, seat)
-    }
-
     /// Binds a seat to its flow, and puts the flow into memory that its handles own together: dropping the last one
-    /// ends the flow. `another` and `subscribe` make more of them.
+    /// drops the flow. `another` and `subscribe` make more of them.
     ///
     /// # Errors
     /// `OutOfMemory`. The flow and the seat are dropped.
-    pub fn into_setter(
-        self,
-        alloc: A,
-        seat: StateSeat<T, A>,
-    ) -> Result<OwnedSetter<T, A>, OutOfMemory>
+    pub fn into_setter(self, alloc: A, seat: StateSeat<T, A>) -> Result<Setter<T, A>, OutOfMemory>
         requires { seat.table_id ≡ self.table_id }
         ensures { IfOk result (λ setter. setter ≡ called_by self seat) }
     {
         match Arc::new(alloc, self) {
-            Ok(flow) => Ok(BoundSeat::new(flow, seat)),
+            Ok(flow) => Ok(FlowCaller::new(flow, seat)),
             Err(_failed) => Err(OutOfMemory),
         }
     }
 }
 
-impl<T: FlowValue, A: Allocator + Copy, H: HoldsFlow<StateCore<T, A>, A>> BoundSeat<
-    StateCore<T, A>,
-    A,
-    H,
-> {
+impl<T: FlowValue, A: Allocator + Copy> FlowCaller<StateCore<T, A>, A> {
     /// Returns a copy of the current value.
     ///
     /// Another caller may set the value right after. Call `update` or `compare_and_set` to set a value that depends on
@@ -75,7 +54,7 @@ impl<T: FlowValue, A: Allocator + Copy, H: HoldsFlow<StateCore<T, A>, A>> BoundS
             (value_reply (answer_by memory_fault result)) self.new.token }
         ensures given { T.IsAlwaysCopied → IsOk result }
     {
-        let value = self.flow.lend().value(rt, &mut self.seat);
+        let value = self.flow.value(rt, &mut self.seat);
         value.map_err(|_fault| OutOfMemory)
     }
 
@@ -86,7 +65,7 @@ impl<T: FlowValue, A: Allocator + Copy, H: HoldsFlow<StateCore<T, A>, A>> BoundS
         ensures called { StateCalls self.old.flow self.old.token
             (call.Set value) reply.Done self.new.token }
     {
-        self.flow.lend().set(rt, &mut self.seat, value);
+        self.flow.set(rt, &mut self.seat, value);
     }
 
     /// Sets the current value if no other caller holds the flow; otherwise returns it with `Busy`.
@@ -95,7 +74,7 @@ impl<T: FlowValue, A: Allocator + Copy, H: HoldsFlow<StateCore<T, A>, A>> BoundS
         ensures called { SetsNow self.old.flow self.old.token value
             (handed_by busy_fault result) self.new.token }
     {
-        match self.flow.lend().set_now(&mut self.seat, value) {
+        match self.flow.set_now(&mut self.seat, value) {
             Ok(()) => Ok(()),
             Err(Refused { value, fault: _ }) => Err(Rejected { value, error: Busy }),
         }
@@ -107,7 +86,7 @@ impl<T: FlowValue, A: Allocator + Copy, H: HoldsFlow<StateCore<T, A>, A>> BoundS
         ensures called { StateCalls self.old.flow self.old.token (call.TryEmit value)
             (reply.Answered result) self.new.token }
     {
-        self.flow.lend().try_emit(rt, &mut self.seat, value)
+        self.flow.try_emit(rt, &mut self.seat, value)
     }
 
     /// Sets the value to `update` if it is equal to `expect`, and returns whether it was. Both happen in one event.
@@ -122,7 +101,6 @@ impl<T: FlowValue, A: Allocator + Copy, H: HoldsFlow<StateCore<T, A>, A>> BoundS
             (reply.Answered result) self.new.token }
     {
         self.flow
-            .lend()
             .compare_and_set(rt, &mut self.seat, expect, update)
     }
 
@@ -242,7 +220,7 @@ impl<T: FlowValue, A: Allocator + Copy, H: HoldsFlow<StateCore<T, A>, A>> BoundS
         ensures called { StateCalls self.old.flow self.old.token call.ReplayCache
             (state_cache_reply (answer_by memory_fault result)) self.new.token }
     {
-        let values = self.flow.lend().replay_cache(rt, &mut self.seat);
+        let values = self.flow.replay_cache(rt, &mut self.seat);
         values.map_err(|_fault| OutOfMemory)
     }
 
@@ -253,7 +231,7 @@ impl<T: FlowValue, A: Allocator + Copy, H: HoldsFlow<StateCore<T, A>, A>> BoundS
             (reset_reply (answer_by unsupported_fault result)) self.new.token }
         ensures refused { IsErr result }
     {
-        let reset = self.flow.lend().reset_replay_cache(rt, &mut self.seat);
+        let reset = self.flow.reset_replay_cache(rt, &mut self.seat);
         reset.map_err(|_fault| Unsupported)
     }
 }

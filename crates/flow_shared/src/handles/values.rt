@@ -1,15 +1,13 @@
-//! The values of a reader as a stream, and the next change of a state flow as a future. Both are woken.
+//! The values of a reader as a stream, and its next value as a future. Both are woken.
 ghost use Rattle.std.specs.Prelude.{◌≡◌, ⊤, List, [], Option, Some, IfSome, OnSome};
 ghost use Rattle.futures.specs.Poll.{IfReady, OnPending};
 ghost use Rattle.futures.specs.Runs.{After, Within};
 ghost use Rattle.futures.specs.Task.{Covers, IsArmed, Keeps};
-ghost use Rattle.flow_law.specs.flow.StateFlow.{state_flow};
-ghost use Rattle.flow_shared.specs.Polling.{GivesChanged, PollsChange, PollsItem, PollsNext, Yields, polled_by};
+ghost use Rattle.flow_shared.specs.Polling.{GivesNext, PollsItem, PollsNext, PollsReader, Yields, polled_by};
 
-use super::held::HoldsFlow;
-use super::reader::{BoundSubscription, FlowReader, StateReader};
+use super::reader::{FlowReader, Reader, StateReader};
 use crate::calling::AtOnce;
-use flow_core::ReaderCalls;
+use flow_core::{ReaderCalls, SharedCore, StateCore};
 use flow_law::{FlowFault, FlowValue, Next, OutOfMemory};
 use futures::task::{Context, Poll};
 use futures::{Future, Stream};
@@ -27,7 +25,7 @@ fn polled<T>(answer: Result<Next<T>, FlowFault>) -> Poll<Result<T, OutOfMemory>>
     }
 }
 
-impl<S: ReaderCalls + Drop, A: Allocator + Copy, H: HoldsFlow<S, A>> BoundSubscription<S, A, H> {
+impl<S: ReaderCalls + Drop, A: Allocator + Copy> FlowReader<S, A> {
     /// Takes the next value if no other caller holds the flow. If there is none, the polled task sleeps.
     pub(super) fn poll_next_value(
         &mut self,
@@ -39,19 +37,18 @@ impl<S: ReaderCalls + Drop, A: Allocator + Copy, H: HoldsFlow<S, A>> BoundSubscr
         ensures armed { OnPending result (IsArmed cx.new) }
         ensures kept { Keeps cx.old cx.new }
     {
-        let flow = self.flow.lend();
-        let answer = flow.next_by(&AtOnce, &mut self.subscription, cx);
+        let answer = self.flow.next_by(&AtOnce, &mut self.subscription, cx);
         polled(answer)
     }
 }
 
-impl<'a, S: ReaderCalls + Drop, A: Allocator + Copy> FlowReader<'a, S, A> {
+impl<S: ReaderCalls + Drop, A: Allocator + Copy> FlowReader<S, A> {
     /// Returns the values that the subscriber receives, as a stream that is woken.
-    pub fn into_stream(self) -> FlowValues<'a, S, A>
-        ensures stream { result ≡ self.entry }
+    pub fn into_stream(self) -> FlowValues<S, A>
+        ensures stream { result ≡ self }
         ensures yields { (values : List _) (next : Option _)
-            → ⟦<FlowValues<'a, S, A> as Stream>⟧.yields result values next
-            → Yields S.kind self.entry.flow self.entry.subscription values next }
+            → ⟦<FlowValues<S, A> as Stream>⟧.yields result values next
+            → Yields S.kind self.flow self.subscription values next }
     {
         FlowValues { reader: self }
     }
@@ -65,11 +62,11 @@ impl<'a, S: ReaderCalls + Drop, A: Allocator + Copy> FlowReader<'a, S, A> {
 /// # Dropping
 /// Dropping the stream ends its subscription, as dropping its reader does. Call `into_reader` to keep it.
 #[derive(Drop)]
-pub struct FlowValues<'a, S: ReaderCalls, A: Allocator + Copy = Global> {
-    reader: FlowReader<'a, S, A>,
+pub struct FlowValues<S: ReaderCalls, A: Allocator + Copy = Global> {
+    reader: FlowReader<S, A>,
 }
 
-impl<'a, S: ReaderCalls, A: Allocator + Copy> Model for FlowValues<'a, S, A> {
+impl<S: ReaderCalls, A: Allocator + Copy> Model for FlowValues<S, A> {
     ghost use Rattle.atomic_table.specs.Seated.{TableId};
     ghost use Rattle.flow_law.specs.declared.history.Said.{Said};
     ghost use Rattle.flow_law.specs.history.Handles.{ReaderOf};
@@ -79,10 +76,10 @@ impl<'a, S: ReaderCalls, A: Allocator + Copy> Model for FlowValues<'a, S, A> {
     ghost view = { λ s. s.reader };
 }
 
-impl<'a, S: ReaderCalls + Drop, A: Allocator + Copy> FlowValues<'a, S, A> {
+impl<S: ReaderCalls + Drop, A: Allocator + Copy> FlowValues<S, A> {
     /// Ends the stream, and returns its reader.
-    pub fn into_reader(self) -> FlowReader<'a, S, A>
-        ensures { result ≡ self.entry }
+    pub fn into_reader(self) -> FlowReader<S, A>
+        ensures { result ≡ self }
     {
         let FlowValues { reader } = self;
         reader
@@ -100,7 +97,7 @@ impl<'a, S: ReaderCalls + Drop, A: Allocator + Copy> FlowValues<'a, S, A> {
     }
 }
 
-impl<'a, S: ReaderCalls + Drop, A: Allocator + Copy> Stream for FlowValues<'a, S, A> {
+impl<S: ReaderCalls + Drop, A: Allocator + Copy> Stream for FlowValues<S, A> {
     type Item = Result<S::Item, OutOfMemory>;
 
     ghost yields = { λ s xs next. Yields S.kind s.flow s.subscription xs next };
@@ -129,69 +126,77 @@ impl<'a, S: ReaderCalls + Drop, A: Allocator + Copy> Stream for FlowValues<'a, S
     }
 }
 
-/// A future that waits until the value differs from the one that a reader got last. Its output is the reader, with the
-/// value, or with `OutOfMemory` if the value could not be copied: a later call returns it, or a newer one.
+/// A future that waits for the next value of a reader: of a state flow, for a value that differs from the one that the
+/// reader got last. Its output is the reader, with the value, or with `OutOfMemory` if the value could not be copied: a
+/// later call returns it, or in a state flow a newer one.
 ///
-/// A poll makes one call of the flow that does not wait, as a `ReceiveFuture` does. The call that sets the value wakes
-/// the task. After `Ready` a poll is pending and calls nothing.
+/// A poll makes one call of the flow that does not wait. If there is nothing to receive, it leaves the task's waker
+/// inside the flow; the call that gives the reader something removes it, and wakes the task once it has left the flow.
+/// If another caller is inside the flow, or memory for the waker is refused, the task asks to be polled again. After
+/// `Ready` a poll is pending and calls nothing.
 ///
 /// # Dropping
 /// Dropping the future ends its subscription, as dropping its reader does. Its task may be woken once more. Call
 /// `into_reader` to get the reader back.
 #[derive(Drop)]
-pub struct StateChangedFuture<'a, T: FlowValue, A: Allocator + Copy = Global> {
-    reader: Option<StateReader<'a, T, A>>,
+pub struct ReceiveFuture<S: ReaderCalls, A: Allocator + Copy = Global> {
+    reader: Option<FlowReader<S, A>>,
 }
 
-impl<'a, T: FlowValue, A: Allocator + Copy> Model for StateChangedFuture<'a, T, A> {
+impl<S: ReaderCalls, A: Allocator + Copy> Model for ReceiveFuture<S, A> {
     ghost use Rattle.std.specs.Prelude.{Option};
     ghost use Rattle.atomic_table.specs.Seated.{TableId};
     ghost use Rattle.flow_law.specs.declared.history.Said.{Said};
-    ghost use Rattle.flow_law.specs.declared.call.StateCall.{StateCall};
-    ghost use Rattle.flow_law.specs.declared.call.StateReply.{StateReply};
-    ghost use Rattle.flow_law.specs.declared.states.StateFlowState.{StateFlowState};
     ghost use Rattle.flow_law.specs.history.Handles.{ReaderOf};
 
-    ghost Value = { Option
-        (ReaderOf TableId (StateFlowState T) (Said (StateCall T) (StateReply T))) };
+    ghost Value = { Option (ReaderOf TableId S.State (Said S.Call S.Reply)) };
 
     ghost view = { λ f. f.reader };
 }
 
-impl<'a, T: FlowValue, A: Allocator + Copy> StateReader<'a, T, A> {
-    /// Returns a future that waits until the value changes. Nothing is received before it is polled.
-    pub fn into_changed(self) -> StateChangedFuture<'a, T, A>
-        ensures { result ≡ Some self.entry }
+impl<T: FlowValue, A: Allocator + Copy> Reader<T, A> {
+    /// Returns a future that waits for the next value. Nothing is received before it is polled.
+    pub fn into_receive(self) -> ReceiveFuture<SharedCore<T, A>, A>
+        ensures { result ≡ Some self }
     {
-        StateChangedFuture { reader: Some(self) }
+        ReceiveFuture { reader: Some(self) }
     }
 }
 
-impl<'a, T: FlowValue, A: Allocator + Copy> StateChangedFuture<'a, T, A> {
-    /// Ends the future, and returns the reader, or `None` after `Ready`, when the output had it.
-    pub fn into_reader(self) -> Option<StateReader<'a, T, A>>
-        ensures { result ≡ self.entry }
+impl<T: FlowValue, A: Allocator + Copy> StateReader<T, A> {
+    /// Returns a future that waits until the value changes. Nothing is received before it is polled.
+    pub fn into_changed(self) -> ReceiveFuture<StateCore<T, A>, A>
+        ensures { result ≡ Some self }
     {
-        let StateChangedFuture { reader } = self;
+        ReceiveFuture { reader: Some(self) }
+    }
+}
+
+impl<S: ReaderCalls + Drop, A: Allocator + Copy> ReceiveFuture<S, A> {
+    /// Ends the future, and returns the reader, or `None` after `Ready`, when the output had it.
+    pub fn into_reader(self) -> Option<FlowReader<S, A>>
+        ensures { result ≡ self }
+    {
+        let ReceiveFuture { reader } = self;
         reader
     }
 }
 
-impl<'a, T: FlowValue, A: Allocator + Copy> Future for StateChangedFuture<'a, T, A> {
-    type Output = (StateReader<'a, T, A>, Result<T, OutOfMemory>);
+impl<S: ReaderCalls + Drop, A: Allocator + Copy> Future for ReceiveFuture<S, A> {
+    type Output = (FlowReader<S, A>, Result<S::Item, OutOfMemory>);
 
-    ghost gives = { λ f given. GivesChanged state_flow f given };
+    ghost gives = { λ f given. GivesNext S.kind f given };
 
     fn poll(
         &mut self,
         cx: &mut Context<'_>,
-    ) -> Poll<(StateReader<'a, T, A>, Result<T, OutOfMemory>)>
-        ensures polls { PollsChange state_flow self.old result self.new }
+    ) -> Poll<(FlowReader<S, A>, Result<S::Item, OutOfMemory>)>
+        ensures polls { PollsReader S.kind self.old result self.new }
         // The clauses of the trait. A pending poll has left its waker, or asked to be polled again (`registered`).
-        ensures value { IfReady result (GivesChanged state_flow self.old) }
+        ensures value { IfReady result (GivesNext S.kind self.old) }
         ensures again { OnPending result ⊤ }
         ensures same { OnPending result ((x : _)
-            → GivesChanged state_flow self.new x → GivesChanged state_flow self.old x) }
+            → GivesNext S.kind self.new x → GivesNext S.kind self.old x) }
         ensures registered { OnPending result (Covers cx.new (λ _. ⊥)) }
         ensures kept { Keeps cx.old cx.new }
     {

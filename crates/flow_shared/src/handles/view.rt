@@ -25,17 +25,17 @@ use std::sync::Wait;
 /// # Dropping
 /// Dropping it drops its seat. Its readers stay.
 #[derive(Drop)]
-pub struct FlowView<'a, S: FlowCore, A: Allocator + Copy = Global> {
-    pub(super) caller: FlowCaller<'a, S, A>,
+pub struct FlowView<S: FlowCore, A: Allocator + Copy = Global> {
+    pub(super) caller: FlowCaller<S, A>,
 }
 
 /// A view of a shared flow (`SharedFlow`).
-pub type SharedView<'a, T, A = Global> = FlowView<'a, SharedCore<T, A>, A>;
+pub type SharedView<T, A = Global> = FlowView<SharedCore<T, A>, A>;
 
 /// A view of a state flow (`StateFlow`).
-pub type StateView<'a, T, A = Global> = FlowView<'a, StateCore<T, A>, A>;
+pub type StateView<T, A = Global> = FlowView<StateCore<T, A>, A>;
 
-impl<'a, S: FlowCore, A: Allocator + Copy> Model for FlowView<'a, S, A> {
+impl<S: FlowCore, A: Allocator + Copy> Model for FlowView<S, A> {
     ghost use Rattle.atomic_table.specs.Seated.{TableId};
     ghost use Rattle.flow_law.specs.declared.history.Said.{Said};
     ghost use Rattle.flow_law.specs.history.Handles.{CallerOf};
@@ -45,39 +45,39 @@ impl<'a, S: FlowCore, A: Allocator + Copy> Model for FlowView<'a, S, A> {
     ghost view = { λ v. v.caller };
 }
 
-impl<'a, S: FlowCore + Drop, A: Allocator + Copy> FlowCaller<'a, S, A> {
+impl<S: FlowCore + Drop, A: Allocator + Copy> FlowCaller<S, A> {
     /// Makes a view of the flow through this caller, as `another` makes a caller.
     ///
     /// # Source
     /// `asSharedFlow`, `asStateFlow`.
-    pub fn view(&mut self) -> FlowView<'a, S, A>
+    pub fn view<R: Wait>(&mut self, rt: &R) -> FlowView<S, A>
         ensures flow { (self.new.flow ≡ self.old.flow) × (result.flow ≡ self.old.flow) }
         ensures maker { self.new.token ≡ knowing self.old.token (makes self.old.token.knows) }
         ensures made { result.token ≡ knowing self.old.token (child self.old.token.knows) }
     {
         FlowView {
-            caller: self.another(),
+            caller: self.another(rt),
         }
     }
 }
 
-impl<'a, S: FlowCore + Drop, A: Allocator + Copy> FlowView<'a, S, A> {
+impl<S: FlowCore + Drop, A: Allocator + Copy> FlowView<S, A> {
     /// Makes one more view through this one. Call it for each thread, before the thread starts.
-    pub fn another(&mut self) -> FlowView<'a, S, A>
+    pub fn another<R: Wait>(&mut self, rt: &R) -> FlowView<S, A>
         ensures flow { (self.new.flow ≡ self.old.flow) × (result.flow ≡ self.old.flow) }
         ensures maker { self.new.token ≡ knowing self.old.token (makes self.old.token.knows) }
         ensures made { result.token ≡ knowing self.old.token (child self.old.token.knows) }
     {
-        self.caller.view()
+        self.caller.view(rt)
     }
 }
 
-impl<'a, S: SubscriberCalls + Drop, A: Allocator + Copy> FlowView<'a, S, A> {
+impl<S: SubscriberCalls + Drop, A: Allocator + Copy> FlowView<S, A> {
     /// Subscribes, as `subscribe` of an emitter or of a setter does. The reader only reads, too.
     ///
     /// # Errors
     /// `Exhausted` if the flow has issued as many numbers as its limit allows, and `OutOfMemory`.
-    pub fn subscribe<R: Wait>(&mut self, rt: &R) -> Result<ViewReader<'a, S, A>, NumberError>
+    pub fn subscribe<R: Wait>(&mut self, rt: &R) -> Result<ViewReader<S, A>, NumberError>
         ensures flow { self.new.flow ≡ self.old.flow }
         ensures subscribed { SubscribesBound S.kind S.kind.subscribe self.old
             (answer_by number_fault result) self.new.token }
@@ -89,7 +89,7 @@ impl<'a, S: SubscriberCalls + Drop, A: Allocator + Copy> FlowView<'a, S, A> {
     }
 }
 
-impl<'a, T: FlowValue, A: Allocator + Copy> FlowView<'a, SharedCore<T, A>, A> {
+impl<T: FlowValue, A: Allocator + Copy> FlowView<SharedCore<T, A>, A> {
     /// Returns the replay cache, as `replay_cache` of an emitter does.
     ///
     /// # Errors
@@ -103,7 +103,7 @@ impl<'a, T: FlowValue, A: Allocator + Copy> FlowView<'a, SharedCore<T, A>, A> {
     }
 }
 
-impl<'a, T: FlowValue, A: Allocator + Copy> FlowView<'a, StateCore<T, A>, A> {
+impl<T: FlowValue, A: Allocator + Copy> FlowView<StateCore<T, A>, A> {
     /// Returns a copy of the current value, as `value` of a setter does.
     ///
     /// # Errors

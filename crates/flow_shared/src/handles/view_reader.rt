@@ -12,7 +12,6 @@ ghost use Rattle.flow_shared.specs.WaitingFor.{ReceivesIf};
 use super::iterating::{Values, ValuesUntil};
 use super::reader::FlowReader;
 use super::view::FlowView;
-use crate::flow::Flow;
 use flow_core::{ReaderCalls, SharedCore, StateCore};
 use flow_law::{FlowValue, OutOfMemory};
 use std::alloc::{Allocator, Global};
@@ -25,11 +24,11 @@ use std::time::{Clock, Duration};
 /// # Dropping
 /// Dropping it ends its subscription, as dropping a `FlowReader` does.
 #[derive(Drop)]
-pub struct ViewReader<'a, S: ReaderCalls, A: Allocator + Copy = Global> {
-    pub(super) reader: FlowReader<'a, S, A>,
+pub struct ViewReader<S: ReaderCalls, A: Allocator + Copy = Global> {
+    pub(super) reader: FlowReader<S, A>,
 }
 
-impl<'a, S: ReaderCalls, A: Allocator + Copy> Model for ViewReader<'a, S, A> {
+impl<S: ReaderCalls, A: Allocator + Copy> Model for ViewReader<S, A> {
     ghost use Rattle.atomic_table.specs.Seated.{TableId};
     ghost use Rattle.flow_law.specs.declared.history.Said.{Said};
     ghost use Rattle.flow_law.specs.history.Handles.{ReaderOf};
@@ -39,7 +38,7 @@ impl<'a, S: ReaderCalls, A: Allocator + Copy> Model for ViewReader<'a, S, A> {
     ghost view = { λ r. r.reader };
 }
 
-impl<'a, S: ReaderCalls + Drop, A: Allocator + Copy> ViewReader<'a, S, A> {
+impl<S: ReaderCalls + Drop, A: Allocator + Copy> ViewReader<S, A> {
     /// Takes the next value, as `next` of a `FlowReader` does.
     pub fn next<R: Wait>(&mut self, rt: &R) -> Result<Option<S::Item>, OutOfMemory>
         ensures flow { self.new.flow ≡ self.old.flow }
@@ -51,7 +50,7 @@ impl<'a, S: ReaderCalls + Drop, A: Allocator + Copy> ViewReader<'a, S, A> {
     }
 
     /// Returns an iterator over the next values, as `values` of a `FlowReader` does.
-    pub fn values<'r, R: Wait>(&'r mut self, rt: &'r R) -> Values<'r, S, R, A, &'a Flow<S, A>>
+    pub fn values<'r, R: Wait>(&'r mut self, rt: &'r R) -> Values<'r, S, R, A>
         ensures { result.reader.now ≡ self.old }
     {
         self.reader.values(rt)
@@ -62,16 +61,16 @@ impl<'a, S: ReaderCalls + Drop, A: Allocator + Copy> ViewReader<'a, S, A> {
         &'r mut self,
         rt: &'r R,
         limit: Duration,
-    ) -> ValuesUntil<'r, S, R, A, &'a Flow<S, A>>
+    ) -> ValuesUntil<'r, S, R, A>
         ensures { result.reader.now ≡ self.old }
     {
         self.reader.values_until(rt, limit)
     }
 
     /// Ends the subscription, and returns a view with its seat.
-    pub fn unsubscribe<R: Wait>(self, rt: &R) -> FlowView<'a, S, A>
-        ensures flow { result.flow ≡ self.entry.flow }
-        ensures left { Unsubscribes S.kind self.entry.flow self.entry.subscription result.token }
+    pub fn unsubscribe<R: Wait>(self, rt: &R) -> FlowView<S, A>
+        ensures flow { result.flow ≡ self.flow }
+        ensures left { Unsubscribes S.kind self.flow self.subscription result.token }
     {
         let ViewReader { reader } = self;
         FlowView {
@@ -80,7 +79,7 @@ impl<'a, S: ReaderCalls + Drop, A: Allocator + Copy> ViewReader<'a, S, A> {
     }
 }
 
-impl<'a, T: FlowValue, A: Allocator + Copy> ViewReader<'a, SharedCore<T, A>, A> {
+impl<T: FlowValue, A: Allocator + Copy> ViewReader<SharedCore<T, A>, A> {
     /// Waits for the next value, and takes it, as `receive` of a `Reader` does.
     ///
     /// # Errors
@@ -113,7 +112,7 @@ impl<'a, T: FlowValue, A: Allocator + Copy> ViewReader<'a, SharedCore<T, A>, A> 
     }
 }
 
-impl<'a, T: FlowValue, A: Allocator + Copy> ViewReader<'a, StateCore<T, A>, A> {
+impl<T: FlowValue, A: Allocator + Copy> ViewReader<StateCore<T, A>, A> {
     /// Waits until the current value is another one than the last, and takes it, as `changed` of a `StateReader` does.
     ///
     /// # Errors

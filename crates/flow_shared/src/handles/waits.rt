@@ -10,8 +10,7 @@ ghost use Rattle.flow_shared.specs.Calls.{NextsOf};
 ghost use Rattle.flow_shared.specs.Receiving.{FlowReceives, NextsUntil};
 ghost use Rattle.flow_shared.specs.WaitingFor.{Looks, NextsIf, ReceivesIf};
 
-use super::held::HoldsFlow;
-use super::reader::BoundSubscription;
+use super::reader::FlowReader;
 use flow_core::{ReaderCalls, SharedCore, StateCore};
 use flow_law::{FlowValue, Next, OutOfMemory};
 use flow_sleepers::{Limit, ThreadWaiter, Waiter};
@@ -19,7 +18,7 @@ use std::alloc::Allocator;
 use std::sync::Wait;
 use std::time::{Clock, Duration};
 
-impl<S: ReaderCalls + Drop, A: Allocator + Copy, H: HoldsFlow<S, A>> BoundSubscription<S, A, H> {
+impl<S: ReaderCalls + Drop, A: Allocator + Copy> FlowReader<S, A> {
     /// Takes the next value. If there is none, the caller sleeps or asks again.
     pub(super) fn next_asleep<R: Wait, W: Waiter<A>>(
         &mut self,
@@ -32,8 +31,7 @@ impl<S: ReaderCalls + Drop, A: Allocator + Copy, H: HoldsFlow<S, A>> BoundSubscr
         ensures given { S.Item.IsAlwaysCopied → IsOk result }
         ensures armed { (result ≡ Ok None) → W.is_armed waiter.new }
     {
-        let flow = self.flow.lend();
-        match flow.next_asleep(rt, &mut self.subscription, waiter) {
+        match self.flow.next_asleep(rt, &mut self.subscription, waiter) {
             Ok(Next::Value(value)) => Ok(Some(value)),
             Ok(_) => Ok(None),
             Err(_fault) => Err(OutOfMemory),
@@ -85,11 +83,7 @@ impl<S: ReaderCalls + Drop, A: Allocator + Copy, H: HoldsFlow<S, A>> BoundSubscr
     }
 }
 
-impl<T: FlowValue, A: Allocator + Copy, H: HoldsFlow<SharedCore<T, A>, A>> BoundSubscription<
-    SharedCore<T, A>,
-    A,
-    H,
-> {
+impl<T: FlowValue, A: Allocator + Copy> FlowReader<SharedCore<T, A>, A> {
     /// Waits for the next value, and takes it. The thread asks several times, and yields in between; then it sleeps,
     /// and the call that gives the subscriber a value wakes it. If there is no memory for its waker, it asks again.
     ///
@@ -129,11 +123,7 @@ impl<T: FlowValue, A: Allocator + Copy, H: HoldsFlow<SharedCore<T, A>, A>> Bound
     }
 }
 
-impl<T: FlowValue, A: Allocator + Copy, H: HoldsFlow<StateCore<T, A>, A>> BoundSubscription<
-    StateCore<T, A>,
-    A,
-    H,
-> {
+impl<T: FlowValue, A: Allocator + Copy> FlowReader<StateCore<T, A>, A> {
     /// Waits until the current value differs from the one that the subscriber received last, and takes it. A new
     /// subscriber gets the current value at once. The thread waits as in `receive` of a shared flow's reader.
     ///
@@ -179,7 +169,7 @@ impl<T: FlowValue, A: Allocator + Copy, H: HoldsFlow<StateCore<T, A>, A>> BoundS
             (answer_by memory_fault result) self.new.subscription }
         ensures given { T.IsAlwaysCopied → IsOk result }
     {
-        let value = match self.flow.lend().value_by(rt, &mut self.subscription) {
+        let value = match self.flow.value_by(rt, &mut self.subscription) {
             Ok(value) => value,
             Err(_fault) => return Err(OutOfMemory),
         };

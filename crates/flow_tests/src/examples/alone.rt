@@ -24,12 +24,12 @@ fn is_value<T: FlowValue, E: Drop>(received: Result<Option<T>, E>, wanted: &T) -
 
 /// Emits a value and receives it by calls that do not wait for other callers. Returns the emitter, or `None` if a call
 /// was refused.
-fn emit_and_receive_at_once<'a, T: FlowValue>(
+fn emit_and_receive_at_once<T: FlowValue>(
     rt: &impl Abort,
-    emitter: Emitter<'a, T>,
-    reader: &mut Reader<'_, T>,
+    emitter: Emitter<T>,
+    reader: &mut Reader<T>,
     value: &T,
-) -> Option<Emitter<'a, T>> {
+) -> Option<Emitter<T>> {
     let EmitAnswer::Done(emitter) = emitter.emit_now(copy_of(rt, value)) else {
         return None;
     };
@@ -43,18 +43,18 @@ fn emit_and_receive_at_once<'a, T: FlowValue>(
 /// Emits a value and receives it, and returns whether both calls succeeded.
 fn emits_and_receives<R: Wait + Abort, T: FlowValue>(
     rt: &R,
-    emitter: &mut Emitter<'_, T>,
-    reader: &mut Reader<'_, T>,
+    emitter: &mut Emitter<T>,
+    reader: &mut Reader<T>,
     value: &T,
 ) -> bool {
     matches!(emitter.try_emit(rt, copy_of(rt, value)), Ok(true)) && is_value(reader.next(rt), value)
 }
 
 /// Returns how many rounds of emitting and receiving succeeded, up to the first one that did not.
-fn rounds_at_shared_flow<'a, R: Wait + Abort, T: FlowValue>(
+fn rounds_at_shared_flow<R: Wait + Abort, T: FlowValue>(
     rt: &R,
-    emitter: Emitter<'a, T>,
-    reader: &mut Reader<'_, T>,
+    emitter: Emitter<T>,
+    reader: &mut Reader<T>,
     value: &T,
 ) -> u32 {
     let mut emitter = emitter;
@@ -74,7 +74,7 @@ fn rounds_at_shared_flow<'a, R: Wait + Abort, T: FlowValue>(
 fn play_at_shared_flow<R: Wait + Abort, T: FlowValue>(rt: &R, alloc: Global, value: &T) {
     let made = SharedFlow::new(alloc, Config::new().extra(1));
     let (flow, seat) = made.expect(rt, "a flow");
-    let mut emitter = flow.emitter(seat);
+    let mut emitter = flow.into_emitter(alloc, seat).expect(rt, "memory");
     let mut reader = emitter.subscribe(rt).expect(rt, "a reader");
     let rounds = rounds_at_shared_flow(rt, emitter, &mut reader, value);
     compare(rt, "rounds in which each call succeeded", rounds, ROUNDS);
@@ -84,8 +84,8 @@ fn play_at_shared_flow<R: Wait + Abort, T: FlowValue>(rt: &R, alloc: Global, val
 /// all calls succeeded.
 fn sets_and_receives<R: Wait + Abort, T: FlowValue>(
     rt: &R,
-    setter: &mut Setter<'_, T>,
-    reader: &mut StateReader<'_, T>,
+    setter: &mut Setter<T>,
+    reader: &mut StateReader<T>,
     values: [&T; 2],
 ) -> bool {
     if setter.try_set(copy_of(rt, values[0])).is_err() || !is_value(reader.try_next(), values[0]) {
@@ -99,7 +99,7 @@ fn sets_and_receives<R: Wait + Abort, T: FlowValue>(
 fn play_at_state_flow<R: Wait + Abort, T: FlowValue>(rt: &R, alloc: Global, values: [&T; 2]) {
     let made = StateFlow::new(alloc, copy_of(rt, values[1]), 1);
     let (flow, seat) = made.expect(rt, "a flow");
-    let mut setter = flow.setter(seat);
+    let mut setter = flow.into_setter(alloc, seat).expect(rt, "memory");
     let mut reader = setter.subscribe(rt).expect(rt, "a reader");
     for _ in 0..ROUNDS {
         let is_done = sets_and_receives(rt, &mut setter, &mut reader, values);

@@ -1,10 +1,11 @@
 //! Tasks that sleep until a flow has a value or room for them, polled by hand.
 use crate::compare::compare;
-use crate::flows::{new_flow, new_reader};
+use crate::flows::{new_emitter, new_reader};
 use crate::handle_calls::next;
 use crate::host::Host;
-use flow_law::{Config, FlowFault};
-use flow_shared::{Emitter, Reader, ReceiveFuture, SendFuture, Sent};
+use flow_core::SharedCore;
+use flow_law::{Config, OutOfMemory};
+use flow_shared::{Emitter, Reader, ReceiveFuture, SendFuture};
 use futures::task::Poll;
 use futures::test::MockTask;
 use std::process::Abort;
@@ -13,18 +14,18 @@ use std::sync::Wait;
 /// Polls once. Returns what the subscriber receives, or `None` if the future is pending.
 fn received(
     task: &MockTask,
-    future: &mut ReceiveFuture<'_, i64>,
-) -> Option<Result<i64, FlowFault>> {
+    future: &mut ReceiveFuture<SharedCore<i64>>,
+) -> Option<Result<i64, OutOfMemory>> {
     match task.poll(future) {
-        Poll::Ready((_subscription, received)) => Some(received),
+        Poll::Ready((_reader, received)) => Some(received),
         Poll::Pending => None,
     }
 }
 
 /// Polls once. Returns whether the emission is done, or `None` if the future is pending.
-fn sent(task: &MockTask, future: &mut SendFuture<'_, i64>) -> Option<bool> {
+fn sent(task: &MockTask, future: &mut SendFuture<i64>) -> Option<bool> {
     match task.poll(future) {
-        Poll::Ready(sent) => Some(matches!(sent, Sent::Done(_))),
+        Poll::Ready((_emitter, sent)) => Some(sent.is_ok()),
         Poll::Pending => None,
     }
 }
@@ -33,9 +34,9 @@ fn sent(task: &MockTask, future: &mut SendFuture<'_, i64>) -> Option<bool> {
 fn is_woken(
     rt: &impl Abort,
     task: &MockTask,
-    receive: &mut ReceiveFuture<'_, i64>,
+    receive: &mut ReceiveFuture<SharedCore<i64>>,
     emitter_task: &MockTask,
-    send: &mut SendFuture<'_, i64>,
+    send: &mut SendFuture<i64>,
 ) {
     for _ in 0..2 {
         compare(rt, "the reader waits", received(task, receive), None);
@@ -51,8 +52,8 @@ fn is_woken(
 fn wakes_emitter<R: Wait + Abort>(
     rt: &R,
     task: &MockTask,
-    reader: &mut Reader<'_, i64>,
-    send: &mut SendFuture<'_, i64>,
+    reader: &mut Reader<i64>,
+    send: &mut SendFuture<i64>,
 ) {
     compare(rt, "the emitter sleeps on", task.is_woken(), false);
     compare(rt, "the other reader", next(rt, reader), Ok(Some(7)));
@@ -64,9 +65,9 @@ fn wakes_emitter<R: Wait + Abort>(
 /// have received it.
 fn follow<R: Host>(
     rt: &R,
-    receive: &mut ReceiveFuture<'_, i64>,
-    reader: &mut Reader<'_, i64>,
-    send: &mut SendFuture<'_, i64>,
+    receive: &mut ReceiveFuture<SharedCore<i64>>,
+    reader: &mut Reader<i64>,
+    send: &mut SendFuture<i64>,
 ) {
     let task = MockTask::new(rt).expect(rt, "a task");
     let emitter_task = MockTask::new(rt).expect(rt, "a task");
@@ -75,16 +76,15 @@ fn follow<R: Host>(
 }
 
 /// Makes the futures of two subscribers and an emission.
-fn follow_all<R: Host>(rt: &R, emitter: &mut Emitter<'_, i64>) {
+fn follow_all<R: Host>(rt: &R, emitter: &mut Emitter<i64>) {
     let mut reader = new_reader(rt, emitter);
     let mut receive = new_reader(rt, emitter).into_receive();
-    let mut send = emitter.another().into_send(7);
+    let mut send = emitter.another(rt).into_send(7);
     follow(rt, &mut receive, &mut reader, &mut send);
 }
 
 /// Without a buffer a reader sleeps until a value is emitted, and the emitter until each reader has received it.
 #[test]
 fn a_reader_and_its_emitter_sleep_until_they_go_on(rt: HostRuntime) {
-    let (flow, seat) = new_flow(&rt, rt.alloc(), Config::new());
-    follow_all(&rt, &mut flow.emitter(seat));
+    follow_all(&rt, &mut new_emitter(&rt, rt.alloc(), Config::new()));
 }

@@ -1,6 +1,6 @@
 //! Three threads whose emissions wait for room while the only subscriber unsubscribes: all three emissions end.
 use crate::compare::compare;
-use crate::flows::{new_flow, new_reader};
+use crate::flows::{new_emitter, new_reader};
 use crate::handle_calls::{pause, send, try_emit};
 use crate::host::Host;
 use flow_law::Config;
@@ -13,13 +13,13 @@ use std::time::Clock;
 const TIMES: u32 = 20;
 
 /// Sends a value. Returns whether the emission ended.
-fn is_sent<R: Wait>(rt: &R, start: &Barrier, emitter: &mut Emitter<'_, i64>, value: i64) -> bool {
+fn is_sent<R: Wait>(rt: &R, start: &Barrier, emitter: &mut Emitter<i64>, value: i64) -> bool {
     let _order = start.wait(rt);
     send(rt, emitter, value).is_ok()
 }
 
 /// Unsubscribes. In every second run the emitters have fallen asleep before.
-fn leave<R: Wait + Clock>(rt: &R, start: &Barrier, run: u32, reader: Reader<'_, i64>) {
+fn leave<R: Wait + Clock>(rt: &R, start: &Barrier, run: u32, reader: Reader<i64>) {
     let _order = start.wait(rt);
     if run % 2 == 0 {
         pause(rt);
@@ -31,8 +31,8 @@ fn leave<R: Wait + Clock>(rt: &R, start: &Barrier, run: u32, reader: Reader<'_, 
 fn send_two<R: Host>(
     rt: &R,
     start: &Barrier,
-    second: &mut Emitter<'_, i64>,
-    third: &mut Emitter<'_, i64>,
+    second: &mut Emitter<i64>,
+    third: &mut Emitter<i64>,
 ) -> u32 {
     let (two, three) = join(
         rt,
@@ -47,8 +47,8 @@ fn send_and_leave<R: Host>(
     rt: &R,
     start: &Barrier,
     run: u32,
-    fourth: &mut Emitter<'_, i64>,
-    reader: Reader<'_, i64>,
+    fourth: &mut Emitter<i64>,
+    reader: Reader<i64>,
 ) -> u32 {
     let (four, ()) = join(
         rt,
@@ -62,11 +62,11 @@ fn send_and_leave<R: Host>(
 fn send_beside_leaving<R: Host>(
     rt: &R,
     run: u32,
-    emitter: &mut Emitter<'_, i64>,
-    reader: Reader<'_, i64>,
+    emitter: &mut Emitter<i64>,
+    reader: Reader<i64>,
 ) -> u32 {
     let start = Barrier::new(4);
-    let (mut second, mut third) = (emitter.another(), emitter.another());
+    let (mut second, mut third) = (emitter.another(rt), emitter.another(rt));
     let (two_and_three, four) = join(
         rt,
         || send_two(rt, &start, &mut second, &mut third),
@@ -78,8 +78,7 @@ fn send_beside_leaving<R: Host>(
 /// The subscriber has not received 1, so that there is no room. After it has left, the cache has one of the three
 /// values that waited.
 fn leave_once<R: Host>(rt: &R, alloc: Global, run: u32) {
-    let (flow, seat) = new_flow(rt, alloc, Config::new().replay(1));
-    let mut emitter = flow.emitter(seat);
+    let mut emitter = new_emitter(rt, alloc, Config::new().replay(1));
     let reader = new_reader(rt, &mut emitter);
     compare(rt, "try_emit", try_emit(rt, &mut emitter, 1), Ok(true));
     let ended = send_beside_leaving(rt, run, &mut emitter, reader);

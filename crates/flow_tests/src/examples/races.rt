@@ -1,6 +1,6 @@
 //! A `cancel` and a `next` that race on two threads. Whichever is first, the subscribers receive what is documented.
 use crate::compare::compare;
-use crate::flows::{new_flow, new_reader};
+use crate::flows::{new_emitter, new_reader};
 use crate::handle_calls::{begin, cancel, emission_of, next, try_emit};
 use crate::host::Host;
 use flow_law::Config;
@@ -17,13 +17,13 @@ const LEAST_RACES: u32 = 100;
 const MOST_RACES: u32 = 10_000;
 
 /// Reads once. Returns the value that the reader receives, if any.
-fn read<R: Wait>(rt: &R, start: &Barrier, run: u32, reader: &mut Reader<'_, i64>) -> Option<i64> {
+fn read<R: Wait>(rt: &R, start: &Barrier, run: u32, reader: &mut Reader<i64>) -> Option<i64> {
     begin(rt, start, run);
     next(rt, reader).unwrap_or(None)
 }
 
 /// Cancels the emission. Returns whether it waited until then.
-fn waited<R: Wait>(rt: &R, start: &Barrier, run: u32, emission: BoundEmission<'_, i64>) -> bool {
+fn waited<R: Wait>(rt: &R, start: &Barrier, run: u32, emission: BoundEmission<i64>) -> bool {
     begin(rt, start, run);
     cancel(rt, emission)
 }
@@ -32,8 +32,8 @@ fn waited<R: Wait>(rt: &R, start: &Barrier, run: u32, emission: BoundEmission<'_
 fn read_beside_cancel<R: Host>(
     rt: &R,
     run: u32,
-    reader: &mut Reader<'_, i64>,
-    emitter: &mut Emitter<'_, i64>,
+    reader: &mut Reader<i64>,
+    emitter: &mut Emitter<i64>,
     value: i64,
 ) -> (Option<i64>, bool) {
     let emission = emission_of(rt, emitter, value);
@@ -47,7 +47,7 @@ fn read_beside_cancel<R: Host>(
 
 /// Emits 2 into a full buffer of one value, and cancels the emission while the subscriber makes room. The subscriber
 /// receives 2 only if its read is first. Returns whether the cancel was first.
-fn waits_for_room<R: Host>(rt: &R, run: u32, emitter: &mut Emitter<'_, i64>) -> bool {
+fn waits_for_room<R: Host>(rt: &R, run: u32, emitter: &mut Emitter<i64>) -> bool {
     let mut reader = new_reader(rt, emitter);
     compare(rt, "try_emit", try_emit(rt, emitter, 1), Ok(true));
     let (first, was_waiting) = read_beside_cancel(rt, run, &mut reader, emitter, 2);
@@ -59,7 +59,7 @@ fn waits_for_room<R: Host>(rt: &R, run: u32, emitter: &mut Emitter<'_, i64>) -> 
 
 /// Offers 7 to two subscribers without a buffer, and cancels the emission while one of them reads. That one receives 7
 /// or nothing, and the other one nothing. Returns whether the cancel was first.
-fn is_offered<R: Host>(rt: &R, run: u32, emitter: &mut Emitter<'_, i64>) -> bool {
+fn is_offered<R: Host>(rt: &R, run: u32, emitter: &mut Emitter<i64>) -> bool {
     let mut other = new_reader(rt, emitter);
     let mut reader = new_reader(rt, emitter);
     let (taken, was_waiting) = read_beside_cancel(rt, run, &mut reader, emitter, 7);
@@ -72,8 +72,7 @@ fn is_offered<R: Host>(rt: &R, run: u32, emitter: &mut Emitter<'_, i64>) -> bool
 
 /// Races the two calls at a new flow with room for this number of values. Returns whether the cancel was first.
 fn race<R: Host>(rt: &R, alloc: Global, run: u32, room: u32) -> bool {
-    let (flow, seat) = new_flow(rt, alloc, Config::new().extra(room));
-    let mut emitter = flow.emitter(seat);
+    let mut emitter = new_emitter(rt, alloc, Config::new().extra(room));
     match room {
         0 => is_offered(rt, run, &mut emitter),
         _ => waits_for_room(rt, run, &mut emitter),

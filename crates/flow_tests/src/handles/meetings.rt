@@ -1,7 +1,7 @@
 //! An emitter and a reader of a shared flow, each on a thread of its own. A wait has a limit of an hour, which no test
 //! takes: a sleeper that is not woken fails.
 use crate::compare::compare;
-use crate::flows::{new_flow, new_reader};
+use crate::flows::{new_emitter, new_reader};
 use crate::handle_calls::{an_hour, cancel_late, emission_of, next_of, pause, receive, send};
 use crate::handles::shared::meet;
 use crate::host::Host;
@@ -13,18 +13,18 @@ use std::thread::join;
 use std::time::Clock;
 
 /// Sends a value. Returns whether the flow took it.
-fn sends<R: Wait + Clock>(rt: &R, emitter: &mut Emitter<'_, i64>, value: i64) -> bool {
+fn sends<R: Wait + Clock>(rt: &R, emitter: &mut Emitter<i64>, value: i64) -> bool {
     emitter.send_timeout(rt, value, an_hour()) == Ok(SendEnd::Done)
 }
 
 /// Sends a value to a reader that has fallen asleep.
-fn sends_late<R: Wait + Clock>(rt: &R, emitter: &mut Emitter<'_, i64>, value: i64) -> bool {
+fn sends_late<R: Wait + Clock>(rt: &R, emitter: &mut Emitter<i64>, value: i64) -> bool {
     pause(rt);
     sends(rt, emitter, value)
 }
 
 /// Unsubscribes, or drops the reader.
-fn leave<R: Wait + Clock>(rt: &R, reader: Reader<'_, i64>, is_dropped: bool) {
+fn leave<R: Wait + Clock>(rt: &R, reader: Reader<i64>, is_dropped: bool) {
     pause(rt);
     if is_dropped {
         drop(reader);
@@ -34,7 +34,7 @@ fn leave<R: Wait + Clock>(rt: &R, reader: Reader<'_, i64>, is_dropped: bool) {
 }
 
 /// Sends a value to a reader that leaves without it.
-fn send_to_one_that_leaves<R: Host>(rt: &R, emitter: &mut Emitter<'_, i64>, is_dropped: bool) {
+fn send_to_one_that_leaves<R: Host>(rt: &R, emitter: &mut Emitter<i64>, is_dropped: bool) {
     let reader = new_reader(rt, emitter);
     let (is_sent, ()) = join(
         rt,
@@ -48,22 +48,20 @@ fn send_to_one_that_leaves<R: Host>(rt: &R, emitter: &mut Emitter<'_, i64>, is_d
 /// Without a buffer `emit` suspends until each subscriber has received the value, or has left.
 #[test]
 fn a_wait_ends_when_the_subscriber_leaves(rt: HostRuntime) {
-    let (flow, seat) = new_flow(&rt, rt.alloc(), Config::new());
-    let mut emitter = flow.emitter(seat);
+    let mut emitter = new_emitter(&rt, rt.alloc(), Config::new());
     send_to_one_that_leaves(&rt, &mut emitter, false);
     send_to_one_that_leaves(&rt, &mut emitter, true);
 }
 
 /// Returns the next value that comes in time, if any.
-fn receive_in_time<R: Wait + Clock>(rt: &R, reader: &mut Reader<'_, i64>) -> Option<i64> {
+fn receive_in_time<R: Wait + Clock>(rt: &R, reader: &mut Reader<i64>) -> Option<i64> {
     reader.receive_timeout(rt, an_hour()).unwrap_or(None)
 }
 
 /// A value that comes while a thread waits for it is received, although it was not there at the first call.
 #[test]
 fn a_value_that_comes_in_time_is_received(rt: HostRuntime) {
-    let (flow, seat) = new_flow(&rt, rt.alloc(), Config::new().extra(1));
-    let mut emitter = flow.emitter(seat);
+    let mut emitter = new_emitter(&rt, rt.alloc(), Config::new().extra(1));
     let mut reader = new_reader(&rt, &mut emitter);
     let came = join(
         &rt,
@@ -74,16 +72,15 @@ fn a_value_that_comes_in_time_is_received(rt: HostRuntime) {
 }
 
 /// Cancels an emission of 1, behind which another one waits. Returns whether it waited, and the next value.
-fn cancel_and_receive<R: Host>(rt: &R, reader: &mut Reader<'_, i64>) -> (bool, Option<i64>) {
-    let was_waiting = cancel_late(rt, &mut reader.another(), 1);
+fn cancel_and_receive<R: Host>(rt: &R, reader: &mut Reader<i64>) -> (bool, Option<i64>) {
+    let was_waiting = cancel_late(rt, &mut reader.another(rt), 1);
     (was_waiting, receive_in_time(rt, reader))
 }
 
 /// The subscriber receives only 2, since 1 was cancelled.
 #[test]
 fn a_value_behind_a_cancelled_one_is_received(rt: HostRuntime) {
-    let (flow, seat) = new_flow(&rt, rt.alloc(), Config::new());
-    let mut emitter = flow.emitter(seat);
+    let mut emitter = new_emitter(&rt, rt.alloc(), Config::new());
     let mut reader = new_reader(&rt, &mut emitter);
     let (is_sent, received) = join(
         &rt,
@@ -95,7 +92,7 @@ fn a_value_behind_a_cancelled_one_is_received(rt: HostRuntime) {
 }
 
 /// Meets another reader, drops it and an emission of 6, and sends 7.
-fn drop_and_send<R: Host>(rt: &R, emitter: &mut Emitter<'_, i64>) -> bool {
+fn drop_and_send<R: Host>(rt: &R, emitter: &mut Emitter<i64>) -> bool {
     pause(rt);
     meet(rt, emitter);
     drop(emission_of(rt, emitter, 6));
@@ -103,7 +100,7 @@ fn drop_and_send<R: Host>(rt: &R, emitter: &mut Emitter<'_, i64>) -> bool {
 }
 
 /// Returns whether the reader receives 7, either next or after 6.
-fn receive_seven<R: Wait>(rt: &R, reader: &mut Reader<'_, i64>) -> bool {
+fn receive_seven<R: Wait>(rt: &R, reader: &mut Reader<i64>) -> bool {
     let received = receive(rt, reader);
     received == Ok(7) || received == Ok(6) && receive(rt, reader) == Ok(7)
 }
@@ -112,8 +109,7 @@ fn receive_seven<R: Wait>(rt: &R, reader: &mut Reader<'_, i64>) -> bool {
 /// subscriber may receive an offered value before it is cancelled.
 #[test]
 fn a_drop_leaves_a_sleeper_asleep(rt: HostRuntime) {
-    let (flow, seat) = new_flow(&rt, rt.alloc(), Config::new());
-    let mut emitter = flow.emitter(seat);
+    let mut emitter = new_emitter(&rt, rt.alloc(), Config::new());
     let mut reader = new_reader(&rt, &mut emitter);
     let came = join(
         &rt,
@@ -124,7 +120,7 @@ fn a_drop_leaves_a_sleeper_asleep(rt: HostRuntime) {
 }
 
 /// Sends the numbers from 1 to 2000. Returns whether all were taken.
-fn send_many<R: Wait>(rt: &R, emitter: &mut Emitter<'_, i64>) -> bool {
+fn send_many<R: Wait>(rt: &R, emitter: &mut Emitter<i64>) -> bool {
     for value in 1..=2_000 {
         if send(rt, emitter, value).is_err() {
             return false;
@@ -134,8 +130,8 @@ fn send_many<R: Wait>(rt: &R, emitter: &mut Emitter<'_, i64>) -> bool {
 }
 
 /// Receives the numbers from 1 to 2000; makes and drops another reader before each. Returns how many were right.
-fn receive_many<R: Wait + Abort>(rt: &R, reader: &mut Reader<'_, i64>) -> i64 {
-    let mut emitter = reader.another();
+fn receive_many<R: Wait + Abort>(rt: &R, reader: &mut Reader<i64>) -> i64 {
+    let mut emitter = reader.another(rt);
     for value in 1..=2_000 {
         drop(new_reader(rt, &mut emitter));
         if receive(rt, reader) != Ok(value) {
@@ -148,8 +144,7 @@ fn receive_many<R: Wait + Abort>(rt: &R, reader: &mut Reader<'_, i64>) -> i64 {
 /// Each emission waits for every subscriber, and the other readers end only by a drop.
 #[test]
 fn readers_come_and_go_beside_emissions(rt: HostRuntime) {
-    let (flow, seat) = new_flow(&rt, rt.alloc(), Config::new());
-    let mut emitter = flow.emitter(seat);
+    let mut emitter = new_emitter(&rt, rt.alloc(), Config::new());
     let mut reader = new_reader(&rt, &mut emitter);
     let came = join(
         &rt,
@@ -161,20 +156,19 @@ fn readers_come_and_go_beside_emissions(rt: HostRuntime) {
 }
 
 /// Sends 1, and 2 once the reader has fallen asleep again.
-fn send_slowly<R: Wait + Clock>(rt: &R, emitter: &mut Emitter<'_, i64>) -> bool {
+fn send_slowly<R: Wait + Clock>(rt: &R, emitter: &mut Emitter<i64>) -> bool {
     sends_late(rt, emitter, 1) && sends_late(rt, emitter, 2)
 }
 
 /// Returns the first two items of the reader's stream.
-fn stream_two<R: Host>(rt: &R, reader: Reader<'_, i64>) -> Vec<Result<i64, OutOfMemory>> {
+fn stream_two<R: Host>(rt: &R, reader: Reader<i64>) -> Vec<Result<i64, OutOfMemory>> {
     next_of(rt, reader.into_stream(), 2)
 }
 
 /// `take(2).toList()` of a flow that emits 1 and 2 is `[1, 2]`.
 #[test]
 fn a_stream_gives_what_is_sent(rt: HostRuntime) {
-    let (flow, seat) = new_flow(&rt, rt.alloc(), Config::new().extra(2));
-    let mut emitter = flow.emitter(seat);
+    let mut emitter = new_emitter(&rt, rt.alloc(), Config::new().extra(2));
     let reader = new_reader(&rt, &mut emitter);
     let (are_sent, given) = join(
         &rt,

@@ -20,7 +20,7 @@ fn a_millisecond() -> Duration {
 /// Sends a value, and once more if it is refused. Returns how the last call ended, or None if it is refused again.
 fn send_again<R: Wait + Clock, A: Allocator + Copy>(
     rt: &R,
-    emitter: &mut Emitter<'_, i64, A>,
+    emitter: &mut Emitter<i64, A>,
     limit: Duration,
 ) -> Option<SendEnd> {
     match emitter.send_timeout(rt, 7, limit) {
@@ -32,8 +32,8 @@ fn send_again<R: Wait + Clock, A: Allocator + Copy>(
 /// Checks that nothing is received in time, and that a value finds no room in time, whichever request is refused.
 fn waits_in_vain<R: Host, A: Allocator + Copy>(
     rt: &R,
-    emitter: &mut Emitter<'_, i64, A>,
-    reader: &mut Reader<'_, i64, A>,
+    emitter: &mut Emitter<i64, A>,
+    reader: &mut Reader<i64, A>,
     refusing: &Refusing<Global>,
     number: u64,
 ) {
@@ -54,7 +54,7 @@ fn refuse_waits<R: Host, A: Allocator + Copy>(
 ) {
     refusing.refuse(0);
     let (flow, seat) = SharedFlow::<i64, A>::new(memory, Config::new()).expect(rt, "a flow");
-    let mut emitter = flow.emitter(seat);
+    let mut emitter = flow.into_emitter(memory, seat).expect(rt, "memory");
     let mut reader = new_reader(rt, &mut emitter);
     waits_in_vain(rt, &mut emitter, &mut reader, refusing, number);
 }
@@ -75,8 +75,8 @@ fn exceeds_eight(value: &i64) -> bool {
 /// Checks that the state does not change in time, whichever request is refused.
 fn changes_in_vain<R: Host, A: Allocator + Copy>(
     rt: &R,
-    setter: &mut Setter<'_, i64, A>,
-    reader: &mut StateReader<'_, i64, A>,
+    setter: &mut Setter<i64, A>,
+    reader: &mut StateReader<i64, A>,
     refusing: &Refusing<Global>,
     number: u64,
 ) {
@@ -99,7 +99,7 @@ fn refuse_state_waits<R: Host, A: Allocator + Copy>(
 ) {
     refusing.refuse(0);
     let (flow, seat) = StateFlow::<i64, A>::new(memory, 0, 1).expect(rt, "a flow");
-    let mut setter = flow.setter(seat);
+    let mut setter = flow.into_setter(memory, seat).expect(rt, "memory");
     let mut reader = new_state_reader(rt, &mut setter);
     changes_in_vain(rt, &mut setter, &mut reader, refusing, number);
 }

@@ -1,23 +1,23 @@
 //! Handles of shared flows on one thread.
 ghost use Rattle.std.specs.Prelude.{◌≡◌};
+ghost use Rattle.std.specs.Arc.{arc_value};
 
 use crate::compare::compare;
-use crate::flows::{new_flow, new_reader};
+use crate::flows::{new_emitter, new_owned_flow, new_reader};
 use crate::handle_calls::{
     cancel, emission_of, next, queued, receive, send, try_cancel, try_emit, try_poll,
 };
 use flow_law::{Config, Exhausted, NumberError, Rejected};
-use flow_shared::{DrainEnd, EmitAnswer, Emitter, Reader, Seat, SharedFlow};
+use flow_shared::{BoundEmission, DrainEnd, EmitAnswer, Emitter, Reader, SharedFlow};
 use std::alloc::AllocGlobal;
 use std::process::Abort;
-use std::sync::Wait;
+use std::sync::{Arc, Wait};
 use std::time::Duration;
 
 /// Calls that do not wait for other callers answer as the others.
 #[test]
 fn calls_at_once_answer_as_the_others(rt: HostRuntime) {
-    let (flow, seat) = new_flow(&rt, rt.alloc(), Config::new().replay(1).extra(1));
-    let mut emitter = flow.emitter(seat);
+    let mut emitter = new_emitter(&rt, rt.alloc(), Config::new().replay(1).extra(1));
     let mut reader = new_reader(&rt, &mut emitter);
     compare(&rt, "try_emit", try_emit(&rt, &mut emitter, 1), Ok(true));
     compare(&rt, "try_next", reader.try_next(), Ok(Some(1)));
@@ -32,19 +32,19 @@ fn calls_at_once_answer_as_the_others(rt: HostRuntime) {
 }
 
 /// Subscribes, takes the subscription out of its reader, and returns a reader that is bound to it again.
-fn bound_again<'a, R: Wait + Abort>(
+fn bound_again<R: Wait + Abort>(
     rt: &R,
-    flow: &'a SharedFlow<i64>,
-    emitter: &mut Emitter<'_, i64>,
-) -> Reader<'a, i64>
-    requires { emitter.old.flow ≡ flow.now }
+    flow: Arc<SharedFlow<i64>>,
+    emitter: &mut Emitter<i64>,
+) -> Reader<i64>
+    requires { emitter.old.flow ≡ arc_value flow }
 {
-    flow.reader(new_reader(rt, emitter).into_subscription())
+    Reader::new(flow, new_reader(rt, emitter).into_subscription())
 }
 
 /// Lets the emitter meet another emitter and another reader, and drops these.
-pub fn meet<R: Wait + Abort>(rt: &R, emitter: &mut Emitter<'_, i64>) {
-    let mut other = emitter.another();
+pub fn meet<R: Wait + Abort>(rt: &R, emitter: &mut Emitter<i64>) {
+    let mut other = emitter.another(rt);
     emitter.meet(&mut other);
     let mut reader = new_reader(rt, emitter);
     emitter.meet_reader(&mut reader);
@@ -53,11 +53,10 @@ pub fn meet<R: Wait + Abort>(rt: &R, emitter: &mut Emitter<'_, i64>) {
 /// An emitter that a reader made emits like the first one, and those that were met and dropped count no more.
 #[test]
 fn a_reader_makes_an_emitter(rt: HostRuntime) {
-    let (flow, seat) = new_flow(&rt, rt.alloc(), Config::new().extra(8));
-    let mut emitter = flow.emitter(seat);
-    let mut reader = bound_again(&rt, &flow, &mut emitter);
+    let (flow, mut emitter) = new_owned_flow(&rt, rt.alloc(), Config::new().extra(8));
+    let mut reader = bound_again(&rt, flow, &mut emitter);
     compare(&rt, "try_emit 1", try_emit(&rt, &mut emitter, 1), Ok(true));
-    let taken = try_emit(&rt, &mut reader.another(), 2);
+    let taken = try_emit(&rt, &mut reader.another(&rt), 2);
     compare(&rt, "try_emit 2", taken, Ok(true));
     compare(&rt, "the first value", next(&rt, &mut reader), Ok(Some(1)));
     meet(&rt, &mut emitter);
@@ -69,8 +68,7 @@ fn a_reader_makes_an_emitter(rt: HostRuntime) {
 /// null if none was emitted.
 #[test]
 fn a_wait_ends_in_time(rt: HostRuntime) {
-    let (flow, seat) = new_flow(&rt, rt.alloc(), Config::new().extra(2));
-    let mut emitter = flow.emitter(seat);
+    let mut emitter = new_emitter(&rt, rt.alloc(), Config::new().extra(2));
     let mut reader = new_reader(&rt, &mut emitter);
     let limit = Duration::from_millis(1);
     compare(&rt, "send 1", send(&rt, &mut emitter, 1), Ok(()));
@@ -87,15 +85,14 @@ fn a_wait_ends_in_time(rt: HostRuntime) {
 }
 
 /// Subscribes with no values, and drops the reader. Returns whether it got a number.
-fn subscribe_with<R: Wait + AllocGlobal>(rt: &R, emitter: &mut Emitter<'_, i64>) -> bool {
+fn subscribe_with<R: Wait + AllocGlobal>(rt: &R, emitter: &mut Emitter<i64>) -> bool {
     emitter.subscribe_with(rt, Vec::new(rt.alloc())).is_ok()
 }
 
 /// The two numbers of the flow were issued to two readers.
 #[test]
 fn a_refusal_hands_the_value_back(rt: HostRuntime) {
-    let (flow, seat) = new_flow(&rt, rt.alloc(), Config::new().extra(8).limit(2));
-    let mut emitter = flow.emitter(seat);
+    let mut emitter = new_emitter(&rt, rt.alloc(), Config::new().extra(8).limit(2));
     let _reader = new_reader(&rt, &mut emitter);
     compare(&rt, "number 2", subscribe_with(&rt, &mut emitter), true);
     compare(&rt, "number 3", emitter.subscribe(&rt).is_ok(), false);
@@ -111,8 +108,7 @@ fn a_refusal_hands_the_value_back(rt: HostRuntime) {
 /// A reader that is dropped is no longer counted, and emitters no longer wait for it.
 #[test]
 fn a_dropped_reader_ends_its_subscription(rt: HostRuntime) {
-    let (flow, seat) = new_flow(&rt, rt.alloc(), Config::new().extra(1));
-    let mut emitter = flow.emitter(seat);
+    let mut emitter = new_emitter(&rt, rt.alloc(), Config::new().extra(1));
     let mut reader = new_reader(&rt, &mut emitter);
     let other = new_reader(&rt, &mut emitter);
     compare(&rt, "try_emit 1", try_emit(&rt, &mut emitter, 1), Ok(true));
@@ -126,12 +122,11 @@ fn a_dropped_reader_ends_its_subscription(rt: HostRuntime) {
 /// No reader receives the value of an emission that was dropped, or cancelled.
 #[test]
 fn a_dropped_emission_is_cancelled(rt: HostRuntime) {
-    let (flow, seat) = new_flow(&rt, rt.alloc(), Config::new());
-    let mut emitter = flow.emitter(seat);
+    let mut emitter = new_emitter(&rt, rt.alloc(), Config::new());
     let mut reader = new_reader(&rt, &mut emitter);
     drop(emission_of(&rt, &mut emitter, 4));
     compare(&rt, "next, dropped", next(&rt, &mut reader), Ok(None));
-    let emission = queued(&rt, emitter.another().emit_now(2));
+    let emission = queued(&rt, emitter.another(&rt).emit_now(2));
     compare(&rt, "cancel of an emit_now", cancel(&rt, emission), true);
     let emission = try_poll(emission_of(&rt, &mut emitter, 3)).expect(&rt, "it waits");
     compare(&rt, "try_cancel", try_cancel(emission), true);
@@ -141,8 +136,7 @@ fn a_dropped_emission_is_cancelled(rt: HostRuntime) {
 /// A drain takes at most the number of values that its caller passes.
 #[test]
 fn a_reader_drains(rt: HostRuntime) {
-    let (flow, seat) = new_flow(&rt, rt.alloc(), Config::new().extra(4));
-    let mut emitter = flow.emitter(seat);
+    let mut emitter = new_emitter(&rt, rt.alloc(), Config::new().extra(4));
     let mut reader = new_reader(&rt, &mut emitter);
     compare(&rt, "try_emit 1", try_emit(&rt, &mut emitter, 1), Ok(true));
     compare(&rt, "try_emit 2", try_emit(&rt, &mut emitter, 2), Ok(true));
@@ -155,11 +149,14 @@ fn a_reader_drains(rt: HostRuntime) {
 }
 
 /// Emits 4, takes the emission out of its handle, binds it again and cancels it. Returns whether it waited.
-fn is_bound_again<R: Wait>(rt: &R, flow: &SharedFlow<i64>, seat: Seat<i64>) -> bool
-    requires { seat.table_id ≡ flow.now.table_id }
+fn is_bound_again<R: Wait>(rt: &R, flow: Arc<SharedFlow<i64>>, emitter: Emitter<i64>) -> bool
+    requires { emitter.flow ≡ arc_value flow }
 {
-    match flow.emitter(seat).emit(rt, 4) {
-        EmitAnswer::Queued(emission) => flow.emission(emission.into_emission()).cancel(rt).1,
+    match emitter.emit(rt, 4) {
+        EmitAnswer::Queued(emission) => {
+            let emission = BoundEmission::new(flow, emission.into_emission());
+            emission.cancel(rt).1
+        }
         EmitAnswer::Done(_emitter) => false,
         EmitAnswer::Refused(_emitter, _rejected) => false,
     }
@@ -167,7 +164,7 @@ fn is_bound_again<R: Wait>(rt: &R, flow: &SharedFlow<i64>, seat: Seat<i64>) -> b
 
 #[test]
 fn an_emission_gives_its_token_back(rt: HostRuntime) {
-    let (flow, mut seat) = new_flow(&rt, rt.alloc(), Config::new());
-    compare(&rt, "made", flow.subscribe(&rt, &mut seat).is_ok(), true);
-    compare(&rt, "it waited", is_bound_again(&rt, &flow, seat), true);
+    let (flow, mut emitter) = new_owned_flow(&rt, rt.alloc(), Config::new());
+    let _reader = new_reader(&rt, &mut emitter);
+    compare(&rt, "it waited", is_bound_again(&rt, flow, emitter), true);
 }

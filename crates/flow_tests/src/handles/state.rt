@@ -1,6 +1,6 @@
 //! Handles of state flows.
 use crate::compare::compare;
-use crate::flows::{new_state_flow, new_state_reader};
+use crate::flows::{new_setter, new_state_reader};
 use crate::handle_calls::next_of;
 use crate::handles::states::{Reads, Sets};
 use crate::host::Host;
@@ -11,10 +11,10 @@ use std::process::Abort;
 use std::sync::Wait;
 use std::time::Duration;
 
-impl<'a> Sets for Setter<'a, i64> {
-    type Reader = StateReader<'a, i64>;
+impl Sets for Setter<i64> {
+    type Reader = StateReader<i64>;
 
-    fn reader<R: Wait + Abort>(&mut self, rt: &R) -> StateReader<'a, i64> {
+    fn reader<R: Wait + Abort>(&mut self, rt: &R) -> StateReader<i64> {
         new_state_reader(rt, self)
     }
 
@@ -23,7 +23,7 @@ impl<'a> Sets for Setter<'a, i64> {
     }
 }
 
-impl<'a> Reads for StateReader<'a, i64> {
+impl Reads for StateReader<i64> {
     fn take<R: Wait + Abort>(&mut self, rt: &R) -> Option<i64> {
         self.next(rt).expect(rt, "memory")
     }
@@ -68,8 +68,7 @@ fn one_more(value: &i64) -> Result<i64, OutOfMemory> {
 /// A function that fails leaves the value as it is.
 #[test]
 fn a_state_flow_is_updated(rt: HostRuntime) {
-    let (flow, seat) = new_state_flow(&rt, rt.alloc(), 4, 0);
-    let mut setter = flow.setter(seat);
+    let mut setter = new_setter(&rt, rt.alloc(), 4, 0);
     compare(&rt, "update", setter.update(&rt, one_more).is_ok(), true);
     let before = setter.get_and_update(&rt, one_more).ok();
     compare(&rt, "get_and_update", before, Some(5));
@@ -86,8 +85,7 @@ fn a_state_flow_is_updated(rt: HostRuntime) {
 /// Calls that do not wait for other callers answer as the others.
 #[test]
 fn calls_at_once_of_a_state_flow(rt: HostRuntime) {
-    let (flow, seat) = new_state_flow(&rt, rt.alloc(), 7, 1);
-    let mut setter = flow.setter(seat);
+    let mut setter = new_setter(&rt, rt.alloc(), 7, 1);
     let mut reader = new_state_reader(&rt, &mut setter);
     compare(&rt, "try_set", setter.try_set(2), Ok(()));
     compare(&rt, "try_emit", setter.try_emit(&rt, 3), true);
@@ -108,8 +106,7 @@ fn calls_at_once_of_a_state_flow(rt: HostRuntime) {
 /// the state, and a future that was not polled returns its reader.
 #[test]
 fn a_dropped_stream_of_a_state_ends_its_subscription(rt: HostRuntime) {
-    let (flow, seat) = new_state_flow(&rt, rt.alloc(), 7, 2);
-    let mut setter = flow.setter(seat);
+    let mut setter = new_setter(&rt, rt.alloc(), 7, 2);
     let stream = new_state_reader(&rt, &mut setter).into_stream();
     compare(&rt, "subscribers", setter.subscription_count(&rt), 1);
     drop(stream);

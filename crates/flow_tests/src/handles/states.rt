@@ -1,6 +1,6 @@
 //! What holds of the handles of state flows and of word states alike. Each state begins with the value 7.
 use crate::compare::compare;
-use crate::flows::{new_state_flow, new_word_state};
+use crate::flows::{new_setter, new_word_setter};
 use crate::handle_calls::{an_hour, pause};
 use crate::host::Host;
 use std::process::Abort;
@@ -80,14 +80,12 @@ fn waits<R: Host, S: Sets>(rt: &R, setter: &mut S) {
 
 #[test]
 fn waits_of_state_flows(rt: HostRuntime) {
-    let (flow, seat) = new_state_flow(&rt, rt.alloc(), 7, 2);
-    waits(&rt, &mut flow.setter(seat));
+    waits(&rt, &mut new_setter(&rt, rt.alloc(), 7, 2));
 }
 
 #[test]
 fn waits_of_word_states(rt: HostRuntime) {
-    let (flow, seat) = new_word_state(&rt, rt.alloc(), 7, 2);
-    waits(&rt, &mut flow.setter(seat));
+    waits(&rt, &mut new_word_setter(&rt, rt.alloc(), 7, 2));
 }
 
 /// Returns a new reader that has received 7.
@@ -174,12 +172,10 @@ fn meet<R: Host, S: Sets>(rt: &R, setter: &mut S) {
 
 #[test]
 fn two_threads_meet_at_state_flows(rt: HostRuntime) {
-    let (flow, seat) = new_state_flow(&rt, rt.alloc(), 7, 5);
-    meet(&rt, &mut flow.setter(seat));
+    meet(&rt, &mut new_setter(&rt, rt.alloc(), 7, 5));
 }
 
 #[test]
 fn two_threads_meet_at_word_states(rt: HostRuntime) {
-    let (flow, seat) = new_word_state(&rt, rt.alloc(), 7, 5);
-    meet(&rt, &mut flow.setter(seat));
+    meet(&rt, &mut new_word_setter(&rt, rt.alloc(), 7, 5));
 }

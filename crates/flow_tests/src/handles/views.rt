@@ -1,6 +1,6 @@
 //! Views that only read, and iterators over the values of a reader.
 use crate::compare::compare;
-use crate::flows::{new_flow, new_reader, new_state_flow};
+use crate::flows::{new_emitter, new_reader, new_setter};
 use crate::handle_calls::try_emit;
 use crate::host::Host;
 use flow_law::{Config, NumberError};
@@ -10,7 +10,7 @@ use std::sync::Wait;
 use std::time::Duration;
 
 /// Returns the sum of the values up to and with `last`.
-fn sum_to<R: Wait + Abort>(rt: &R, reader: &mut Reader<'_, i64>, last: i64) -> i64 {
+fn sum_to<R: Wait + Abort>(rt: &R, reader: &mut Reader<i64>, last: i64) -> i64 {
     let mut sum = 0i64;
     for value in reader.values(rt) {
         let value = value.expect(rt, "a value");
@@ -23,7 +23,7 @@ fn sum_to<R: Wait + Abort>(rt: &R, reader: &mut Reader<'_, i64>, last: i64) -> i
 }
 
 /// Returns the sum of the values that come within some milliseconds.
-fn sum_within<R: Host>(rt: &R, reader: &mut Reader<'_, i64>, millis: u64) -> i64 {
+fn sum_within<R: Host>(rt: &R, reader: &mut Reader<i64>, millis: u64) -> i64 {
     let mut sum = 0i64;
     for value in reader.values_until(rt, Duration::from_millis(millis)) {
         sum = sum.wrapping_add(value.expect(rt, "a value"));
@@ -35,8 +35,7 @@ fn sum_within<R: Host>(rt: &R, reader: &mut Reader<'_, i64>, millis: u64) -> i64
 /// is up, and at once if there is no time.
 #[test]
 fn an_iterator_receives_the_values(rt: HostRuntime) {
-    let (flow, seat) = new_flow(&rt, rt.alloc(), Config::new().extra(16));
-    let mut emitter = flow.emitter(seat);
+    let mut emitter = new_emitter(&rt, rt.alloc(), Config::new().extra(16));
     let mut reader = new_reader(&rt, &mut emitter);
     for value in 1..8 {
         compare(&rt, "room", try_emit(&rt, &mut emitter, value), Ok(true));
@@ -48,7 +47,7 @@ fn an_iterator_receives_the_values(rt: HostRuntime) {
 }
 
 /// Subscribes through a view of a shared flow, and receives by each call of its reader.
-fn read_shared<R: Host>(rt: &R, view: &mut SharedView<'_, i64>) {
+fn read_shared<R: Host>(rt: &R, view: &mut SharedView<i64>) {
     let mut reader = view.subscribe(rt).expect(rt, "a reader");
     compare(rt, "receive", reader.receive(rt), Ok(1));
     compare(rt, "next", reader.next(rt), Ok(Some(2)));
@@ -65,14 +64,13 @@ fn read_shared<R: Host>(rt: &R, view: &mut SharedView<'_, i64>) {
 /// A view of a shared flow subscribes and receives, as an emitter's reader does. The limit of the flow counts for it.
 #[test]
 fn a_view_reads_a_shared_flow(rt: HostRuntime) {
-    let (flow, seat) = new_flow(&rt, rt.alloc(), Config::new().replay(4).limit(6));
-    let mut emitter = flow.emitter(seat);
+    let mut emitter = new_emitter(&rt, rt.alloc(), Config::new().replay(4).limit(6));
     for value in 1..5 {
         compare(&rt, "room", try_emit(&rt, &mut emitter, value), Ok(true));
     }
-    let mut view = emitter.view();
+    let mut view = emitter.view(&rt);
     read_shared(&rt, &mut view);
-    let mut other = view.another();
+    let mut other = view.another(&rt);
     let _reader = other.subscribe(&rt).expect(&rt, "a reader");
     compare(&rt, "subscribers", emitter.subscription_count(&rt), 1);
     let refused = view.subscribe(&rt).err();
@@ -80,7 +78,7 @@ fn a_view_reads_a_shared_flow(rt: HostRuntime) {
 }
 
 /// Subscribes through a view of a state flow, and receives its state.
-fn read_state<R: Host>(rt: &R, view: &mut StateView<'_, i64>) {
+fn read_state<R: Host>(rt: &R, view: &mut StateView<i64>) {
     compare(rt, "value", view.value(rt), Ok(7));
     let mut reader = view.subscribe(rt).expect(rt, "a reader");
     compare(rt, "changed", reader.changed(rt), Ok(7));
@@ -94,8 +92,7 @@ fn read_state<R: Host>(rt: &R, view: &mut StateView<'_, i64>) {
 /// A view of a state flow reads the state and subscribes.
 #[test]
 fn a_view_reads_a_state_flow(rt: HostRuntime) {
-    let (flow, seat) = new_state_flow(&rt, rt.alloc(), 7, 2);
-    let mut setter = flow.setter(seat);
-    read_state(&rt, &mut setter.view());
+    let mut setter = new_setter(&rt, rt.alloc(), 7, 2);
+    read_state(&rt, &mut setter.view(&rt));
     compare(&rt, "after it", setter.subscription_count(&rt), 0);
 }

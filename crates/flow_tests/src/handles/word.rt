@@ -1,21 +1,22 @@
 //! Handles of word states.
 ghost use Rattle.std.specs.Prelude.{◌≡◌};
+ghost use Rattle.std.specs.Arc.{arc_value};
 
 use crate::compare::compare;
-use crate::flows::{new_word_reader, new_word_state};
+use crate::flows::{new_word_reader, new_word_setter, new_word_state};
 use crate::handle_calls::next_of;
 use crate::handles::states::{Reads, Sets};
 use crate::host::Host;
 use flow_word::{WordReader, WordSetter, WordState};
 use futures::executor::block_on;
 use std::process::Abort;
-use std::sync::Wait;
+use std::sync::{Arc, Wait};
 use std::time::Duration;
 
-impl<'a> Sets for WordSetter<'a, i64> {
-    type Reader = WordReader<'a, i64>;
+impl Sets for WordSetter<i64> {
+    type Reader = WordReader<i64>;
 
-    fn reader<R: Wait + Abort>(&mut self, rt: &R) -> WordReader<'a, i64> {
+    fn reader<R: Wait + Abort>(&mut self, rt: &R) -> WordReader<i64> {
         new_word_reader(rt, self)
     }
 
@@ -24,7 +25,7 @@ impl<'a> Sets for WordSetter<'a, i64> {
     }
 }
 
-impl<'a> Reads for WordReader<'a, i64> {
+impl Reads for WordReader<i64> {
     fn take<R: Wait + Abort>(&mut self, _rt: &R) -> Option<i64> {
         self.next()
     }
@@ -61,8 +62,7 @@ fn one_more(value: i64) -> i64 {
 
 #[test]
 fn a_word_state_is_updated(rt: HostRuntime) {
-    let (flow, seat) = new_word_state(&rt, rt.alloc(), 4, 0);
-    let mut setter = flow.setter(seat);
+    let mut setter = new_word_setter(&rt, rt.alloc(), 4, 0);
     setter.update(&rt, one_more);
     let before = setter.get_and_update(&rt, one_more);
     compare(&rt, "get_and_update", before, 5);
@@ -72,22 +72,25 @@ fn a_word_state_is_updated(rt: HostRuntime) {
 }
 
 /// Subscribes, takes the subscription out of its reader, and returns a reader that is bound to it again.
-fn bound_again<'a, R: Wait + Abort>(
+fn bound_again<R: Wait + Abort>(
     rt: &R,
-    flow: &'a WordState<i64>,
-    setter: &mut WordSetter<'_, i64>,
-) -> WordReader<'a, i64>
-    requires { setter.old.flow ≡ flow.now }
+    flow: Arc<WordState<i64>>,
+    setter: &mut WordSetter<i64>,
+) -> WordReader<i64>
+    requires { setter.old.flow ≡ arc_value flow }
 {
-    flow.reader(new_word_reader(rt, setter).into_subscription())
+    WordReader::new(flow, new_word_reader(rt, setter).into_subscription())
 }
 
 /// Tokens that were taken out of their handles and bound again make the same calls.
 #[test]
 fn tokens_of_a_word_state_are_bound_again(rt: HostRuntime) {
     let (flow, seat) = new_word_state(&rt, rt.alloc(), 7, 1);
-    let mut setter = flow.setter(flow.setter(seat).into_seat());
-    let mut reader = bound_again(&rt, &flow, &mut setter);
+    let flow = Arc::new(rt.alloc(), flow).expect(&rt, "memory");
+    let first = WordSetter::new(Arc::try_clone(&flow).expect(&rt, "an owner"), seat);
+    let again = Arc::try_clone(&flow).expect(&rt, "an owner");
+    let mut setter = WordSetter::new(again, first.into_seat());
+    let mut reader = bound_again(&rt, flow, &mut setter);
     setter.set(3);
     setter.seen();
     compare(&rt, "subscribers", setter.subscription_count(), 1);
@@ -97,8 +100,8 @@ fn tokens_of_a_word_state_are_bound_again(rt: HostRuntime) {
 }
 
 /// Lets the setter meet another setter and another reader.
-fn meet<R: Wait + Abort>(rt: &R, setter: &mut WordSetter<'_, i64>) {
-    let mut other = setter.another();
+fn meet<R: Wait + Abort>(rt: &R, setter: &mut WordSetter<i64>) {
+    let mut other = setter.another(rt);
     setter.meet(&mut other);
     let mut reader = new_word_reader(rt, setter);
     setter.meet_reader(&mut reader);
@@ -107,8 +110,7 @@ fn meet<R: Wait + Abort>(rt: &R, setter: &mut WordSetter<'_, i64>) {
 /// A reader or a stream that is dropped is no longer counted, nor is a reader that has unsubscribed.
 #[test]
 fn a_dropped_reader_of_a_word_state_ends_its_subscription(rt: HostRuntime) {
-    let (flow, seat) = new_word_state(&rt, rt.alloc(), 7, 4);
-    let mut setter = flow.setter(seat);
+    let mut setter = new_word_setter(&rt, rt.alloc(), 7, 4);
     let reader = new_word_reader(&rt, &mut setter);
     compare(&rt, "beside a reader", setter.subscription_count(), 1);
     drop(reader);

@@ -1,6 +1,6 @@
 //! Futures and streams of a word state that are dropped while their tasks sleep.
 use crate::compare::compare;
-use crate::flows::{new_word_reader, new_word_state};
+use crate::flows::{new_word_reader, new_word_setter};
 use crate::host::Host;
 use flow_word::{WordReader, WordSetter};
 use futures::Stream;
@@ -21,28 +21,25 @@ fn sleep_again(task: &MockTask) {
 }
 
 /// Subscribes, and takes the current value.
-fn new_idle_reader<'a, R: Wait + Abort>(
-    rt: &R,
-    setter: &mut WordSetter<'a, i64>,
-) -> WordReader<'a, i64> {
+fn new_idle_reader<R: Wait + Abort>(rt: &R, setter: &mut WordSetter<i64>) -> WordReader<i64> {
     let mut reader = new_word_reader(rt, setter);
     let _current = reader.next();
     reader
 }
 
 /// Polls a future of a change once, and drops it. Returns whether it waited.
-fn lose_future(task: &MockTask, reader: WordReader<'_, i64>) -> bool {
+fn lose_future(task: &MockTask, reader: WordReader<i64>) -> bool {
     task.poll(&mut reader.into_changed()).is_pending()
 }
 
 /// Polls a stream once, and drops it. Returns whether it waited.
-fn lose_stream(task: &MockTask, reader: WordReader<'_, i64>) -> bool {
+fn lose_stream(task: &MockTask, reader: WordReader<i64>) -> bool {
     let mut values = reader.into_stream();
     task.enter(|cx| values.poll_next(cx).is_pending())
 }
 
 /// Polls a future once, takes its reader out, and unsubscribes. Returns whether it waited.
-fn leave_future(task: &MockTask, reader: WordReader<'_, i64>) -> bool {
+fn leave_future(task: &MockTask, reader: WordReader<i64>) -> bool {
     let mut future = reader.into_changed();
     let waits = task.poll(&mut future).is_pending();
     match future.into_reader() {
@@ -57,8 +54,7 @@ fn leave_future(task: &MockTask, reader: WordReader<'_, i64>) -> bool {
 /// A change wakes no task whose future or stream was dropped, or whose reader has unsubscribed.
 #[test]
 fn lost_futures_and_streams_leave_no_waker(rt: HostRuntime) {
-    let (flow, seat) = new_word_state(&rt, rt.alloc(), 0, NUMBERS);
-    let mut setter = flow.setter(seat);
+    let mut setter = new_word_setter(&rt, rt.alloc(), 0, NUMBERS);
     let task = MockTask::new(&rt).expect(&rt, "a task");
     let mut waited = true;
     for _ in 0..LOST {
@@ -75,8 +71,7 @@ fn lost_futures_and_streams_leave_no_waker(rt: HostRuntime) {
 /// A task that still sleeps is woken by the next change, after the futures of others were dropped.
 #[test]
 fn a_change_wakes_the_task_that_is_left(rt: HostRuntime) {
-    let (flow, seat) = new_word_state(&rt, rt.alloc(), 0, NUMBERS);
-    let mut setter = flow.setter(seat);
+    let mut setter = new_word_setter(&rt, rt.alloc(), 0, NUMBERS);
     let lost = MockTask::new(&rt).expect(&rt, "a task");
     let left = MockTask::new(&rt).expect(&rt, "a task");
     let before = new_idle_reader(&rt, &mut setter);
@@ -95,12 +90,12 @@ fn a_change_wakes_the_task_that_is_left(rt: HostRuntime) {
 
 /// A caller that loses futures in a thread of its own, beside others.
 #[derive(Drop)]
-struct Loser<'a> {
-    setter: WordSetter<'a, i64>,
+struct Loser {
+    setter: WordSetter<i64>,
     task: MockTask,
 }
 
-impl Loser<'_> {
+impl Loser {
     fn run<R: Wait + Abort>(&mut self, rt: &R) {
         for _ in 0..LOST {
             let reader = new_idle_reader(rt, &mut self.setter);
@@ -109,15 +104,15 @@ impl Loser<'_> {
     }
 }
 
-fn new_loser<'a, R: Host>(rt: &R, setter: &mut WordSetter<'a, i64>) -> Loser<'a> {
+fn new_loser<R: Host>(rt: &R, setter: &mut WordSetter<i64>) -> Loser {
     Loser {
-        setter: setter.another(),
+        setter: setter.another(rt),
         task: MockTask::new(rt).expect(rt, "a task"),
     }
 }
 
 /// Lets four threads lose futures at the same time. Returns whether a change wakes one of their tasks afterwards.
-fn lose_beside<R: Host>(rt: &R, setter: &mut WordSetter<'_, i64>) -> bool {
+fn lose_beside<R: Host>(rt: &R, setter: &mut WordSetter<i64>) -> bool {
     let mut losers = [
         new_loser(rt, setter),
         new_loser(rt, setter),
@@ -148,7 +143,6 @@ fn lose_beside<R: Host>(rt: &R, setter: &mut WordSetter<'_, i64>) -> bool {
 /// Where a drop finds the list of sleepers taken by another thread, its waker is removed all the same.
 #[test]
 fn four_threads_lose_futures(rt: HostRuntime) {
-    let (flow, seat) = new_word_state(&rt, rt.alloc(), 0, NUMBERS);
-    let mut setter = flow.setter(seat);
+    let mut setter = new_word_setter(&rt, rt.alloc(), 0, NUMBERS);
     compare(&rt, "any is woken", lose_beside(&rt, &mut setter), false);
 }

@@ -58,8 +58,8 @@ fn a_subscriber_that_has_met_receives_what_was_set(rt: HostRuntime) {
 #[test]
 fn a_reader_finds_what_a_message_tells(rt: HostRuntime) {
     let (flow, seat) = WordState::new(rt.alloc(), 0u64, 0).expect(&rt, "a flow");
-    let mut setter = flow.setter(seat);
-    let reader = setter.another();
+    let mut setter = flow.into_setter(rt.alloc(), seat).expect(&rt, "memory");
+    let reader = setter.another(&rt);
     let heard = pass_on(&rt, rt.alloc(), setter, reader, 7).expect(&rt, "memory");
     compare(&rt, "the value of the message", heard.value, 7);
     compare(&rt, "what its reader found", heard.found, 7);

@@ -1,6 +1,6 @@
 //! Two threads set the value of a word state while threads and tasks sleep until it changes.
 use crate::compare::compare;
-use crate::flows::{new_word_reader, new_word_state};
+use crate::flows::{new_word_reader, new_word_setter};
 use crate::host::Host;
 use flow_word::{ChangedFuture, WordReader, WordSetter};
 use futures::task::Poll;
@@ -21,33 +21,33 @@ const LIMIT: u64 = 20;
 
 /// A task, and the reader whose futures it polls.
 #[derive(Drop)]
-struct Polling<'a> {
-    reader: Option<WordReader<'a, i64>>,
+struct Polling {
+    reader: Option<WordReader<i64>>,
     task: MockTask,
 }
 
 /// A setter, and the first of the values that it sets.
 #[derive(Drop)]
-struct Setting<'a> {
-    setter: WordSetter<'a, i64>,
+struct Setting {
+    setter: WordSetter<i64>,
     first: i64,
 }
 
 /// What the thread of a caller does.
 #[derive(Drop)]
-enum Part<'a> {
+enum Part {
     /// Sets values that no other setter sets.
-    Sets(Setting<'a>),
+    Sets(Setting),
     /// Receives values up to the last one, by `changed_timeout`.
-    Sleeps(WordReader<'a, i64>),
+    Sleeps(WordReader<i64>),
     /// Receives values up to the last one, by futures that the task polls when it is woken.
-    Polls(Polling<'a>),
+    Polls(Polling),
 }
 
 /// A caller in a thread of its own, and whether it did its part in time.
 #[derive(Drop)]
-struct Caller<'a> {
-    part: Part<'a>,
+struct Caller {
+    part: Part,
     in_time: bool,
 }
 
@@ -62,7 +62,7 @@ fn is_in_time<C: Clock>(clock: &C, start: Option<Instant>) -> bool {
 }
 
 /// Sets the values, and the last one if the other setter has ended.
-fn set_all(setting: &mut Setting<'_>, setters: &AtomicU64) -> bool {
+fn set_all(setting: &mut Setting, setters: &AtomicU64) -> bool {
     let first = setting.first;
     for k in 0..VALUES {
         setting.setter.set(first.wrapping_add(k));
@@ -76,7 +76,7 @@ fn set_all(setting: &mut Setting<'_>, setters: &AtomicU64) -> bool {
 
 /// Sleeps until the value changes, again and again. Returns whether it came to the last value, and no wait took too
 /// long.
-fn sleep_to_last<R: Wait + Clock>(rt: &R, reader: &mut WordReader<'_, i64>) -> bool {
+fn sleep_to_last<R: Wait + Clock>(rt: &R, reader: &mut WordReader<i64>) -> bool {
     for _ in 0..u32::MAX {
         let start = Instant::now(rt).ok();
         let value = reader.changed_timeout(rt, Duration::from_secs(LIMIT));
@@ -93,11 +93,11 @@ fn sleep_to_last<R: Wait + Clock>(rt: &R, reader: &mut WordReader<'_, i64>) -> b
 }
 
 /// Polls a future each time that its task is woken. Returns what it gave, unless the task was not woken for too long.
-fn await_change<'a, C: Clock>(
+fn await_change<C: Clock>(
     clock: &C,
     task: &MockTask,
-    mut future: ChangedFuture<'a, i64>,
-) -> Option<(WordReader<'a, i64>, i64)> {
+    mut future: ChangedFuture<i64>,
+) -> Option<(WordReader<i64>, i64)> {
     let start = Instant::now(clock).ok();
     for _ in 0..u64::MAX {
         match task.poll(&mut future) {
@@ -126,7 +126,7 @@ fn await_wake<C: Clock>(clock: &C, task: &MockTask, start: Option<Instant>) -> b
 }
 
 /// Awaits changes up to the last value. Returns whether it came to that one, and was woken in time.
-fn poll_to_last<C: Clock>(clock: &C, polling: &mut Polling<'_>) -> bool {
+fn poll_to_last<C: Clock>(clock: &C, polling: &mut Polling) -> bool {
     let Some(mut reader) = polling.reader.take() else {
         return false;
     };
@@ -140,7 +140,7 @@ fn poll_to_last<C: Clock>(clock: &C, polling: &mut Polling<'_>) -> bool {
     false
 }
 
-impl Caller<'_> {
+impl Caller {
     fn run<R: Wait + Clock>(&mut self, rt: &R, setters: &AtomicU64) {
         self.in_time = match &mut self.part {
             Part::Sets(setting) => set_all(setting, setters),
@@ -150,31 +150,31 @@ impl Caller<'_> {
     }
 }
 
-fn new_caller(part: Part<'_>) -> Caller<'_> {
+fn new_caller(part: Part) -> Caller {
     let in_time = false;
     Caller { part, in_time }
 }
 
-fn new_setter<'a>(setter: &mut WordSetter<'a, i64>, first: i64) -> Caller<'a> {
-    let setter = setter.another();
+fn new_setter<R: Host>(rt: &R, setter: &mut WordSetter<i64>, first: i64) -> Caller {
+    let setter = setter.another(rt);
     new_caller(Part::Sets(Setting { setter, first }))
 }
 
-fn new_sleeper<'a, R: Host>(rt: &R, setter: &mut WordSetter<'a, i64>) -> Caller<'a> {
+fn new_sleeper<R: Host>(rt: &R, setter: &mut WordSetter<i64>) -> Caller {
     new_caller(Part::Sleeps(new_word_reader(rt, setter)))
 }
 
-fn new_poller<'a, R: Host>(rt: &R, setter: &mut WordSetter<'a, i64>) -> Caller<'a> {
+fn new_poller<R: Host>(rt: &R, setter: &mut WordSetter<i64>) -> Caller {
     let task = MockTask::new(rt).expect(rt, "a task");
     let reader = Some(new_word_reader(rt, setter));
     new_caller(Part::Polls(Polling { reader, task }))
 }
 
 /// Lets all callers begin at the same time. Returns how many of them were not in time.
-fn run<R: Host>(rt: &R, setter: &mut WordSetter<'_, i64>) -> u32 {
+fn run<R: Host>(rt: &R, setter: &mut WordSetter<i64>) -> u32 {
     let mut callers = [
-        new_setter(setter, 1),
-        new_setter(setter, 1_000_000),
+        new_setter(rt, setter, 1),
+        new_setter(rt, setter, 1_000_000),
         new_sleeper(rt, setter),
         new_sleeper(rt, setter),
         new_poller(rt, setter),
@@ -203,7 +203,6 @@ fn run<R: Host>(rt: &R, setter: &mut WordSetter<'_, i64>) -> u32 {
 /// No thread and no task sleeps on after the last value was set.
 #[test]
 fn two_setters_wake_all_sleepers(rt: HostRuntime) {
-    let (flow, seat) = new_word_state(&rt, rt.alloc(), 0, 100);
-    let mut setter = flow.setter(seat);
+    let mut setter = new_word_setter(&rt, rt.alloc(), 0, 100);
     compare(&rt, "callers that were late", run(&rt, &mut setter), 0);
 }

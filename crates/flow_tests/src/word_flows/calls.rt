@@ -1,6 +1,6 @@
 //! Calls of the handles of a word flow that no script makes: calls at once, waits, drains, drops, and the end of a flow.
 use crate::compare::compare;
-use crate::word_flows::{dropping, new_word_flow, new_word_flow_reader};
+use crate::word_flows::{dropping, new_word_emitter, new_word_flow, new_word_flow_reader};
 use flow_law::{Drained, Exhausted, Rejected};
 use flow_word_shared::{WordEmitter, WordFlowReader};
 use std::alloc::Global;
@@ -11,8 +11,7 @@ use std::time::Duration;
 /// The flow issues four numbers: one to the reader, and one to each of three values.
 #[test]
 fn calls_at_once_and_waits_of_a_word_flow(rt: HostRuntime) {
-    let (flow, seat) = new_word_flow(&rt, rt.alloc(), dropping(1, 1, 4));
-    let mut emitter = flow.emitter(seat);
+    let mut emitter = new_word_emitter(&rt, rt.alloc(), dropping(1, 1, 4));
     let mut reader = new_word_flow_reader(&rt, &mut emitter);
     let limit = Duration::from_millis(1);
     compare(&rt, "emit 1", emitter.emit(&rt, 1), Ok(()));
@@ -31,7 +30,7 @@ fn calls_at_once_and_waits_of_a_word_flow(rt: HostRuntime) {
 }
 
 /// Emits the numbers from the first to the last one.
-fn emit_all<R: Wait + Abort>(rt: &R, emitter: &mut WordEmitter<'_, i64>, first: i64, last: i64) {
+fn emit_all<R: Wait + Abort>(rt: &R, emitter: &mut WordEmitter<i64>, first: i64, last: i64) {
     for value in first..=last {
         compare(rt, "emit", emitter.emit(rt, value), Ok(()));
     }
@@ -41,7 +40,7 @@ fn emit_all<R: Wait + Abort>(rt: &R, emitter: &mut WordEmitter<'_, i64>, first: 
 fn drains<R: Wait + Abort>(
     rt: &R,
     alloc: Global,
-    reader: &mut WordFlowReader<'_, i64>,
+    reader: &mut WordFlowReader<i64>,
     most: usize,
     stopped: Drained,
     values: &[i64],
@@ -56,8 +55,7 @@ fn drains<R: Wait + Abort>(
 #[test]
 fn a_reader_of_a_word_flow_drains(rt: HostRuntime) {
     let alloc = rt.alloc();
-    let (flow, seat) = new_word_flow(&rt, alloc, dropping(0, 5, u64::MAX));
-    let mut emitter = flow.emitter(seat);
+    let mut emitter = new_word_emitter(&rt, alloc, dropping(0, 5, u64::MAX));
     let mut reader = new_word_flow_reader(&rt, &mut emitter);
     drains(&rt, alloc, &mut reader, 3, Drained::Empty, &[]);
     emit_all(&rt, &mut emitter, 1, 4);
@@ -73,15 +71,14 @@ fn a_reader_of_a_word_flow_drains(rt: HostRuntime) {
 /// What the flow has at its end: what other seats did, too.
 #[test]
 fn a_closed_word_flow_has_its_last_values(rt: HostRuntime) {
-    let (flow, seat) = new_word_flow(&rt, rt.alloc(), dropping(2, 1, 9));
-    let mut emitter = flow.emitter(seat);
-    let mut other = emitter.another();
+    let (closing, mut emitter) = new_word_flow(&rt, rt.alloc(), dropping(2, 1, 9));
+    let mut other = emitter.another(&rt);
     let reader = new_word_flow_reader(&rt, &mut other);
     emit_all(&rt, &mut other, 1, 4);
     let _subscription = reader.into_subscription();
     drop(other);
-    let seat = emitter.into_seat();
-    let closed = flow.close(seat);
+    drop(emitter);
+    let closed = closing.close(&rt);
     compare(&rt, "emitted", closed.emitted(), 4);
     compare(&rt, "subscribers", closed.subscription_count(), 1);
     let cache = closed.replay_cache().expect(&rt, "memory");

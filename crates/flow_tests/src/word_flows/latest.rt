@@ -2,9 +2,9 @@
 use crate::compare::compare;
 use crate::handle_calls::begin;
 use crate::host::Host;
-use crate::word_flows::quote::Quote;
+use crate::word_flows::{Closing, new_word_flow_reader};
 use flow_law::{Config, Drained, Exhausted, NumberError, Overflow, Rejected, Words};
-use flow_word_shared::{WordEmitter, WordFlow, WordFlowReader, WordFlowSeat};
+use flow_word_shared::{WordEmitter, WordFlow, WordFlowReader};
 use std::alloc::Global;
 use std::process::Abort;
 use std::sync::{Barrier, Wait};
@@ -16,34 +16,28 @@ const MOST_RACES: u32 = 10_000;
 /// How many values an emitter emits in one race.
 const VALUES: i64 = 500;
 
-/// Returns a new flow that drops the latest values, and its first seat.
-fn new_flow<T: Words>(
+/// Returns the owner that closes a new flow, which drops the latest values, and the flow's first emitter.
+pub(super) fn new_flow<T: Words>(
     rt: &impl Abort,
     alloc: Global,
     replay: u32,
     extra: u32,
     limit: u64,
     readers: u32,
-) -> (WordFlow<T>, WordFlowSeat<T>) {
+) -> (Closing<T>, WordEmitter<T>) {
     let config = Config {
         replay,
         extra,
         overflow: Overflow::DropLatest,
         limit,
     };
-    WordFlow::for_subscribers(alloc, config, readers).expect(rt, "a flow")
-}
-
-/// Subscribes.
-fn new_reader<'a, R: Wait + Abort>(
-    rt: &R,
-    emitter: &mut WordEmitter<'a, i64>,
-) -> WordFlowReader<'a, i64> {
-    emitter.subscribe(rt).expect(rt, "a reader")
+    let made = WordFlow::for_subscribers(alloc, config, readers);
+    let (flow, seat) = made.expect(rt, "a flow");
+    Closing::new(rt, alloc, flow, seat)
 }
 
 /// Emits the numbers from the first to the last one, by `emit` and `try_emit` in turn.
-fn emit_all<R: Wait + Abort>(rt: &R, emitter: &mut WordEmitter<'_, i64>, first: i64, last: i64) {
+fn emit_all<R: Wait + Abort>(rt: &R, emitter: &mut WordEmitter<i64>, first: i64, last: i64) {
     for value in first..=last {
         if value % 2 == 0 {
             compare(rt, "emit", emitter.emit(rt, value), Ok(()));
@@ -56,9 +50,8 @@ fn emit_all<R: Wait + Abort>(rt: &R, emitter: &mut WordEmitter<'_, i64>, first: 
 /// A reader that is a full buffer behind makes emitters drop values, which take no number.
 #[test]
 fn a_value_for_which_there_is_no_room_is_dropped(rt: HostRuntime) {
-    let (flow, seat) = new_flow(&rt, rt.alloc(), 0, 2, 5, 1);
-    let mut emitter = flow.emitter(seat);
-    let mut reader = new_reader(&rt, &mut emitter);
+    let (closing, mut emitter) = new_flow(&rt, rt.alloc(), 0, 2, 5, 1);
+    let mut reader = new_word_flow_reader(&rt, &mut emitter);
     emit_all(&rt, &mut emitter, 1, 4);
     compare(&rt, "first", reader.next(&rt), Some(1));
     emit_all(&rt, &mut emitter, 5, 6);
@@ -71,16 +64,15 @@ fn a_value_for_which_there_is_no_room_is_dropped(rt: HostRuntime) {
     compare(&rt, "no number is left", emitter.emit(&rt, 8), refused);
     compare(&rt, "fourth", reader.try_next(), Ok(Some(7)));
     drop(reader);
-    let seat = emitter.into_seat();
-    compare(&rt, "emitted", flow.close(seat).emitted(), 4);
+    drop(emitter);
+    compare(&rt, "emitted", closing.close(&rt).emitted(), 4);
 }
 
 /// Without a number left, a blocked flow still drops values: a dropped one takes none.
 #[test]
 fn a_blocked_flow_drops_values_past_its_limit(rt: HostRuntime) {
-    let (flow, seat) = new_flow(&rt, rt.alloc(), 1, 0, 2, 1);
-    let mut emitter = flow.emitter(seat);
-    let mut reader = new_reader(&rt, &mut emitter);
+    let (_closing, mut emitter) = new_flow(&rt, rt.alloc(), 1, 0, 2, 1);
+    let mut reader = new_word_flow_reader(&rt, &mut emitter);
     emit_all(&rt, &mut emitter, 1, 3);
     compare(&rt, "next", reader.next(&rt), Some(1));
     let (value, error) = (4, Exhausted);
@@ -93,16 +85,15 @@ fn a_blocked_flow_drops_values_past_its_limit(rt: HostRuntime) {
 /// Without readers the strategy has no effect, and a new reader receives the replay cache first.
 #[test]
 fn a_flow_without_readers_drops_nothing(rt: HostRuntime) {
-    let (flow, seat) = new_flow(&rt, rt.alloc(), 2, 1, u64::MAX, 2);
-    let mut emitter = flow.emitter(seat);
+    let (_closing, mut emitter) = new_flow(&rt, rt.alloc(), 2, 1, u64::MAX, 2);
     emit_all(&rt, &mut emitter, 1, 9);
     let cache = emitter.replay_cache(&rt).expect(&rt, "memory");
     compare(&rt, "replay cache", cache.as_slice(), &[8, 9]);
-    let mut reader = new_reader(&rt, &mut emitter);
+    let mut reader = new_word_flow_reader(&rt, &mut emitter);
     emit_all(&rt, &mut emitter, 10, 11);
     compare(&rt, "replayed", reader.next(&rt), Some(8));
     emitter.reset_replay_cache(&rt);
-    let mut late = new_reader(&rt, &mut emitter);
+    let mut late = new_word_flow_reader(&rt, &mut emitter);
     compare(&rt, "nothing is replayed", late.next(&rt), None);
     emit_all(&rt, &mut emitter, 12, 12);
     compare(&rt, "late", late.next(&rt), Some(12));
@@ -115,10 +106,9 @@ fn a_flow_without_readers_drops_nothing(rt: HostRuntime) {
 /// The flow has a place for one reader. It is free again once its reader has left.
 #[test]
 fn a_place_is_free_after_its_reader_has_left(rt: HostRuntime) {
-    let (flow, seat) = new_flow(&rt, rt.alloc(), 0, 1, u64::MAX, 1);
-    let mut emitter = flow.emitter(seat);
+    let (closing, mut emitter) = new_flow(&rt, rt.alloc(), 0, 1, u64::MAX, 1);
     for value in 1..=3 {
-        let reader = new_reader(&rt, &mut emitter);
+        let reader = new_word_flow_reader(&rt, &mut emitter);
         let refused = emitter.subscribe(&rt).err();
         compare(&rt, "a second", refused, Some(NumberError::OutOfMemory));
         emit_all(&rt, &mut emitter, value, value);
@@ -127,18 +117,17 @@ fn a_place_is_free_after_its_reader_has_left(rt: HostRuntime) {
         drop(reader);
         compare(&rt, "none", emitter.subscription_count(), 0);
     }
-    let seat = emitter.into_seat();
-    compare(&rt, "emitted", flow.close(seat).emitted(), 3);
+    drop(emitter);
+    compare(&rt, "emitted", closing.close(&rt).emitted(), 3);
 }
 
 /// The slowest of three readers decides.
 #[test]
 fn the_slowest_reader_makes_emitters_drop_values(rt: HostRuntime) {
-    let (flow, seat) = new_flow(&rt, rt.alloc(), 0, 3, u64::MAX, 3);
-    let mut emitter = flow.emitter(seat);
-    let mut fast = new_reader(&rt, &mut emitter);
-    let mut slow = new_reader(&rt, &mut emitter);
-    let other = new_reader(&rt, &mut emitter);
+    let (_closing, mut emitter) = new_flow(&rt, rt.alloc(), 0, 3, u64::MAX, 3);
+    let mut fast = new_word_flow_reader(&rt, &mut emitter);
+    let mut slow = new_word_flow_reader(&rt, &mut emitter);
+    let other = new_word_flow_reader(&rt, &mut emitter);
     drop(other);
     for value in 1..=5 {
         emit_all(&rt, &mut emitter, value, value);
@@ -154,26 +143,8 @@ fn the_slowest_reader_makes_emitters_drop_values(rt: HostRuntime) {
     compare(&rt, "fast", fast.next(&rt), Some(8));
 }
 
-/// Values of two words are dropped or kept whole.
-#[test]
-fn a_flow_of_wide_values_drops_the_latest(rt: HostRuntime) {
-    let (flow, seat) = new_flow(&rt, rt.alloc(), 0, 1, u64::MAX, 1);
-    let mut emitter = flow.emitter(seat);
-    let mut reader = emitter.subscribe(&rt).expect(&rt, "a reader");
-    for cents in 1..=2 {
-        let quote = Quote { cents, nanos: 7 };
-        match emitter.try_emit(&rt, quote) {
-            Ok(taken) => compare(&rt, "try_emit", taken, true),
-            Err(_refused) => panic!(rt; "a number is left"),
-        }
-    }
-    let first = Quote { cents: 1, nanos: 7 };
-    compare(&rt, "first", reader.next(&rt), Some(first));
-    compare(&rt, "dropped", reader.next(&rt), None);
-}
-
 /// Emits values, once the other thread has begun. Returns whether the flow took or dropped each.
-fn emit_beside<R: Wait>(rt: &R, start: &Barrier, emitter: &mut WordEmitter<'_, i64>) -> bool {
+fn emit_beside<R: Wait>(rt: &R, start: &Barrier, emitter: &mut WordEmitter<i64>) -> bool {
     let _order = start.wait(rt);
     for value in 1..=VALUES {
         if emitter.try_emit(rt, value).is_err() {
@@ -184,11 +155,7 @@ fn emit_beside<R: Wait>(rt: &R, start: &Barrier, emitter: &mut WordEmitter<'_, i
 }
 
 /// Reads beside an emitter. Returns how many values it received, or `None` if one did not rise.
-fn read_beside<R: Wait>(
-    rt: &R,
-    start: &Barrier,
-    reader: &mut WordFlowReader<'_, i64>,
-) -> Option<u64> {
+fn read_beside<R: Wait>(rt: &R, start: &Barrier, reader: &mut WordFlowReader<i64>) -> Option<u64> {
     let _order = start.wait(rt);
     let mut last = 0i64;
     let mut count = 0u64;
@@ -206,7 +173,7 @@ fn read_beside<R: Wait>(
 }
 
 /// Receives what is left. Returns how many values that are.
-fn rest_of<R: Wait>(rt: &R, reader: &mut WordFlowReader<'_, i64>) -> u64 {
+fn rest_of<R: Wait>(rt: &R, reader: &mut WordFlowReader<i64>) -> u64 {
     let mut count = 0u64;
     for _ in rt.forever() {
         match reader.next(rt) {
@@ -219,10 +186,9 @@ fn rest_of<R: Wait>(rt: &R, reader: &mut WordFlowReader<'_, i64>) -> u64 {
 
 /// Emits into a small buffer beside two readers. Each gets all values that the flow has taken. Returns how many it took.
 fn race_readers<R: Host>(rt: &R, alloc: Global) -> u64 {
-    let (flow, seat) = new_flow(rt, alloc, 0, 4, u64::MAX, 2);
-    let mut emitter = flow.emitter(seat);
-    let mut one = new_reader(rt, &mut emitter);
-    let mut other = new_reader(rt, &mut emitter);
+    let (closing, mut emitter) = new_flow(rt, alloc, 0, 4, u64::MAX, 2);
+    let mut one = new_word_flow_reader(rt, &mut emitter);
+    let mut other = new_word_flow_reader(rt, &mut emitter);
     let start = Barrier::new(3);
     let ((first, second), emitted) = join(
         rt,
@@ -242,8 +208,8 @@ fn race_readers<R: Host>(rt: &R, alloc: Global) -> u64 {
     let second = second.wrapping_add(rest_of(rt, &mut other));
     drop(one);
     drop(other);
-    let seat = emitter.into_seat();
-    let taken = flow.close(seat).emitted();
+    drop(emitter);
+    let taken = closing.close(rt).emitted();
     compare(rt, "received by one", first, taken);
     compare(rt, "received by the other", second, taken);
     taken
@@ -261,27 +227,21 @@ fn readers_get_all_values_that_were_not_dropped(rt: HostRuntime) {
 }
 
 /// Ends a subscription.
-fn leave<R: Wait>(rt: &R, start: &Barrier, run: u32, reader: WordFlowReader<'_, i64>) {
+fn leave<R: Wait>(rt: &R, start: &Barrier, run: u32, reader: WordFlowReader<i64>) {
     begin(rt, start, run);
     drop(reader);
 }
 
 /// Emits one value.
-fn emit_one<R: Wait>(
-    rt: &R,
-    start: &Barrier,
-    run: u32,
-    emitter: &mut WordEmitter<'_, i64>,
-) -> bool {
+fn emit_one<R: Wait>(rt: &R, start: &Barrier, run: u32, emitter: &mut WordEmitter<i64>) -> bool {
     begin(rt, start, run);
     emitter.try_emit(rt, 2).is_ok()
 }
 
 /// Emits beside the end of the subscription for which there is no room. Returns whether the value was taken.
 fn race_leave<R: Host>(rt: &R, alloc: Global, run: u32) -> bool {
-    let (flow, seat) = new_flow(rt, alloc, 0, 1, u64::MAX, 1);
-    let mut emitter = flow.emitter(seat);
-    let reader = new_reader(rt, &mut emitter);
+    let (closing, mut emitter) = new_flow(rt, alloc, 0, 1, u64::MAX, 1);
+    let reader = new_word_flow_reader(rt, &mut emitter);
     emit_all(rt, &mut emitter, 1, 1);
     let start = Barrier::new(2);
     let ((), emitted) = join(
@@ -291,8 +251,8 @@ fn race_leave<R: Host>(rt: &R, alloc: Global, run: u32) -> bool {
     );
     compare(rt, "emitted", emitted, true);
     compare(rt, "subscribers", emitter.subscription_count(), 0);
-    let seat = emitter.into_seat();
-    flow.close(seat).emitted() == 2
+    drop(emitter);
+    closing.close(rt).emitted() == 2
 }
 
 #[test]
@@ -314,7 +274,7 @@ fn subscribe_once<R: Wait>(
     rt: &R,
     start: &Barrier,
     run: u32,
-    emitter: &mut WordEmitter<'_, i64>,
+    emitter: &mut WordEmitter<i64>,
 ) -> Option<bool> {
     begin(rt, start, run);
     match emitter.subscribe(rt) {
@@ -329,9 +289,8 @@ fn subscribe_once<R: Wait>(
 
 /// Two subscribers race for one place. Returns how many found one.
 fn race_place<R: Host>(rt: &R, alloc: Global, run: u32) -> u32 {
-    let (flow, seat) = new_flow::<i64>(rt, alloc, 0, 1, u64::MAX, 1);
-    let mut one = flow.emitter(seat);
-    let mut other = one.another();
+    let (_closing, mut one) = new_flow::<i64>(rt, alloc, 0, 1, u64::MAX, 1);
+    let mut other = one.another(rt);
     let start = Barrier::new(2);
     let (first, second) = join(
         rt,
@@ -361,15 +320,14 @@ fn two_readers_race_for_one_place(rt: HostRuntime) {
 
 /// Emits beside a new reader. The reader gets 2 only if it subscribed first.
 fn race_subscribe<R: Host>(rt: &R, alloc: Global, run: u32) -> bool {
-    let (flow, seat) = new_flow(rt, alloc, 0, 1, u64::MAX, 1);
-    let mut emitter = flow.emitter(seat);
-    let mut other = emitter.another();
+    let (_closing, mut emitter) = new_flow(rt, alloc, 0, 1, u64::MAX, 1);
+    let mut other = emitter.another(rt);
     let start = Barrier::new(2);
     let (received, emitted) = join(
         rt,
         || {
             begin(rt, &start, run);
-            let mut reader = new_reader(rt, &mut emitter);
+            let mut reader = new_word_flow_reader(rt, &mut emitter);
             let at_once = reader.next(rt);
             (at_once, reader)
         },
@@ -384,7 +342,7 @@ fn race_subscribe<R: Host>(rt: &R, alloc: Global, run: u32) -> bool {
 }
 
 #[test]
-fn a_value_comes_before_or_after_a_new_reader(rt: HostRuntime) {
+fn a_value_comes_before_or_after_a_new_word_flow_reader(rt: HostRuntime) {
     let mut received = 0u32;
     for run in 0..MOST_RACES {
         if race_subscribe(&rt, rt.alloc(), run) {

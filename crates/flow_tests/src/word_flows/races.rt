@@ -2,7 +2,7 @@
 use crate::compare::compare;
 use crate::handle_calls::begin;
 use crate::host::Host;
-use crate::word_flows::{dropping, new_word_flow, new_word_flow_reader};
+use crate::word_flows::{dropping, new_word_emitter, new_word_flow, new_word_flow_reader};
 use flow_law::{Busy, FlowFault};
 use flow_word_shared::{WordEmitter, WordFlowReader};
 use std::alloc::Global;
@@ -17,7 +17,7 @@ const MOST_RACES: u32 = 10_000;
 const CALLS: i64 = 500;
 
 /// Emits the numbers from 1 to the last one, once the other thread has begun. Returns whether all were emitted.
-fn emit_all<R: Wait>(rt: &R, start: &Barrier, emitter: &mut WordEmitter<'_, i64>) -> bool {
+fn emit_all<R: Wait>(rt: &R, start: &Barrier, emitter: &mut WordEmitter<i64>) -> bool {
     let _order = start.wait(rt);
     for value in 1..=CALLS {
         if emitter.emit(rt, value).is_err() {
@@ -29,7 +29,7 @@ fn emit_all<R: Wait>(rt: &R, start: &Barrier, emitter: &mut WordEmitter<'_, i64>
 
 /// Reads while the other thread emits, by attempts that read one cell. Values must rise. Returns how many attempts were
 /// overrun, or `None` if a value did not rise.
-fn overruns<R: Wait>(rt: &R, start: &Barrier, reader: &mut WordFlowReader<'_, i64>) -> Option<u32> {
+fn overruns<R: Wait>(rt: &R, start: &Barrier, reader: &mut WordFlowReader<i64>) -> Option<u32> {
     let _order = start.wait(rt);
     let mut last = 0i64;
     let mut overrun = 0u32;
@@ -47,8 +47,7 @@ fn overruns<R: Wait>(rt: &R, start: &Barrier, reader: &mut WordFlowReader<'_, i6
 /// Emits into a buffer of one value beside a reader. After the race the reader gets the last value, unless it has it.
 /// Returns how many of its attempts were overrun.
 fn race_reader<R: Host>(rt: &R, alloc: Global) -> u32 {
-    let (flow, seat) = new_word_flow(rt, alloc, dropping(0, 1, u64::MAX));
-    let mut emitter = flow.emitter(seat);
+    let mut emitter = new_word_emitter(rt, alloc, dropping(0, 1, u64::MAX));
     let mut reader = new_word_flow_reader(rt, &mut emitter);
     let start = Barrier::new(2);
     let (overrun, emitted) = join(
@@ -79,7 +78,7 @@ fn an_overrun_reader_reads_on(rt: HostRuntime) {
 fn attempts<R: Wait>(
     rt: &R,
     start: &Barrier,
-    emitter: &mut WordEmitter<'_, i64>,
+    emitter: &mut WordEmitter<i64>,
 ) -> Option<(u64, u64)> {
     let _order = start.wait(rt);
     let mut emitted = 0u64;
@@ -100,10 +99,8 @@ fn attempts<R: Wait>(
 
 /// Emits on two threads by attempts. Returns how many of these failed.
 fn race_emitters<R: Host>(rt: &R, alloc: Global) -> u64 {
-    let (flow, seat) = new_word_flow(rt, alloc, dropping(0, 1, u64::MAX));
-    let mut one = flow.emitter(seat);
-    let mut other = one.another();
-    let last = one.another();
+    let (closing, mut one) = new_word_flow(rt, alloc, dropping(0, 1, u64::MAX));
+    let mut other = one.another(rt);
     let start = Barrier::new(2);
     let (first, second) = join(
         rt,
@@ -114,10 +111,8 @@ fn race_emitters<R: Host>(rt: &R, alloc: Global) -> u64 {
     let second = second.expect(rt, "values or Busy");
     drop(one);
     drop(other);
-    let seat = last.into_seat();
-    let closed = flow.close(seat);
     let emitted = first.0.wrapping_add(second.0);
-    compare(rt, "emitted", closed.emitted(), emitted);
+    compare(rt, "emitted", closing.close(rt).emitted(), emitted);
     first.1.wrapping_add(second.1)
 }
 
@@ -136,7 +131,7 @@ fn subscribe_and_read<R: Wait + Abort>(
     rt: &R,
     start: &Barrier,
     run: u32,
-    emitter: &mut WordEmitter<'_, i64>,
+    emitter: &mut WordEmitter<i64>,
 ) -> (Option<i64>, Option<i64>) {
     begin(rt, start, run);
     let mut reader = new_word_flow_reader(rt, emitter);
@@ -144,7 +139,7 @@ fn subscribe_and_read<R: Wait + Abort>(
 }
 
 /// Empties the replay cache.
-fn reset<R: Wait>(rt: &R, start: &Barrier, run: u32, emitter: &mut WordEmitter<'_, i64>) {
+fn reset<R: Wait>(rt: &R, start: &Barrier, run: u32, emitter: &mut WordEmitter<i64>) {
     begin(rt, start, run);
     emitter.reset_replay_cache(rt);
 }
@@ -152,10 +147,9 @@ fn reset<R: Wait>(rt: &R, start: &Barrier, run: u32, emitter: &mut WordEmitter<'
 /// Empties the replay cache beside a subscription. The new reader gets 7 if it subscribed first, and an old reader gets it
 /// in any case. Returns whether the new reader got it.
 fn race_reset<R: Host>(rt: &R, alloc: Global, run: u32) -> bool {
-    let (flow, seat) = new_word_flow(rt, alloc, dropping(1, 0, u64::MAX));
-    let mut emitter = flow.emitter(seat);
+    let mut emitter = new_word_emitter(rt, alloc, dropping(1, 0, u64::MAX));
     let mut old = new_word_flow_reader(rt, &mut emitter);
-    let mut other = emitter.another();
+    let mut other = emitter.another(rt);
     compare(rt, "emit", emitter.emit(rt, 7), Ok(()));
     let start = Barrier::new(2);
     let (received, ()) = join(

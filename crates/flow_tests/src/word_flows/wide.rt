@@ -1,9 +1,10 @@
 //! Values of several words are received whole, beside a thread that emits.
 use crate::compare::compare;
-use crate::word_flows::dropping;
+use crate::word_flows::latest::new_flow;
 use crate::word_flows::quote::Quote;
+use crate::word_flows::{dropping, new_word_emitter, new_word_flow};
 use flow_law::{Busy, Drained, Words};
-use flow_word_shared::{WordEmitter, WordFlow, WordFlowReader};
+use flow_word_shared::{WordEmitter, WordFlowReader};
 use std::alloc::Global;
 use std::fmt::Debug;
 use std::process::Abort;
@@ -55,11 +56,7 @@ impl Numbered for (u64, u64, u64, u64) {
 }
 
 /// Emits the values from 1 on, once the other thread has begun. Returns whether all were emitted.
-fn emit_all<T: Numbered, R: Wait>(
-    rt: &R,
-    start: &Barrier,
-    emitter: &mut WordEmitter<'_, T>,
-) -> bool {
+fn emit_all<T: Numbered, R: Wait>(rt: &R, start: &Barrier, emitter: &mut WordEmitter<T>) -> bool {
     let _order = start.wait(rt);
     for number in 1..=VALUES {
         if emitter.emit(rt, T::of_number(number)).is_err() {
@@ -73,7 +70,7 @@ fn emit_all<T: Numbered, R: Wait>(
 fn read_all<T: Numbered, R: Wait>(
     rt: &R,
     start: &Barrier,
-    reader: &mut WordFlowReader<'_, T>,
+    reader: &mut WordFlowReader<T>,
 ) -> Option<u64> {
     let _order = start.wait(rt);
     let mut last = 0u64;
@@ -99,7 +96,7 @@ fn drain_all<T: Numbered, R: Wait>(
     rt: &R,
     alloc: Global,
     start: &Barrier,
-    reader: &mut WordFlowReader<'_, T>,
+    reader: &mut WordFlowReader<T>,
 ) -> Option<u64> {
     let _order = start.wait(rt);
     let mut last = 0u64;
@@ -126,8 +123,7 @@ fn drain_all<T: Numbered, R: Wait>(
 
 /// Returns how many attempts of a reader of a small buffer were overrun.
 fn race<T: Numbered, R: Threads + Wait + Abort + Sync>(rt: &R, alloc: Global, extra: u32) -> u64 {
-    let (flow, seat) = WordFlow::<T>::new(alloc, dropping(0, extra, u64::MAX)).expect(rt, "a flow");
-    let mut emitter = flow.emitter(seat);
+    let mut emitter = new_word_emitter::<T>(rt, alloc, dropping(0, extra, u64::MAX));
     let mut reader = emitter.subscribe(rt).expect(rt, "a reader");
     let start = Barrier::new(2);
     let (overrun, emitted) = join(
@@ -155,10 +151,30 @@ fn overrun_readers_of_wide_values_get_whole_ones(rt: HostRuntime) {
     race_until_overrun::<(u64, u64, u64, u64), HostRuntime>(&rt, rt.alloc());
 }
 
+/// Emits two values into a flow with room for one, which drops the latest.
+fn drop_latest<T: Numbered, R: Wait + Abort>(rt: &R, alloc: Global) {
+    let (_closing, mut emitter) = new_flow::<T>(rt, alloc, 0, 1, u64::MAX, 1);
+    let mut reader = emitter.subscribe(rt).expect(rt, "a reader");
+    for number in 1..=2 {
+        match emitter.try_emit(rt, T::of_number(number)) {
+            Ok(taken) => compare(rt, "try_emit", taken, true),
+            Err(_refused) => panic!(rt; "a number is left"),
+        }
+    }
+    compare(rt, "first", reader.next(rt), Some(T::of_number(1)));
+    compare(rt, "dropped", reader.next(rt), None);
+}
+
+/// Wide values are dropped or kept whole.
+#[test]
+fn a_flow_of_wide_values_drops_the_latest(rt: HostRuntime) {
+    drop_latest::<Quote, HostRuntime>(&rt, rt.alloc());
+    drop_latest::<(u64, u64, u64, u64), HostRuntime>(&rt, rt.alloc());
+}
+
 /// Drains beside an emitter, whose buffer holds all values.
 fn drain_beside<T: Numbered, R: Threads + Wait + Abort + Sync>(rt: &R, alloc: Global) {
-    let (flow, seat) = WordFlow::<T>::new(alloc, dropping(0, 512, u64::MAX)).expect(rt, "a flow");
-    let mut emitter = flow.emitter(seat);
+    let mut emitter = new_word_emitter::<T>(rt, alloc, dropping(0, 512, u64::MAX));
     let mut reader = emitter.subscribe(rt).expect(rt, "a reader");
     let start = Barrier::new(2);
     let (count, emitted) = join(
@@ -191,8 +207,7 @@ fn numbered_pair<T: Numbered>(first: u64, second: u64) -> Option<(T, T)> {
 
 /// Calls of one thread: a buffer of three values, of which two are replayed.
 fn calls<T: Numbered, R: Wait + Abort>(rt: &R, alloc: Global, row: &str) {
-    let (flow, seat) = WordFlow::<T>::new(alloc, dropping(2, 1, 8)).expect(rt, "a flow");
-    let mut emitter = flow.emitter(seat);
+    let (closing, mut emitter) = new_word_flow::<T>(rt, alloc, dropping(2, 1, 8));
     let mut reader = emitter.subscribe(rt).expect(rt, "a reader");
     for number in 1..=5 {
         compare(rt, row, emitter.emit(rt, T::of_number(number)), Ok(()));
@@ -220,8 +235,8 @@ fn calls<T: Numbered, R: Wait + Abort>(rt: &R, alloc: Global, row: &str) {
         Err(refused) => compare(rt, row, refused.value, T::of_number(7)),
     }
     drop(reader);
-    let seat = emitter.into_seat();
-    let closed = flow.close(seat);
+    drop(emitter);
+    let closed = closing.close(rt);
     compare(rt, row, closed.emitted(), 6);
     let cache = closed.replay_cache().expect(rt, "memory");
     compare(rt, row, pair_of(cache.as_slice()), numbered_pair(5, 6));

@@ -7,17 +7,19 @@ ghost use Rattle.flow_word.specs.Handles.{MakesMany, AreNextSeats};
 use super::setter::WordSetter;
 use flow_law::{OutOfMemory, Packed};
 use std::alloc::Global;
+use std::sync::Wait;
 
-impl<'a, T: Packed> WordSetter<'a, T> {
+impl<T: Packed> WordSetter<T> {
     /// Makes `count` more callers through this one. Call it before their threads start.
     ///
     /// # Errors
     /// `OutOfMemory` if there is no memory for them. The seats that were made by then are dropped.
-    pub fn others(
+    pub fn others<R: Wait>(
         &mut self,
+        rt: &R,
         alloc: Global,
         count: u32,
-    ) -> Result<Vec<WordSetter<'a, T>>, OutOfMemory>
+    ) -> Result<Vec<WordSetter<T>>, OutOfMemory>
         ensures flow { self.new.flow ≡ self.old.flow }
         ensures maker { IfOk result (λ _. MakesMany count self.old.token self.new.token) }
         ensures count { IfOk result (λ made. vec_len made ≡ count) }
@@ -26,7 +28,7 @@ impl<'a, T: Packed> WordSetter<'a, T> {
     {
         let mut made = Vec::new(alloc);
         for _count in 0..count {
-            if made.push(self.another()).is_err() {
+            if made.push(self.another(rt)).is_err() {
                 return Err(OutOfMemory);
             }
         }
@@ -37,7 +39,7 @@ impl<'a, T: Packed> WordSetter<'a, T> {
     ///
     /// Each of them has then seen what this caller had seen before, and this caller has seen what each of them had
     /// seen.
-    pub fn meet_all(&mut self, others: &mut [WordSetter<'_, T>])
+    pub fn meet_all(&mut self, others: &mut [WordSetter<T>])
         requires { All (λ c. c.flow.table_id ≡ self.old.flow.table_id) others.old }
         ensures flow { self.new.flow ≡ self.old.flow }
         ensures meets { OnlyMeets self.old.token self.new.token }
@@ -59,7 +61,7 @@ impl<'a, T: Packed> WordSetter<'a, T> {
     ///
     /// All meet, the value is read, and all meet again. Because of the first round, the read comes after all that they
     /// did; the second round shows that none of them has done more.
-    pub fn final_value(&mut self, others: &mut [WordSetter<'_, T>]) -> T
+    pub fn final_value(&mut self, others: &mut [WordSetter<T>]) -> T
         requires { All (λ c. c.flow.table_id ≡ self.old.flow.table_id) others.old }
         ensures flow { self.new.flow ≡ self.old.flow }
         ensures value { IsFinalValue self.old.flow.first

@@ -1,5 +1,6 @@
 //! A subscription that is bound to its word state.
 ghost use Rattle.std.specs.Prelude.{◌≡◌, ℕ, Ok};
+ghost use Rattle.std.specs.Arc.{arc_value};
 ghost use Rattle.flow_law.specs.laws.Conflation.{Conflates};
 ghost use Rattle.flow_law.specs.laws.Current.{Converges};
 ghost use Rattle.flow_law.specs.history.Handles.{read_by, next_of};
@@ -12,52 +13,42 @@ use super::setter::WordSetter;
 use crate::token::{WordState, WordSubscription};
 use flow_law::{Next, Packed};
 use std::marker::Model;
+use std::sync::Arc;
 
 /// A subscription, and its word state. Contracts see both.
 ///
 /// # Dropping
-/// Dropping the reader ends its subscription, as `unsubscribe` does.
-pub struct WordReader<'a, T: Packed> {
-    pub(crate) flow: &'a WordState<T>,
+/// Dropping the reader ends its subscription, as `unsubscribe` does. The last handle drops the flow.
+pub struct WordReader<T: Packed> {
+    pub(crate) flow: Arc<WordState<T>>,
     pub(crate) subscription: WordSubscription<T>,
 }
 
-impl<T: Packed> Drop for WordReader<'_, T> {
+impl<T: Packed> Drop for WordReader<T> {
     fn drop(self) {
         let Self { flow, subscription } = self;
         let _seat = flow.unsubscribe(subscription);
     }
 }
 
-impl<'a, T: Packed> Model for WordReader<'a, T> {
+impl<T: Packed> Model for WordReader<T> {
     ghost use Rattle.std.specs.Prelude.{◌≡◌};
+    ghost use Rattle.std.specs.Arc.{arc_value};
     ghost use Rattle.flow_law.specs.history.Handles.{read_by};
     ghost use Rattle.flow_word.specs.Handles.{ReaderOfWord};
 
     ghost Value = { ReaderOfWord T };
 
-    ghost view = { λ r. read_by r.flow.now r.subscription };
+    ghost view = { λ r. read_by (arc_value r.flow) r.subscription };
 
-    ghost invariant = { λ r. r.subscription.token.table_id ≡ r.flow.now.table_id };
+    ghost invariant = { λ r. r.subscription.token.table_id ≡ (arc_value r.flow).table_id };
 }
 
-impl<T: Packed> WordState<T> {
+impl<T: Packed> WordReader<T> {
     /// Binds a subscription to its flow.
-    pub fn reader(&self, subscription: WordSubscription<T>) -> WordReader<'_, T>
-        requires { subscription.token.table_id ≡ self.now.table_id }
-        ensures { result ≡ read_by self.now subscription }
-    {
-        WordReader::new(self, subscription)
-    }
-}
-
-impl<'a, T: Packed> WordReader<'a, T> {
-    pub(crate) fn new(
-        flow: &'a WordState<T>,
-        subscription: WordSubscription<T>,
-    ) -> WordReader<'a, T>
-        requires { subscription.token.table_id ≡ flow.now.table_id }
-        ensures { result ≡ read_by flow.now subscription }
+    pub fn new(flow: Arc<WordState<T>>, subscription: WordSubscription<T>) -> WordReader<T>
+        requires { subscription.token.table_id ≡ (arc_value flow).table_id }
+        ensures { result ≡ read_by (arc_value flow) subscription }
     {
         WordReader { flow, subscription }
     }
@@ -78,10 +69,10 @@ impl<'a, T: Packed> WordReader<'a, T> {
     }
 
     /// Ends the subscription, and returns a setter with its seat.
-    pub fn unsubscribe(self) -> WordSetter<'a, T>
-        ensures flow { result.flow ≡ self.entry.flow }
+    pub fn unsubscribe(self) -> WordSetter<T>
+        ensures flow { result.flow ≡ self.flow }
         ensures left { UnsubscribesIn state_flow
-            self.entry.flow.first self.entry.subscription result.token }
+            self.flow.first self.subscription result.token }
     {
         let WordReader { flow, subscription } = self;
         let seat = flow.unsubscribe(subscription);
@@ -107,8 +98,8 @@ impl<'a, T: Packed> WordReader<'a, T> {
 
     /// Returns the subscription, for the flow's own calls.
     pub fn into_subscription(self) -> WordSubscription<T>
-        ensures subscription { result ≡ self.entry.subscription }
-        ensures flow { result.token.table_id ≡ self.entry.flow.table_id }
+        ensures subscription { result ≡ self.subscription }
+        ensures flow { result.token.table_id ≡ self.flow.table_id }
     {
         let WordReader {
             flow: _,

@@ -1,5 +1,6 @@
 //! A seat that is bound to its word state.
-ghost use Rattle.std.specs.Prelude.{◌≡◌, ℕ};
+ghost use Rattle.std.specs.Prelude.{◌≡◌, ℕ, IfOk};
+ghost use Rattle.std.specs.Arc.{arc_value};
 ghost use Rattle.flow_law.specs.laws.Conflation.{Conflates};
 ghost use Rattle.flow_law.specs.laws.Current.{Converges};
 ghost use Rattle.flow_law.specs.history.Growth.{makes, child};
@@ -14,76 +15,91 @@ ghost use Rattle.flow_law.specs.declared.call.StateReply.TheVariants as reply;
 
 use super::reader::WordReader;
 use crate::token::{WordSeat, WordState};
-use flow_law::{Exhausted, Packed};
+use flow_law::{Exhausted, OutOfMemory, Packed};
+use flow_sleepers::one_more_owner;
+use std::alloc::Global;
 use std::marker::Model;
-use std::sync::Wait;
+use std::sync::{Arc, Wait};
 
 /// A seat, and its word state. Contracts see both.
 ///
 /// # Dropping
-/// Dropping it drops its seat: no call is made under its name any more, and the flow does not change.
-pub struct WordSetter<'a, T: Packed> {
-    pub(crate) flow: &'a WordState<T>,
+/// Dropping it drops its seat: no call is made under its name any more, and the flow does not change. The last handle
+/// drops the flow.
+pub struct WordSetter<T: Packed> {
+    pub(crate) flow: Arc<WordState<T>>,
     pub(crate) seat: WordSeat<T>,
 }
 
 // Not derived, for the reason given at `WordSeat`.
-impl<T: Packed> Drop for WordSetter<'_, T> {
+impl<T: Packed> Drop for WordSetter<T> {
     fn drop(self) {
         let Self { flow: _, seat: _ } = self;
     }
 }
 
-impl<'a, T: Packed> Model for WordSetter<'a, T> {
+impl<T: Packed> Model for WordSetter<T> {
     ghost use Rattle.std.specs.Prelude.{◌≡◌};
+    ghost use Rattle.std.specs.Arc.{arc_value};
     ghost use Rattle.flow_law.specs.history.Handles.{called_by};
     ghost use Rattle.flow_word.specs.Handles.{CallerOfWord};
 
     ghost Value = { CallerOfWord T };
 
-    ghost view = { λ c. called_by c.flow.now c.seat };
+    ghost view = { λ c. called_by (arc_value c.flow) c.seat };
 
-    ghost invariant = { λ c. c.seat.table_id ≡ c.flow.now.table_id };
+    ghost invariant = { λ c. c.seat.table_id ≡ (arc_value c.flow).table_id };
 }
 
 impl<T: Packed> WordState<T> {
-    /// Binds a seat to its flow.
-    pub fn setter(&self, seat: WordSeat<T>) -> WordSetter<'_, T>
-        requires { seat.table_id ≡ self.now.table_id }
-        ensures { result ≡ called_by self.now seat }
+    /// Binds a seat to its flow, and puts the flow into memory that its handles own together: dropping the last one
+    /// drops the flow. `another` and `subscribe` make more of them.
+    ///
+    /// # Errors
+    /// `OutOfMemory`. The flow and the seat are dropped.
+    pub fn into_setter(self, alloc: Global, seat: WordSeat<T>) -> Result<WordSetter<T>, OutOfMemory>
+        requires { seat.table_id ≡ self.table_id }
+        ensures { IfOk result (λ setter. setter ≡ called_by self seat) }
     {
-        WordSetter::new(self, seat)
+        match Arc::new(alloc, self) {
+            Ok(flow) => Ok(WordSetter::new(flow, seat)),
+            Err(_failed) => Err(OutOfMemory),
+        }
     }
 }
 
-impl<'a, T: Packed> WordSetter<'a, T> {
-    pub(crate) fn new(flow: &'a WordState<T>, seat: WordSeat<T>) -> WordSetter<'a, T>
-        requires { seat.table_id ≡ flow.now.table_id }
-        ensures { result ≡ called_by flow.now seat }
+impl<T: Packed> WordSetter<T> {
+    /// Binds a seat to its flow.
+    pub fn new(flow: Arc<WordState<T>>, seat: WordSeat<T>) -> WordSetter<T>
+        requires { seat.table_id ≡ (arc_value flow).table_id }
+        ensures { result ≡ called_by (arc_value flow) seat }
     {
         WordSetter { flow, seat }
     }
 
-    /// Makes one more caller through this one. Call it for each thread, before the thread starts.
-    pub fn another(&mut self) -> WordSetter<'a, T>
+    /// Makes one more caller through this one. Call it for each thread, before the thread starts. It waits while the flow
+    /// has 2^63 owners.
+    pub fn another<R: Wait>(&mut self, rt: &R) -> WordSetter<T>
         ensures flow { (self.new.flow ≡ self.old.flow) × (result.flow ≡ self.old.flow) }
         ensures maker { self.new.token ≡ knowing self.old.token (makes self.old.token.knows) }
         ensures made { result.token ≡ knowing self.old.token (child self.old.token.knows) }
     {
+        let flow = one_more_owner(rt, &self.flow);
         let made = self.flow.seat(&mut self.seat);
-        WordSetter::new(self.flow, made)
+        WordSetter::new(flow, made)
     }
 
     /// Subscribes. The reader gets the current value first.
     ///
     /// If another caller subscribes or unsubscribes at the same moment, it yields to other threads and tries again.
-    pub fn subscribe<R: Wait>(&mut self, rt: &R) -> Result<WordReader<'a, T>, Exhausted>
+    pub fn subscribe<R: Wait>(&mut self, rt: &R) -> Result<WordReader<T>, Exhausted>
         ensures flow { self.new.flow ≡ self.old.flow }
         ensures subscribed { SubscribesBound state_flow call.Subscribe self.old
             (answer_by limit_fault result) self.new.token }
     {
+        let flow = one_more_owner(rt, &self.flow);
         match self.flow.subscribe(rt, &mut self.seat) {
-            Ok(subscription) => Ok(WordReader::new(self.flow, subscription)),
+            Ok(subscription) => Ok(WordReader::new(flow, subscription)),
             Err(_fault) => Err(Exhausted),
         }
     }
@@ -134,7 +150,7 @@ impl<'a, T: Packed> WordSetter<'a, T> {
     }
 
     /// Joins what two callers of one flow have seen: afterwards both have seen the same history, with all calls so far.
-    pub fn meet(&mut self, other: &mut WordSetter<'_, T>)
+    pub fn meet(&mut self, other: &mut WordSetter<T>)
         requires { other.old.flow.table_id ≡ self.old.flow.table_id }
         ensures flow { (self.new.flow ≡ self.old.flow) × (other.new.flow ≡ other.old.flow) }
         ensures met { MeetsIn state_flow self.old.flow.first self.old.token other.old.token
@@ -144,7 +160,7 @@ impl<'a, T: Packed> WordSetter<'a, T> {
     }
 
     /// Joins what a caller and a reader of one flow have seen, as `meet` does.
-    pub fn meet_reader(&mut self, reader: &mut WordReader<'_, T>)
+    pub fn meet_reader(&mut self, reader: &mut WordReader<T>)
         requires { reader.old.flow.table_id ≡ self.old.flow.table_id }
         ensures flow { (self.new.flow ≡ self.old.flow) × (reader.new.flow ≡ reader.old.flow) }
         ensures met { MeetsIn state_flow self.old.flow.first
@@ -169,8 +185,8 @@ impl<'a, T: Packed> WordSetter<'a, T> {
 
     /// Returns the seat, for the flow's own calls.
     pub fn into_seat(self) -> WordSeat<T>
-        ensures token { result ≡ self.entry.token }
-        ensures flow { result.table_id ≡ self.entry.flow.table_id }
+        ensures token { result ≡ self.token }
+        ensures flow { result.table_id ≡ self.flow.table_id }
     {
         let WordSetter { flow: _, seat } = self;
         seat

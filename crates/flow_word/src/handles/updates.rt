@@ -6,7 +6,7 @@ use super::setter::WordSetter;
 use flow_law::Packed;
 use std::sync::Wait;
 
-impl<'a, T: Packed> WordSetter<'a, T> {
+impl<T: Packed> WordSetter<T> {
     /// Updates the value by a function of it.
     ///
     /// The function may be called several times: if the value is no longer the one that was read, because another

@@ -10,17 +10,17 @@ ghost use Rattle.flow_word.specs.WaitingFor.{WordLooks, WordReceivesIf, Receives
 use super::reader::WordReader;
 use crate::sleepers::Sleeper;
 use flow_law::Packed;
-use flow_sleepers::Limit;
+use flow_sleepers::{Limit, one_more_owner};
 use futures::task::Context;
 use std::sync::Wait;
 use std::time::{Clock, Duration};
 
-impl<'a, T: Packed> Sleeper for WordReader<'a, T> {
+impl<T: Packed> Sleeper for WordReader<T> {
     ghost has_looked = { λ before now. FindsNone state_flow
         before.flow.first before.subscription now.subscription };
 }
 
-impl<'a, T: Packed> WordReader<'a, T> {
+impl<T: Packed> WordReader<T> {
     /// Takes the value if it has changed.
     fn look(&mut self) -> Option<T>
         ensures flow { self.new.flow ≡ self.old.flow }
@@ -37,7 +37,7 @@ impl<'a, T: Packed> WordReader<'a, T> {
         ensures received { ReceivesInTime state_flow self.old.flow.first
             self.old.subscription result self.new.subscription }
     {
-        let flow = self.flow;
+        let flow = one_more_owner(rt, &self.flow);
         let announced = flow.readers.announce_caller(&*self);
         match self.look() {
             Some(value) => Some(value),
@@ -56,9 +56,8 @@ impl<'a, T: Packed> WordReader<'a, T> {
             self.old.subscription now.subscription → IsArmed cx.new }
         ensures kept { Keeps cx.old cx.new }
     {
-        let flow = self.flow;
         let number = self.subscription.note_waker();
-        flow.readers.leave_waker(cx, number, &*self);
+        self.flow.readers.leave_waker(cx, number, &*self);
     }
 
     /// Takes the value if it has changed. If it has not, leaves the waker of the polled task, and looks once more.
@@ -134,7 +133,7 @@ impl<'a, T: Packed> WordReader<'a, T> {
     }
 }
 
-impl<'a, T: Packed + Drop> WordReader<'a, T> {
+impl<T: Packed + Drop> WordReader<T> {
     /// Returns the current value, and takes it if the subscriber has not received it.
     fn current(&mut self) -> T
         ensures flow { self.new.flow ≡ self.old.flow }

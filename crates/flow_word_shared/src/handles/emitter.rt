@@ -1,5 +1,6 @@
 //! A seat that is bound to its flow.
-ghost use Rattle.std.specs.Prelude.{◌≡◌, ℕ, [], IfErr};
+ghost use Rattle.std.specs.Prelude.{◌≡◌, ℕ, [], IfOk, IfErr};
+ghost use Rattle.std.specs.Arc.{arc_value};
 ghost use Rattle.flow_law.specs.declared.call.SharedCall.TheVariants as call;
 ghost use Rattle.flow_law.specs.declared.call.SharedReply.TheVariants as reply;
 ghost use Rattle.flow_law.specs.declared.config.Overflow.TheVariants.{DropOldest};
@@ -22,64 +23,81 @@ ghost use Rattle.flow_word_shared.specs.Answers.{WordEmitsNow, WordResetsNow};
 use super::reader::WordFlowReader;
 use crate::token::{WordFlow, WordFlowSeat};
 use flow_law::{Busy, Exhausted, FlowFault, NumberError, OutOfMemory, Refused, Rejected, Words};
+use flow_sleepers::one_more_owner;
 use std::alloc::Global;
 use std::marker::Model;
-use std::sync::Wait;
+use std::sync::{Arc, Wait};
 
 /// A seat, and its flow. Contracts see both.
 ///
 /// # Dropping
-/// Dropping it drops its seat: no call is made under its name any more, and the flow does not change.
-pub struct WordEmitter<'a, T: Words> {
-    pub(crate) flow: &'a WordFlow<T>,
+/// Dropping it drops its seat: no call is made under its name any more, and the flow does not change. The last handle
+/// drops the flow.
+pub struct WordEmitter<T: Words> {
+    pub(crate) flow: Arc<WordFlow<T>>,
     pub(crate) seat: WordFlowSeat<T>,
 }
 
 // Not derived, for the reason given at `WordFlowSeat`.
-impl<T: Words> Drop for WordEmitter<'_, T> {
+impl<T: Words> Drop for WordEmitter<T> {
     fn drop(self) {
         let Self { flow: _, seat: _ } = self;
     }
 }
 
-impl<'a, T: Words> Model for WordEmitter<'a, T> {
+impl<T: Words> Model for WordEmitter<T> {
     ghost use Rattle.std.specs.Prelude.{◌≡◌};
+    ghost use Rattle.std.specs.Arc.{arc_value};
     ghost use Rattle.flow_law.specs.history.Handles.{called_by};
     ghost use Rattle.flow_word_shared.specs.Handles.{WordFlowCallerOf};
 
     ghost Value = { WordFlowCallerOf T };
 
-    ghost view = { λ c. called_by c.flow.now c.seat };
+    ghost view = { λ c. called_by (arc_value c.flow) c.seat };
 
-    ghost invariant = { λ c. c.seat.table_id ≡ c.flow.now.table_id };
+    ghost invariant = { λ c. c.seat.table_id ≡ (arc_value c.flow).table_id };
 }
 
 impl<T: Words> WordFlow<T> {
-    /// Binds a seat to its flow.
-    pub fn emitter(&self, seat: WordFlowSeat<T>) -> WordEmitter<'_, T>
-        requires { seat.table_id ≡ self.now.table_id }
-        ensures { result ≡ called_by self.now seat }
+    /// Binds a seat to its flow, and puts the flow into memory that its handles own together: dropping the last one
+    /// drops the flow. `another` and `subscribe` make more of them.
+    ///
+    /// # Errors
+    /// `OutOfMemory`. The flow and the seat are dropped.
+    pub fn into_emitter(
+        self,
+        alloc: Global,
+        seat: WordFlowSeat<T>,
+    ) -> Result<WordEmitter<T>, OutOfMemory>
+        requires { seat.table_id ≡ self.table_id }
+        ensures { IfOk result (λ emitter. emitter ≡ called_by self seat) }
     {
-        WordEmitter::new(self, seat)
+        match Arc::new(alloc, self) {
+            Ok(flow) => Ok(WordEmitter::new(flow, seat)),
+            Err(_failed) => Err(OutOfMemory),
+        }
     }
 }
 
-impl<'a, T: Words> WordEmitter<'a, T> {
-    pub(crate) fn new(flow: &'a WordFlow<T>, seat: WordFlowSeat<T>) -> WordEmitter<'a, T>
-        requires { seat.table_id ≡ flow.now.table_id }
-        ensures { result ≡ called_by flow.now seat }
+impl<T: Words> WordEmitter<T> {
+    /// Binds a seat to its flow.
+    pub fn new(flow: Arc<WordFlow<T>>, seat: WordFlowSeat<T>) -> WordEmitter<T>
+        requires { seat.table_id ≡ (arc_value flow).table_id }
+        ensures { result ≡ called_by (arc_value flow) seat }
     {
         WordEmitter { flow, seat }
     }
 
-    /// Makes one more caller through this one. Call it for each thread, before the thread starts.
-    pub fn another(&mut self) -> WordEmitter<'a, T>
+    /// Makes one more caller through this one. Call it for each thread, before the thread starts. It waits while the flow
+    /// has 2^63 owners.
+    pub fn another<R: Wait>(&mut self, rt: &R) -> WordEmitter<T>
         ensures flow { (self.new.flow ≡ self.old.flow) × (result.flow ≡ self.old.flow) }
         ensures maker { self.new.token ≡ knowing self.old.token (makes self.old.token.knows) }
         ensures made { result.token ≡ knowing self.old.token (child self.old.token.knows) }
     {
+        let flow = one_more_owner(rt, &self.flow);
         let made = self.flow.seat(&mut self.seat);
-        WordEmitter::new(self.flow, made)
+        WordEmitter::new(flow, made)
     }
 
     /// Subscribes. The reader receives the replay cache first.
@@ -87,15 +105,16 @@ impl<'a, T: Words> WordEmitter<'a, T> {
     /// # Errors
     /// `Exhausted` if the flow has issued as many numbers as its limit allows. Under `DropLatest` `OutOfMemory` if no place
     /// is free.
-    pub fn subscribe<R: Wait>(&mut self, rt: &R) -> Result<WordFlowReader<'a, T>, NumberError>
+    pub fn subscribe<R: Wait>(&mut self, rt: &R) -> Result<WordFlowReader<T>, NumberError>
         ensures flow { self.new.flow ≡ self.old.flow }
         ensures subscribed { SubscribesBound shared_flow (λ name. call.Subscribe name []) self.old
             (answer_by number_fault result) self.new.token }
         ensures exhausted { self.old.flow.first.config.overflow ≡ DropOldest →
             IfErr result (λ error. error ≡ number.Exhausted) }
     {
+        let flow = one_more_owner(rt, &self.flow);
         match self.flow.subscribe(rt, &mut self.seat) {
-            Ok(subscription) => Ok(WordFlowReader::new(self.flow, subscription)),
+            Ok(subscription) => Ok(WordFlowReader::new(flow, subscription)),
             Err(FlowFault::OutOfMemory) => Err(NumberError::OutOfMemory),
             Err(_exhausted) => Err(NumberError::Exhausted),
         }
@@ -207,7 +226,7 @@ impl<'a, T: Words> WordEmitter<'a, T> {
     }
 
     /// Joins what two callers of one flow have seen: afterwards both have seen the same history, with all calls so far.
-    pub fn meet(&mut self, other: &mut WordEmitter<'_, T>)
+    pub fn meet(&mut self, other: &mut WordEmitter<T>)
         requires { other.old.flow.table_id ≡ self.old.flow.table_id }
         ensures flow { (self.new.flow ≡ self.old.flow) × (other.new.flow ≡ other.old.flow) }
         ensures met { MeetsIn shared_flow self.old.flow.first self.old.token other.old.token
@@ -217,7 +236,7 @@ impl<'a, T: Words> WordEmitter<'a, T> {
     }
 
     /// Joins what a caller and a reader of one flow have seen, as `meet` does.
-    pub fn meet_reader(&mut self, reader: &mut WordFlowReader<'_, T>)
+    pub fn meet_reader(&mut self, reader: &mut WordFlowReader<T>)
         requires { reader.old.flow.table_id ≡ self.old.flow.table_id }
         ensures flow { (self.new.flow ≡ self.old.flow) × (reader.new.flow ≡ reader.old.flow) }
         ensures met { MeetsIn shared_flow self.old.flow.first
@@ -247,8 +266,8 @@ impl<'a, T: Words> WordEmitter<'a, T> {
 
     /// Returns the seat, for the flow's own calls.
     pub fn into_seat(self) -> WordFlowSeat<T>
-        ensures token { result ≡ self.entry.token }
-        ensures flow { result.table_id ≡ self.entry.flow.table_id }
+        ensures token { result ≡ self.token }
+        ensures flow { result.table_id ≡ self.flow.table_id }
     {
         let WordEmitter { flow: _, seat } = self;
         seat

@@ -1,5 +1,6 @@
 //! A subscription that is bound to its flow.
 ghost use Rattle.std.specs.Prelude.{◌≡◌, ◌≢◌, ℕ, Ok, IsSome};
+ghost use Rattle.std.specs.Arc.{arc_value};
 ghost use Rattle.std.specs.Result.{OnErr};
 ghost use Rattle.flow_law.specs.declared.outcome.Drained.TheVariants.{Gone};
 ghost use Rattle.flow_law.specs.declared.outcome.Next.TheVariants as no_more;
@@ -21,36 +22,38 @@ ghost use Rattle.flow_word_shared.specs.Answers.{WordFlowNexts, WordNextsNow};
 use super::emitter::WordEmitter;
 use crate::token::{WordFlow, WordFlowSubscription};
 use flow_law::{Busy, Drained, Next, OutOfMemory, Words};
+use flow_sleepers::one_more_owner;
 use std::alloc::Allocator;
 use std::marker::Model;
-use std::sync::Wait;
+use std::sync::{Arc, Wait};
 
 /// A subscription, and its flow. Contracts see both.
 ///
 /// # Dropping
-/// Dropping the reader ends its subscription, as `unsubscribe` does.
-pub struct WordFlowReader<'a, T: Words> {
-    pub(crate) flow: &'a WordFlow<T>,
+/// Dropping the reader ends its subscription, as `unsubscribe` does. The last handle drops the flow.
+pub struct WordFlowReader<T: Words> {
+    pub(crate) flow: Arc<WordFlow<T>>,
     pub(crate) subscription: WordFlowSubscription<T>,
 }
 
-impl<T: Words> Drop for WordFlowReader<'_, T> {
+impl<T: Words> Drop for WordFlowReader<T> {
     fn drop(self) {
         let Self { flow, subscription } = self;
         let _seat = flow.unsubscribe(subscription);
     }
 }
 
-impl<'a, T: Words> Model for WordFlowReader<'a, T> {
+impl<T: Words> Model for WordFlowReader<T> {
     ghost use Rattle.std.specs.Prelude.{◌≡◌};
+    ghost use Rattle.std.specs.Arc.{arc_value};
     ghost use Rattle.flow_law.specs.history.Handles.{read_by};
     ghost use Rattle.flow_word_shared.specs.Handles.{WordFlowReaderOf};
 
     ghost Value = { WordFlowReaderOf T };
 
-    ghost view = { λ r. read_by r.flow.now r.subscription };
+    ghost view = { λ r. read_by (arc_value r.flow) r.subscription };
 
-    ghost invariant = { λ r. r.subscription.token.table_id ≡ r.flow.now.table_id };
+    ghost invariant = { λ r. r.subscription.token.table_id ≡ (arc_value r.flow).table_id };
 }
 
 /// Returns the value, if `next` gave one.
@@ -65,23 +68,11 @@ fn given<T>(next: Next<T>) -> Option<T>
     }
 }
 
-impl<T: Words> WordFlow<T> {
+impl<T: Words> WordFlowReader<T> {
     /// Binds a subscription to its flow.
-    pub fn reader(&self, subscription: WordFlowSubscription<T>) -> WordFlowReader<'_, T>
-        requires { subscription.token.table_id ≡ self.now.table_id }
-        ensures { result ≡ read_by self.now subscription }
-    {
-        WordFlowReader::new(self, subscription)
-    }
-}
-
-impl<'a, T: Words> WordFlowReader<'a, T> {
-    pub(crate) fn new(
-        flow: &'a WordFlow<T>,
-        subscription: WordFlowSubscription<T>,
-    ) -> WordFlowReader<'a, T>
-        requires { subscription.token.table_id ≡ flow.now.table_id }
-        ensures { result ≡ read_by flow.now subscription }
+    pub fn new(flow: Arc<WordFlow<T>>, subscription: WordFlowSubscription<T>) -> WordFlowReader<T>
+        requires { subscription.token.table_id ≡ (arc_value flow).table_id }
+        ensures { result ≡ read_by (arc_value flow) subscription }
     {
         WordFlowReader { flow, subscription }
     }
@@ -141,8 +132,8 @@ impl<'a, T: Words> WordFlowReader<'a, T> {
         }
     }
 
-    /// Makes a caller of the same flow through the seat of this subscription.
-    pub fn another(&mut self) -> WordEmitter<'a, T>
+    /// Makes a caller of the same flow through the seat of this subscription. It waits while the flow has 2^63 owners.
+    pub fn another<R: Wait>(&mut self, rt: &R) -> WordEmitter<T>
         ensures flow { (self.new.flow ≡ self.old.flow) × (result.flow ≡ self.old.flow) }
         ensures maker { self.new.subscription.token
             ≡ knowing self.old.subscription.token (makes self.old.subscription.token.knows) }
@@ -150,15 +141,16 @@ impl<'a, T: Words> WordFlowReader<'a, T> {
         ensures made { result.token ≡ knowing self.old.subscription.token
             (child self.old.subscription.token.knows) }
     {
+        let flow = one_more_owner(rt, &self.flow);
         let made = self.flow.seat_by(&mut self.subscription);
-        WordEmitter::new(self.flow, made)
+        WordEmitter::new(flow, made)
     }
 
     /// Ends the subscription, and returns an emitter with its seat.
-    pub fn unsubscribe(self) -> WordEmitter<'a, T>
-        ensures flow { result.flow ≡ self.entry.flow }
+    pub fn unsubscribe(self) -> WordEmitter<T>
+        ensures flow { result.flow ≡ self.flow }
         ensures left { UnsubscribesIn shared_flow
-            self.entry.flow.first self.entry.subscription result.token }
+            self.flow.first self.subscription result.token }
     {
         let WordFlowReader { flow, subscription } = self;
         let seat = flow.unsubscribe(subscription);
@@ -191,8 +183,8 @@ impl<'a, T: Words> WordFlowReader<'a, T> {
 
     /// Returns the subscription, for the flow's own calls.
     pub fn into_subscription(self) -> WordFlowSubscription<T>
-        ensures subscription { result ≡ self.entry.subscription }
-        ensures flow { result.token.table_id ≡ self.entry.flow.table_id }
+        ensures subscription { result ≡ self.subscription }
+        ensures flow { result.token.table_id ≡ self.flow.table_id }
     {
         let WordFlowReader {
             flow: _,

@@ -8,18 +8,18 @@ ghost use Rattle.flow_word_shared.specs.Receiving.{WordFlowPolls};
 
 use super::reader::WordFlowReader;
 use flow_law::Words;
-use flow_sleepers::Limit;
+use flow_sleepers::{Limit, one_more_owner};
 use flow_word::sleepers::Sleeper;
 use futures::task::{Context, Poll};
 use std::sync::Wait;
 use std::time::{Clock, Duration};
 
-impl<'a, T: Words> Sleeper for WordFlowReader<'a, T> {
+impl<T: Words> Sleeper for WordFlowReader<T> {
     ghost has_looked = { λ before now. FindsNone shared_flow
         before.flow.first before.subscription now.subscription };
 }
 
-impl<'a, T: Words> WordFlowReader<'a, T> {
+impl<T: Words> WordFlowReader<T> {
     /// Takes the next value if there is one.
     fn look<R: Wait>(&mut self, rt: &R) -> Option<T>
         ensures flow { self.new.flow ≡ self.old.flow }
@@ -36,7 +36,7 @@ impl<'a, T: Words> WordFlowReader<'a, T> {
         ensures received { ReceivesInTime shared_flow self.old.flow.first
             self.old.subscription result self.new.subscription }
     {
-        let flow = self.flow;
+        let flow = one_more_owner(rt, &self.flow);
         let announced = flow.readers.announce_caller(&*self);
         match self.look(rt) {
             Some(value) => Some(value),
@@ -122,9 +122,8 @@ impl<'a, T: Words> WordFlowReader<'a, T> {
             self.old.subscription now.subscription → IsArmed cx.new }
         ensures kept { Keeps cx.old cx.new }
     {
-        let flow = self.flow;
         let number = self.subscription.note_waker();
-        flow.readers.leave_waker(cx, number, &*self);
+        self.flow.readers.leave_waker(cx, number, &*self);
     }
 
     /// Leaves the waker of the polled task, and then takes the next value, if one attempt gives it. If emitters have

@@ -38,7 +38,7 @@ impl Newest {
 fn costs<R: Wait + RandomSource + AllocGlobal>(
     rt: &R,
     alloc: Global,
-    (prices, amounts): (StateReader<'_, i64>, StateReader<'_, i64>),
+    (prices, amounts): (StateReader<i64>, StateReader<i64>),
     count: usize,
 ) -> Result<Vec<i64>> {
     let mut newest = Newest {
@@ -57,9 +57,9 @@ fn costs<R: Wait + RandomSource + AllocGlobal>(
 /// Returns the first cost of 10 pieces at a price of 3.
 pub fn combined<R: Wait + RandomSource + AllocGlobal>(rt: &R, alloc: Global) -> Result<Vec<i64>> {
     let (prices, seat) = StateFlow::new(alloc, 3i64, u64::MAX)?;
-    let mut price = prices.setter(seat);
+    let mut price = prices.into_setter(alloc, seat)?;
     let (amounts, seat) = StateFlow::new(alloc, 10i64, u64::MAX)?;
-    let mut amount = amounts.setter(seat);
+    let mut amount = amounts.into_setter(alloc, seat)?;
     let readers = (price.subscribe(rt)?, amount.subscribe(rt)?);
     costs(rt, alloc, readers, 1)
 }

@@ -9,7 +9,7 @@ use std::time::{Clock, Duration};
 /// Returns the next value that no other one follows for `quiet`. The thread sleeps until then.
 fn settled<R: Wait + Clock>(
     rt: &R,
-    reader: &mut Reader<'_, i64>,
+    reader: &mut Reader<i64>,
     quiet: Duration,
 ) -> Result<i64, FlowFault> {
     let mut newest = reader.receive(rt)?;
@@ -25,7 +25,7 @@ fn settled<R: Wait + Clock>(
 /// Returns the last number of 1 to 3, since they come one right after the other.
 pub fn debounced<R: Wait + Clock>(rt: &R, alloc: Global) -> Result<i64, FlowFault> {
     let (flow, seat) = SharedFlow::new(alloc, Config::new().extra(16))?;
-    let mut emitter = flow.emitter(seat);
+    let mut emitter = flow.into_emitter(alloc, seat)?;
     let mut reader = emitter.subscribe(rt)?;
     send(rt, &mut emitter, 1..4)?;
     settled(rt, &mut reader, Duration::from_millis(20))

@@ -13,8 +13,8 @@ fn in_fahrenheit(celsius: &i64) -> i64 {
 /// Keeps `fahrenheit` at the temperature of `celsius`, until that is `last`.
 fn derive<R: Wait>(
     rt: &R,
-    celsius: &mut StateReader<'_, i64>,
-    fahrenheit: &mut Setter<'_, i64>,
+    celsius: &mut StateReader<i64>,
+    fahrenheit: &mut Setter<i64>,
     last: i64,
 ) -> Result<(), FlowFault> {
     for _ in rt.forever() {
@@ -26,7 +26,7 @@ fn derive<R: Wait>(
 }
 
 /// Sets the temperature to each degree from 1 to `last`.
-fn heat<R: Wait>(rt: &R, celsius: &mut Setter<'_, i64>, last: i64) {
+fn heat<R: Wait>(rt: &R, celsius: &mut Setter<i64>, last: i64) {
     for degrees in 1..=last {
         celsius.set(rt, degrees);
     }
@@ -35,10 +35,10 @@ fn heat<R: Wait>(rt: &R, celsius: &mut Setter<'_, i64>, last: i64) {
 /// Returns 100 degrees Celsius in degrees Fahrenheit, from the derived state.
 pub fn derived<R: Wait + Threads + Sync>(rt: &R, alloc: Global) -> Result<i64, FlowFault> {
     let (celsius, seat) = StateFlow::new(alloc, 0i64, u64::MAX)?;
-    let mut heating = celsius.setter(seat);
+    let mut heating = celsius.into_setter(alloc, seat)?;
     let mut changes = heating.subscribe(rt)?;
     let (fahrenheit, seat) = StateFlow::new(alloc, 32i64, u64::MAX)?;
-    let mut derived = fahrenheit.setter(seat);
+    let mut derived = fahrenheit.into_setter(alloc, seat)?;
     let (done, ()) = join(
         rt,
         || derive(rt, &mut changes, &mut derived, 100),

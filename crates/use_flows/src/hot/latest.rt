@@ -33,7 +33,7 @@ impl Work {
 }
 
 /// Returns the result of the first work that no newer value interrupts. After each step it looks for one.
-fn first_result<R: Wait>(rt: &R, reader: &mut Reader<'_, i64>) -> Result<i64, FlowFault> {
+fn first_result<R: Wait>(rt: &R, reader: &mut Reader<i64>) -> Result<i64, FlowFault> {
     let mut work = Work::new(reader.receive(rt)?);
     for _ in rt.forever() {
         if let Some(result) = work.advance() {
@@ -49,7 +49,7 @@ fn first_result<R: Wait>(rt: &R, reader: &mut Reader<'_, i64>) -> Result<i64, Fl
 /// Returns the result of the work for the last number of 1 to 3: the work for the others is dropped.
 pub fn latest<R: Wait>(rt: &R, alloc: Global) -> Result<i64, FlowFault> {
     let (flow, seat) = SharedFlow::new(alloc, Config::new().extra(16))?;
-    let mut emitter = flow.emitter(seat);
+    let mut emitter = flow.into_emitter(alloc, seat)?;
     let mut reader = emitter.subscribe(rt)?;
     send(rt, &mut emitter, 1..4)?;
     first_result(rt, &mut reader)

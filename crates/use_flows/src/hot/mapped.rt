@@ -34,7 +34,7 @@ impl LastTen {
 fn tens<R: Wait + RandomSource + AllocGlobal>(
     rt: &R,
     alloc: Global,
-    reader: Reader<'_, i64>,
+    reader: Reader<i64>,
     count: usize,
 ) -> Result<Vec<i64>> {
     let mut last = LastTen { ten: None };
@@ -49,7 +49,7 @@ fn tens<R: Wait + RandomSource + AllocGlobal>(
 /// Returns the tens of the numbers from 15 to 44.
 pub fn mapped<R: Wait + RandomSource + AllocGlobal>(rt: &R, alloc: Global) -> Result<Vec<i64>> {
     let (flow, seat) = SharedFlow::new(alloc, Config::new().extra(64))?;
-    let mut emitter = flow.emitter(seat);
+    let mut emitter = flow.into_emitter(alloc, seat)?;
     let reader = emitter.subscribe(rt)?;
     send(rt, &mut emitter, 15..45)?;
     tens(rt, alloc, reader, 4)

@@ -14,7 +14,7 @@ use std::sync::Wait;
 fn both<R: Wait + RandomSource + AllocGlobal>(
     rt: &R,
     alloc: Global,
-    (a, b): (Reader<'_, i64>, Reader<'_, i64>),
+    (a, b): (Reader<i64>, Reader<i64>),
     count: usize,
 ) -> Result<Vec<i64>> {
     let both = select(a.into_stream(), b.into_stream()).take(count);
@@ -24,9 +24,9 @@ fn both<R: Wait + RandomSource + AllocGlobal>(
 /// Returns the numbers from 1 to 3 of one flow, and those from 101 to 103 of another.
 pub fn merged<R: Wait + RandomSource + AllocGlobal>(rt: &R, alloc: Global) -> Result<Vec<i64>> {
     let (left, seat) = SharedFlow::new(alloc, Config::new().extra(16))?;
-    let mut a = left.emitter(seat);
+    let mut a = left.into_emitter(alloc, seat)?;
     let (right, seat) = SharedFlow::new(alloc, Config::new().extra(16))?;
-    let mut b = right.emitter(seat);
+    let mut b = right.into_emitter(alloc, seat)?;
     let readers = (a.subscribe(rt)?, b.subscribe(rt)?);
     send(rt, &mut a, 1..4)?;
     send(rt, &mut b, 101..104)?;

@@ -10,7 +10,7 @@ use std::time::{Clock, Duration};
 /// Returns the value that came last in the next period, or `None` if none came. The flow keeps one value, the newest.
 fn newest_of<R: Wait + Clock>(
     rt: &R,
-    reader: &mut Reader<'_, i64>,
+    reader: &mut Reader<i64>,
     period: Duration,
 ) -> Result<Option<i64>, FlowFault> {
     sleep(rt, period);
@@ -21,7 +21,7 @@ fn newest_of<R: Wait + Clock>(
 pub fn sampled<R: Wait + Clock>(rt: &R, alloc: Global) -> Result<[Option<i64>; 2], FlowFault> {
     let config = Config::new().extra(1).overflow(Overflow::DropOldest);
     let (flow, seat) = SharedFlow::new(alloc, config)?;
-    let mut emitter = flow.emitter(seat);
+    let mut emitter = flow.into_emitter(alloc, seat)?;
     let mut reader = emitter.subscribe(rt)?;
     send(rt, &mut emitter, 1..4)?;
     let period = Duration::from_millis(20);

@@ -8,5 +8,5 @@ invariant-loop-thread g l =
     let done = vec_len l.emitters in let rest = l.thread-iterator in let all = l.fn.threads in
     (done + into_iter_len rest ≡ vec_len all)
     × ((k : ℕ) (d : _) → k < into_iter_len rest → get_or (into_iter_items rest) k d ≡ get_or (vec_items all) (done + k) d)
-    × ((k : ℕ) (d t : _) → k < done → HasSentAs l.flow (get_or (vec_items all) k t).promise (get_or (vec_items l.emitters) k d))
+    × ((k : ℕ) (d t : _) → k < done → HasSentAs (get_or (vec_items all) k t).promise (get_or (vec_items l.emitters) k d))
     × (vec_len all ≤ vec_capacity l.emitters)

@@ -9,5 +9,5 @@ invariant-loop-emitter g l =
     (done + into_iter_len rest ≡ vec_len all)
     × (l.first ≡ done * l.values)
     × ((k : ℕ) (d : _) → k < into_iter_len rest → get_or (into_iter_items rest) k d ≡ get_or (vec_items all) (done + k) d)
-    × ((k : ℕ) (d e : _) → k < done → WillEmit l.flow.table_id (get_or (vec_items all) k e).token (k * l.values) l.values (get_or (vec_items l.threads) k d).promise)
+    × ((k : ℕ) (d e : _) → k < done → WillEmit (get_or (vec_items all) k e) (k * l.values) l.values (get_or (vec_items l.threads) k d).promise)
     × (vec_len all ≤ vec_capacity l.threads)

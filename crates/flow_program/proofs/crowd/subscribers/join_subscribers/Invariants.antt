@@ -9,6 +9,6 @@ invariant-loop-thread g l =
     (done + into_iter_len rest ≡ vec_len all)
     × (vec_len l.got ≡ done)
     × ((k : ℕ) (d : _) → k < into_iter_len rest → get_or (into_iter_items rest) k d ≡ get_or (vec_items all) (done + k) d)
-    × ((k : ℕ) (d v t : _) → k < done → HasTakenAs l.flow (get_or (vec_items all) k t).promise (get_or (vec_items l.readers) k d) (get_or (vec_items l.got) k v).items)
+    × ((k : ℕ) (d v t : _) → k < done → HasTakenAs (get_or (vec_items all) k t).promise (get_or (vec_items l.readers) k d) (get_or (vec_items l.got) k v).items)
     × (vec_len all ≤ vec_capacity l.readers)
     × (vec_len all ≤ vec_capacity l.got)

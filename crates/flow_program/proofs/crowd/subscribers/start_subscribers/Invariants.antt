@@ -8,7 +8,7 @@ invariant-loop-reader g l =
     let done = vec_len l.threads in let rest = l.left in let all = l.fn.readers in
     (done + into_iter_len rest ≡ vec_len all)
     × ((k : ℕ) (d : _) → k < into_iter_len rest → get_or (into_iter_items rest) k d ≡ get_or (vec_items all) (done + k) d)
-    × ((k : ℕ) (d r : _) → k < done → WillRead l.flow.table_id (get_or (vec_items all) k r).subscription l.count (get_or (vec_items l.threads) k d).promise)
+    × ((k : ℕ) (d r : _) → k < done → WillRead (get_or (vec_items all) k r) l.count (get_or (vec_items l.threads) k d).promise)
     × (vec_len all ≤ vec_capacity l.threads)
 
 abbrev pub decreases-loop-reader : goal.decreases-loop-reader

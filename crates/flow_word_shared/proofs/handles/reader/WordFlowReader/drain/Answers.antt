@@ -7,5 +7,7 @@ use Rattle.flow_word_shared.proofs.handles.reader.WordFlowReader.drain.Goals as 
 
 pub returns-in-Err-clause-drained : goal.returns-in-Err-clause-drained
 returns-in-Err-clause-drained g c =
+    let drained = subst (λ f. DrainsBy (WordFlowNexts f.first) c.args.most c.self.inside.subscription c.args.values.now.items (Err c.in-Err._fault) c.drain.new.values.items c.drain.new.subscription)
+    c.deref.ensures c.in-Err.ensures.drained in
     subst (λ (z : WordFlowReaderOf g.row.T.Denot × FlowFault). DrainsBy (WordFlowNexts z.0.flow.first) c.args.most z.0.subscription c.args.values.now.items (Err z.1) c.drain.new.values.items c.drain.new.subscription)
-    (λ i. (c.self.view_is i, c.in-Err.ensures.refused i)) c.in-Err.ensures.drained
+    (λ i. (c.self.view_is i, c.in-Err.ensures.refused i)) drained

@@ -10,8 +10,9 @@ given-requires g c = c.in-Ok.ensures.0
 
 pub returns-in-Ok-clause-called : goal.returns-in-Ok-clause-called
 returns-in-Ok-clause-called g c =
+    let nexts = subst (λ f. WordNextsNow f.first c.self.inside.subscription (Ok c.in-Ok.next) c.next_now.new.subscription) c.deref.ensures c.in-Ok.ensures in
     subst (λ (z : WordFlowReaderOf g.row.T.Denot × Next g.row.T.Denot). WordNextsNow z.0.flow.first z.0.subscription (Ok z.1) c.next_now.new.subscription)
-    (λ i. (c.self.view_is i, sym c.given.ensures i)) c.in-Ok.ensures
+    (λ i. (c.self.view_is i, sym c.given.ensures i)) nexts
 
 pub returns-in-Err-clause-called : goal.returns-in-Err-clause-called
 returns-in-Err-clause-called g c =
