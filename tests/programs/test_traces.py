@@ -152,3 +152,21 @@ def test_states(flow_play, flow_draw, name):
             more = len(received[reader]) - len(readers[reader])
             # An item of a shared chain waits without a name.
             assert more <= len(state["waiting"]) + (state["flow"]["head"]["kind"] == "share"), f"{reader} after step {count}"
+
+
+def traced_cases():
+    for case in (case for _, case in all_cases() if "traced" in case):
+        for version in versions(case):
+            yield pytest.param(case, version, id=case_id(case["name"], "version", version))
+
+
+@pytest.mark.parametrize("case, version", traced_cases())
+def test_counts(flow_draw, case, version):
+    """The trace of a case has the counts of its flow that the case says."""
+    trace = trace_of(flow_draw, text_of(case, version))
+    state, came = first_state(trace["flows"][0]), []
+    for line in trace["lines"]:
+        add(state, line)
+        lags = sorted((reader["name"], line["emitted"] - reader["position"]) for reader in state["readers"].values())
+        came.append(", ".join([f"emitted {line['emitted']}", f"kept {line['held']}", *(f"{name} {lag}" for name, lag in lags)]))
+    assert came == case["traced"]

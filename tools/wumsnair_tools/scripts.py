@@ -22,6 +22,8 @@ flow_refused   the line by which its one flow is refused, which is all that vers
 flows_refused  the lines of the flows that are refused, which come before those of the steps
 script         in place of `flow` or `flows` and `steps` a whole text, with `refused`
 explained      what `./draw` prints about it on standard error
+traced         what the trace says of its one flow after each step: how many values it has emitted, how many of them it keeps, and the lag
+               of each subscriber
 """
 import tomllib
 

@@ -1,4 +1,4 @@
-//! The checker of recorded histories: a search that gives up, and the part of a record that was known before a moment.
+//! The checker of recorded histories: a search of few turns, and the part of a record that was known before a moment.
 //! `tests/programs/worked_records.py` has records with verdicts that are worked out by hand from kotlinx.coroutines'
 //! documentation. `tests/programs/test_random_records.py` compares the checker with a plain search.
 use crate::compare::compare;
@@ -8,38 +8,21 @@ use flow_check::{
 use std::alloc::Global;
 use std::process::Abort;
 
-/// Returns a `set` that began and ended at these moments.
-fn set(value: u64, begin: u64, end: u64) -> Timed<StateEntry> {
-    let call = StateEntry {
-        operation: StateOperation::Set(value),
-        answer: Some(StateAnswer::Done),
-    };
+/// Returns a call that began and ended at these moments.
+fn call(operation: StateOperation, answer: StateAnswer, begin: u64, end: u64) -> Timed<StateEntry> {
+    let answer = Some(answer);
+    let call = StateEntry { operation, answer };
     let end = Some(end);
     Timed { call, begin, end }
 }
 
-/// Returns a `value` that returned this value, and began and ended at these moments.
-fn read(value: u64, begin: u64, end: u64) -> Timed<StateEntry> {
-    let call = StateEntry {
-        operation: StateOperation::Value,
-        answer: Some(StateAnswer::Value(value)),
-    };
-    let end = Some(end);
-    Timed { call, begin, end }
+fn set(value: u64, begin: u64, end: u64) -> Timed<StateEntry> {
+    call(StateOperation::Set(value), StateAnswer::Done, begin, end)
 }
 
 /// Returns a `subscribe` that began at 0 and ended at this moment.
 fn subscribe(end: u64) -> Timed<StateEntry> {
-    let call = StateEntry {
-        operation: StateOperation::Subscribe,
-        answer: Some(StateAnswer::Done),
-    };
-    let end = Some(end);
-    Timed {
-        call,
-        begin: 0,
-        end,
-    }
+    call(StateOperation::Subscribe, StateAnswer::Done, 0, end)
 }
 
 /// Returns the record of the calls of these callers.
@@ -51,9 +34,19 @@ fn record_of(
     let mut all = Vec::new(alloc);
     for calls in callers {
         let calls = Vec::from_slice(alloc, calls).expect(rt, "memory");
-        compare(rt, "grown", all.push(calls).is_ok(), true);
+        let Ok(()) = all.push(calls) else {
+            panic!(rt; "memory")
+        };
     }
     Record::new(all).ok().expect(rt, "a record")
+}
+
+fn word_of(verdict: Verdict) -> &'static str {
+    match verdict {
+        Verdict::Legal(_order) => "legal",
+        Verdict::Illegal => "illegal",
+        Verdict::GaveUp => "gave up",
+    }
 }
 
 /// A search that may take no turn gives up.
@@ -61,19 +54,7 @@ fn record_of(
 fn gives_up(rt: HostRuntime) {
     let record = record_of(&rt, rt.alloc(), &[&[set(1, 0, 1)]]);
     let verdict = check_state(rt.alloc(), 0, &record, 0).expect(&rt, "memory");
-    let gave_up = matches!(verdict, Verdict::GaveUp);
-    compare(&rt, "it gave up", gave_up, true);
-}
-
-/// A caller may make a call of the same moments before another caller sets the same value: 1 is set, then 2, then 1 again.
-#[test]
-fn judges_equal_sets_among_calls_of_one_moment(rt: HostRuntime) {
-    let both = [set(1, 0, 9), set(2, 0, 9)];
-    let reads = [read(1, 1, 2), read(2, 3, 4), read(1, 6, 7)];
-    let record = record_of(&rt, rt.alloc(), &[&both, &[set(1, 0, 5)], &reads]);
-    let verdict = check_state(rt.alloc(), 0, &record, 1000).expect(&rt, "memory");
-    let is_legal = matches!(verdict, Verdict::Legal(_));
-    compare(&rt, "it is legal", is_legal, true);
+    compare(&rt, "the verdict", word_of(verdict), "gave up");
 }
 
 /// Of callers that subscribe meanwhile the one that ends first comes first, so 100 turns are enough: 1 was never set.
@@ -90,16 +71,11 @@ fn judges_many_that_subscribe_at_once(rt: HostRuntime) {
         &[subscribe(27)],
         &[subscribe(28)],
         &[subscribe(29)],
-        &[read(1, 10, 50)],
+        &[call(StateOperation::Value, StateAnswer::Value(1), 10, 50)],
     ];
     let record = record_of(&rt, rt.alloc(), &callers);
     let verdict = check_state(rt.alloc(), 0, &record, 100).expect(&rt, "memory");
-    compare(
-        &rt,
-        "it is illegal",
-        matches!(verdict, Verdict::Illegal),
-        true,
-    );
+    compare(&rt, "the verdict", word_of(verdict), "illegal");
 }
 
 /// The moments at which two calls ended: None if the call had not begun, Some(None) if it had not ended.

@@ -7,6 +7,15 @@ pub fn compare<T: PartialEq + Debug + Drop>(rt: &impl Abort, row: &str, came: T,
     assert_eq!(rt; came, wanted, "{row}: left came, and right was wanted");
 }
 
+/// Ends the test unless what came of this row is one of the values that are wanted.
+pub fn compare_any<T: PartialEq + Debug + Drop>(rt: &impl Abort, row: &str, came: T, wanted: &[T]) {
+    let is_wanted = wanted.contains(&came);
+    assert!(rt;
+        is_wanted,
+        "{row}: {came:?} came, and one of {wanted:?} was wanted"
+    );
+}
+
 /// Ends the test unless what came of this step of a row is what is wanted.
 pub fn compare_step<S: Debug, T: PartialEq + Debug + Drop>(
     rt: &impl Abort,
@@ -20,4 +29,10 @@ pub fn compare_step<S: Debug, T: PartialEq + Debug + Drop>(
         wanted,
         "{row}, {step:?}: left came, and right was wanted"
     );
+}
+
+/// Ends the test unless this value of a row is greater than the last one, whose place it then takes.
+pub fn rises<T: PartialOrd + Copy + Debug>(rt: &impl Abort, row: &str, last: &mut T, value: T) {
+    assert!(rt; value > *last, "{row}: {value:?} came after {last:?}");
+    *last = value;
 }

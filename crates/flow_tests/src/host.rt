@@ -1,5 +1,5 @@
-//! The runtime of tests.
-use std::alloc::AllocGlobal;
+//! The runtime and the memory of tests.
+use std::alloc::{AllocGlobal, Allocator};
 use std::process::Abort;
 use std::random::RandomSource;
 use std::sync::Wait;
@@ -10,3 +10,8 @@ use std::time::Clock;
 pub trait Host: Abort + Wait + Clock + Threads + RandomSource + AllocGlobal + Sync {}
 
 impl<R: Abort + Wait + Clock + Threads + RandomSource + AllocGlobal + Sync> Host for R {}
+
+/// An allocator that is handed on by value.
+pub trait Memory: Allocator + Copy {}
+
+impl<A: Allocator + Copy> Memory for A {}

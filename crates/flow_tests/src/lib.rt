@@ -33,6 +33,8 @@ mod lent;
 #[cfg(test)]
 mod one_thread;
 #[cfg(test)]
+mod races;
+#[cfg(test)]
 mod reading;
 #[cfg(test)]
 mod refusals;

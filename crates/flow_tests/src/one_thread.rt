@@ -1,9 +1,8 @@
-//! Tests of flows for one thread that no script has: drains, refused copies, many values, what a flow keeps, lags, and
+//! Tests of flows for one thread that no script has: drains, refused copies, many values, what a flow keeps, and
 //! values that own memory. What calls must return is from kotlinx.coroutines' documentation of `MutableSharedFlow`,
 //! `BufferOverflow` and `MutableStateFlow`.
 mod caller;
 mod drains;
-mod lags;
 mod many;
 mod signs;
 mod state;

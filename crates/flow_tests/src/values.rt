@@ -1,8 +1,7 @@
 //! Texts and boxed numbers, whose copies take memory.
-use crate::compare::{compare, compare_step};
-use flow_law::{Boxed, Next, Text};
+use crate::compare::compare;
+use flow_law::{Boxed, Text};
 use std::alloc::{Allocator, Global};
-use std::fmt::Debug;
 use std::process::Abort;
 
 /// Returns a box of this number. Asks for memory once more if it is refused.
@@ -31,26 +30,24 @@ pub fn boxes<A: Allocator + Copy>(
     values
 }
 
-/// Returns the number of the value that was received.
-pub fn by_number<A: Allocator + Copy>(next: Next<Boxed<i64, A>>) -> Next<i64> {
-    match next {
-        Next::Value(boxed) => Next::Value(*boxed.value()),
-        Next::Empty => Next::Empty,
-        Next::Gone => Next::Gone,
+/// Returns the number in the box that was received, if one was.
+pub fn number_in<A: Allocator + Copy>(received: Option<Boxed<i64, A>>) -> Option<i64> {
+    match received {
+        Some(boxed) => Some(*boxed.value()),
+        None => None,
     }
 }
 
-/// Compares the numbers of the values of a step.
-pub fn are<S: Debug, A: Allocator + Copy>(
+/// Compares the numbers of the values of a row.
+pub fn are<A: Allocator + Copy>(
     rt: &impl Abort,
     row: &str,
-    step: &S,
     values: &[Boxed<i64, A>],
     numbers: &[i64],
 ) {
-    compare_step(rt, row, step, values.len(), numbers.len());
+    compare(rt, row, values.len(), numbers.len());
     for (boxed, number) in values.iter().zip(numbers) {
-        compare_step(rt, row, step, *boxed.value(), *number);
+        compare(rt, row, *boxed.value(), *number);
     }
 }
 

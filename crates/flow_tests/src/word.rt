@@ -1,6 +1,4 @@
 //! Tests of the word state: worked examples of one caller and of several threads, packs, and a message between threads.
-#[cfg(test)]
-mod caller;
 pub mod celsius;
 #[cfg(test)]
 mod lost;
@@ -8,8 +6,6 @@ mod lost;
 mod one_caller;
 #[cfg(test)]
 mod packs;
-#[cfg(test)]
-mod signals;
 #[cfg(test)]
 mod threads;
 #[cfg(test)]

@@ -9,6 +9,7 @@ mod quote;
 mod races;
 mod wide;
 
+use crate::compare::compare;
 use flow_law::{Config, Overflow, Words};
 use flow_word_shared::{ClosedWordFlow, WordEmitter, WordFlow, WordFlowReader, WordFlowSeat};
 use std::alloc::Global;
@@ -85,4 +86,11 @@ pub fn new_word_flow_reader<R: Wait + Abort>(
     emitter: &mut WordEmitter<i64>,
 ) -> WordFlowReader<i64> {
     emitter.subscribe(rt).expect(rt, "a reader")
+}
+
+/// Emits the numbers from the first to the last one.
+pub fn emit_all<R: Wait + Abort>(rt: &R, emitter: &mut WordEmitter<i64>, first: i64, last: i64) {
+    for value in first..=last {
+        compare(rt, "emit", emitter.emit(rt, value), Ok(()));
+    }
 }

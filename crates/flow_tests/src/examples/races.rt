@@ -1,20 +1,17 @@
 //! A `cancel` and a `next` that race on two threads. Whichever is first, the subscribers receive what is documented.
-use crate::compare::compare;
+use crate::compare::{compare, compare_any};
 use crate::flows::{new_emitter, new_reader};
 use crate::handle_calls::{begin, cancel, emission_of, next, try_emit};
 use crate::host::Host;
+use crate::races::{EACH, Ends, race_until};
 use flow_law::Config;
 use flow_shared::{BoundEmission, Emitter, Reader};
 use std::alloc::Global;
 use std::sync::{Barrier, Wait};
 use std::thread::join;
 
-/// The least number of races.
-const LEAST_RACES: u32 = 100;
-
-/// The greatest number of races. They end earlier if each of the two calls has been first, but not before the least
-/// number.
-const MOST_RACES: u32 = 10_000;
+/// Each of the two calls is first in some race.
+const WANTED: Ends = Ends { all: 100, ..EACH };
 
 /// Reads once. Returns the value that the reader receives, if any.
 fn read<R: Wait>(rt: &R, start: &Barrier, run: u32, reader: &mut Reader<i64>) -> Option<i64> {
@@ -64,7 +61,7 @@ fn is_offered<R: Host>(rt: &R, run: u32, emitter: &mut Emitter<i64>) -> bool {
     let mut reader = new_reader(rt, emitter);
     let (taken, was_waiting) = read_beside_cancel(rt, run, &mut reader, emitter, 7);
     compare(rt, "the offer waited until the cancel", was_waiting, true);
-    compare(rt, "7 or nothing", taken == None || taken == Some(7), true);
+    compare_any(rt, "what the reader took", taken, &[None, Some(7)]);
     compare(rt, "the other reader", next(rt, &mut other), Ok(None));
     compare(rt, "after the race", next(rt, &mut reader), Ok(None));
     taken == None
@@ -79,24 +76,8 @@ fn race<R: Host>(rt: &R, alloc: Global, run: u32, room: u32) -> bool {
     }
 }
 
-/// Races the two calls more than `LEAST_RACES` times, and until each of them has been first. Ends the test if one was
-/// first in all `MOST_RACES` races.
-fn race_often<R: Host>(rt: &R, alloc: Global, room: u32) {
-    let mut cancelled_first = 0u32;
-    for run in 0..MOST_RACES {
-        if race(rt, alloc, run, room) {
-            cancelled_first = cancelled_first.wrapping_add(1);
-        }
-        let has_both = cancelled_first > 0 && cancelled_first <= run;
-        if has_both && run >= LEAST_RACES {
-            return;
-        }
-    }
-    panic!(rt; "one call came first in each race");
-}
-
 #[test]
 fn each_of_two_calls_comes_first(rt: HostRuntime) {
-    race_often(&rt, rt.alloc(), 0);
-    race_often(&rt, rt.alloc(), 1);
+    race_until(&rt, WANTED, |run| race(&rt, rt.alloc(), run, 0));
+    race_until(&rt, WANTED, |run| race(&rt, rt.alloc(), run, 1));
 }

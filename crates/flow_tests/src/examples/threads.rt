@@ -1,7 +1,7 @@
 //! Two threads that set a state flow at once, or emit one after the other.
 ghost use Rattle.std.specs.Prelude.{◌≡◌};
 
-use crate::compare::compare;
+use crate::compare::{compare, compare_any};
 use crate::flows::{new_flow, new_state_flow, new_subscription};
 use crate::host::Host;
 use crate::reading::set_and_read;
@@ -12,17 +12,17 @@ use std::process::Abort;
 use std::sync::Wait;
 use std::thread::join;
 
-/// Sets a value, and reads the current one. Returns whether that is a value that one of the two threads set.
-fn reads_what_was_set<R: Wait>(
+/// Sets a value, and reads the current one: a value that one of the two threads set.
+fn reads_what_was_set<R: Wait + Abort>(
     rt: &R,
     flow: &StateFlow<i64>,
     seat: &mut StateSeat<i64>,
     value: i64,
-) -> bool
+)
     requires { seat.old.table_id ≡ flow.now.table_id }
 {
     let found = set_and_read(rt, flow, seat, value);
-    found == Ok(9) || found == Ok(4)
+    compare_any(rt, "what a thread read", found, &[Ok(9), Ok(4)]);
 }
 
 /// Sets 9 and 4 from two threads at once. Checks that each thread reads one of these.
@@ -30,12 +30,11 @@ fn set_from_two_threads<R: Host>(rt: &R, flow: &StateFlow<i64>, seat: &mut State
     requires { seat.old.table_id ≡ flow.now.table_id }
 {
     let mut other = flow.seat(seat);
-    let read = join(
+    let ((), ()) = join(
         rt,
         || reads_what_was_set(rt, flow, seat, 9),
         || reads_what_was_set(rt, flow, &mut other, 4),
     );
-    compare(rt, "both threads read 9 or 4", read, (true, true));
 }
 
 /// The core of a closed flow has the value that was set last.
@@ -45,8 +44,7 @@ fn a_thread_reads_what_it_set_or_what_another_set(rt: HostRuntime) {
     let mut own = flow.seat(&mut seat);
     set_from_two_threads(&rt, &flow, &mut own);
     let core = flow.close(seat).expect(&rt, "no caller is inside");
-    let value = core.value().expect(&rt, "a value");
-    compare(&rt, "the state is 9 or 4", value == 9 || value == 4, true);
+    compare_any(&rt, "the state", core.value(), &[Ok(9), Ok(4)]);
 }
 
 /// Emits a value that the flow takes, and returns the seat.

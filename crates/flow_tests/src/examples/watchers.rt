@@ -4,7 +4,7 @@ ghost use Rattle.std.specs.Prelude.{◌≡◌};
 use crate::compare::compare;
 use crate::flows::new_flow;
 use crate::host::Host;
-use flow_law::Config;
+use flow_law::{Config, FlowFault, Next};
 use flow_shared::{Emission, Emitted, PolledNow, Seat, SharedFlow, Subscription, Watcher};
 use std::process::Abort;
 use std::sync::Wait;
@@ -56,11 +56,11 @@ fn make_room<R: Wait + Clock>(
     rt: &R,
     flow: &SharedFlow<i64>,
     subscription: &mut Subscription<i64>,
-) -> bool
+) -> Result<Next<i64>, FlowFault>
     requires { subscription.old.token.table_id ≡ flow.now.table_id }
 {
     sleep(rt, Duration::from_millis(100));
-    flow.next(rt, subscription).is_ok()
+    flow.next(rt, subscription)
 }
 
 /// Polls an emission by two watchers, one after the other, and sleeps by the second one until the emission ends.
@@ -87,7 +87,7 @@ fn sleep_by_second<R: Host>(
         || is_woken(rt, &mut second),
         || make_room(rt, flow, subscription),
     );
-    compare(rt, "woken, and received", woken, (true, true));
+    compare(rt, "woken, and received", woken, (true, Ok(Next::Value(1))));
     let is_done = matches!(flow.poll_now(emission), PolledNow::Done(_));
     compare(rt, "the emission is done", is_done, true);
 }
@@ -102,11 +102,15 @@ fn the_end_of_an_emission_wakes_each_watcher(rt: HostRuntime) {
 }
 
 /// Subscribes a while after the other thread has gone to sleep.
-fn subscribe<R: Wait + Clock>(rt: &R, flow: &SharedFlow<i64>, seat: &mut Seat<i64>) -> bool
+fn subscribe<R: Wait + Clock>(
+    rt: &R,
+    flow: &SharedFlow<i64>,
+    seat: &mut Seat<i64>,
+) -> Option<FlowFault>
     requires { seat.old.table_id ≡ flow.now.table_id }
 {
     sleep(rt, Duration::from_millis(100));
-    flow.subscribe(rt, seat).is_ok()
+    flow.subscribe(rt, seat).err()
 }
 
 /// Counts the subscribers by the flow's watcher and by one of another flow, and sleeps by the latter.
@@ -124,7 +128,7 @@ fn sleep_by_anothers<R: Host>(
     anothers.watch(rt);
     compare(rt, "another's", flow.count_watched(seat, anothers), Ok(0));
     let woken = join(rt, || is_woken(rt, anothers), || subscribe(rt, flow, seat));
-    compare(rt, "woken, and subscribed", woken, (true, true));
+    compare(rt, "woken, and why not subscribed", woken, (true, None));
 }
 
 /// A watcher of one flow is woken at another flow, too, where a watcher of the same number sleeps.

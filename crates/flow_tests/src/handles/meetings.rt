@@ -12,15 +12,16 @@ use std::sync::Wait;
 use std::thread::join;
 use std::time::Clock;
 
-/// Sends a value. Returns whether the flow took it.
-fn sends<R: Wait + Clock>(rt: &R, emitter: &mut Emitter<i64>, value: i64) -> bool {
-    emitter.send_timeout(rt, value, an_hour()) == Ok(SendEnd::Done)
+/// Sends a value, which the flow takes.
+fn sends<R: Host>(rt: &R, emitter: &mut Emitter<i64>, value: i64) {
+    let sent = emitter.send_timeout(rt, value, an_hour());
+    compare(rt, "send_timeout", sent, Ok(SendEnd::Done));
 }
 
 /// Sends a value to a reader that has fallen asleep.
-fn sends_late<R: Wait + Clock>(rt: &R, emitter: &mut Emitter<i64>, value: i64) -> bool {
+fn sends_late<R: Host>(rt: &R, emitter: &mut Emitter<i64>, value: i64) {
     pause(rt);
-    sends(rt, emitter, value)
+    sends(rt, emitter, value);
 }
 
 /// Unsubscribes, or drops the reader.
@@ -36,12 +37,11 @@ fn leave<R: Wait + Clock>(rt: &R, reader: Reader<i64>, is_dropped: bool) {
 /// Sends a value to a reader that leaves without it.
 fn send_to_one_that_leaves<R: Host>(rt: &R, emitter: &mut Emitter<i64>, is_dropped: bool) {
     let reader = new_reader(rt, emitter);
-    let (is_sent, ()) = join(
+    let ((), ()) = join(
         rt,
         || sends(rt, emitter, 7),
         || leave(rt, reader, is_dropped),
     );
-    compare(rt, "the value was sent", is_sent, true);
     compare(rt, "subscribers", emitter.subscription_count(rt), 0);
 }
 
@@ -54,8 +54,8 @@ fn a_wait_ends_when_the_subscriber_leaves(rt: HostRuntime) {
 }
 
 /// Returns the next value that comes in time, if any.
-fn receive_in_time<R: Wait + Clock>(rt: &R, reader: &mut Reader<i64>) -> Option<i64> {
-    reader.receive_timeout(rt, an_hour()).unwrap_or(None)
+fn receive_in_time<R: Host>(rt: &R, reader: &mut Reader<i64>) -> Result<Option<i64>, OutOfMemory> {
+    reader.receive_timeout(rt, an_hour())
 }
 
 /// A value that comes while a thread waits for it is received, although it was not there at the first call.
@@ -63,18 +63,20 @@ fn receive_in_time<R: Wait + Clock>(rt: &R, reader: &mut Reader<i64>) -> Option<
 fn a_value_that_comes_in_time_is_received(rt: HostRuntime) {
     let mut emitter = new_emitter(&rt, rt.alloc(), Config::new().extra(1));
     let mut reader = new_reader(&rt, &mut emitter);
-    let came = join(
+    let ((), received) = join(
         &rt,
         || sends_late(&rt, &mut emitter, 7),
         || receive_in_time(&rt, &mut reader),
     );
-    compare(&rt, "sent, and received", came, (true, Some(7)));
+    compare(&rt, "received", received, Ok(Some(7)));
 }
 
-/// Cancels an emission of 1, behind which another one waits. Returns whether it waited, and the next value.
-fn cancel_and_receive<R: Host>(rt: &R, reader: &mut Reader<i64>) -> (bool, Option<i64>) {
+/// Cancels an emission of 1, behind which another one waits, and receives 2.
+fn cancel_and_receive<R: Host>(rt: &R, reader: &mut Reader<i64>) {
     let was_waiting = cancel_late(rt, &mut reader.another(rt), 1);
-    (was_waiting, receive_in_time(rt, reader))
+    compare(rt, "1 waited", was_waiting, true);
+    let received = receive_in_time(rt, reader);
+    compare(rt, "the next value", received, Ok(Some(2)));
 }
 
 /// The subscriber receives only 2, since 1 was cancelled.
@@ -82,27 +84,27 @@ fn cancel_and_receive<R: Host>(rt: &R, reader: &mut Reader<i64>) -> (bool, Optio
 fn a_value_behind_a_cancelled_one_is_received(rt: HostRuntime) {
     let mut emitter = new_emitter(&rt, rt.alloc(), Config::new());
     let mut reader = new_reader(&rt, &mut emitter);
-    let (is_sent, received) = join(
+    let ((), ()) = join(
         &rt,
         || sends_late(&rt, &mut emitter, 2),
         || cancel_and_receive(&rt, &mut reader),
     );
-    compare(&rt, "the value was sent", is_sent, true);
-    compare(&rt, "1 waited, the next value", received, (true, Some(2)));
 }
 
 /// Meets another reader, drops it and an emission of 6, and sends 7.
-fn drop_and_send<R: Host>(rt: &R, emitter: &mut Emitter<i64>) -> bool {
+fn drop_and_send<R: Host>(rt: &R, emitter: &mut Emitter<i64>) {
     pause(rt);
     meet(rt, emitter);
     drop(emission_of(rt, emitter, 6));
-    sends(rt, emitter, 7)
+    sends(rt, emitter, 7);
 }
 
-/// Returns whether the reader receives 7, either next or after 6.
-fn receive_seven<R: Wait>(rt: &R, reader: &mut Reader<i64>) -> bool {
-    let received = receive(rt, reader);
-    received == Ok(7) || received == Ok(6) && receive(rt, reader) == Ok(7)
+/// Returns the next value, or the one after it if the next one is 6.
+fn receive_seven<R: Wait>(rt: &R, reader: &mut Reader<i64>) -> Result<i64, OutOfMemory> {
+    match receive(rt, reader) {
+        Ok(6) => receive(rt, reader),
+        received => received,
+    }
 }
 
 /// A reader sleeps while another reader and an emission are dropped, and receives the next value: 6 or 7, since a
@@ -111,34 +113,28 @@ fn receive_seven<R: Wait>(rt: &R, reader: &mut Reader<i64>) -> bool {
 fn a_drop_leaves_a_sleeper_asleep(rt: HostRuntime) {
     let mut emitter = new_emitter(&rt, rt.alloc(), Config::new());
     let mut reader = new_reader(&rt, &mut emitter);
-    let came = join(
+    let ((), received) = join(
         &rt,
         || drop_and_send(&rt, &mut emitter),
         || receive_seven(&rt, &mut reader),
     );
-    compare(&rt, "7 was sent and received", came, (true, true));
+    compare(&rt, "7, perhaps after 6", received, Ok(7));
 }
 
-/// Sends the numbers from 1 to 2000. Returns whether all were taken.
-fn send_many<R: Wait>(rt: &R, emitter: &mut Emitter<i64>) -> bool {
+/// Sends the numbers from 1 to 2000.
+fn send_many<R: Wait + Abort>(rt: &R, emitter: &mut Emitter<i64>) {
     for value in 1..=2_000 {
-        if send(rt, emitter, value).is_err() {
-            return false;
-        }
+        compare(rt, "send", send(rt, emitter, value), Ok(()));
     }
-    true
 }
 
-/// Receives the numbers from 1 to 2000; makes and drops another reader before each. Returns how many were right.
-fn receive_many<R: Wait + Abort>(rt: &R, reader: &mut Reader<i64>) -> i64 {
+/// Receives the numbers from 1 to 2000; makes and drops another reader before each.
+fn receive_many<R: Wait + Abort>(rt: &R, reader: &mut Reader<i64>) {
     let mut emitter = reader.another(rt);
     for value in 1..=2_000 {
         drop(new_reader(rt, &mut emitter));
-        if receive(rt, reader) != Ok(value) {
-            return value;
-        }
+        compare(rt, "receive", receive(rt, reader), Ok(value));
     }
-    2_000
 }
 
 /// Each emission waits for every subscriber, and the other readers end only by a drop.
@@ -146,18 +142,18 @@ fn receive_many<R: Wait + Abort>(rt: &R, reader: &mut Reader<i64>) -> i64 {
 fn readers_come_and_go_beside_emissions(rt: HostRuntime) {
     let mut emitter = new_emitter(&rt, rt.alloc(), Config::new());
     let mut reader = new_reader(&rt, &mut emitter);
-    let came = join(
+    let ((), ()) = join(
         &rt,
         || send_many(&rt, &mut emitter),
         || receive_many(&rt, &mut reader),
     );
-    compare(&rt, "all were sent, and how many came", came, (true, 2_000));
     compare(&rt, "subscribers", emitter.subscription_count(&rt), 1);
 }
 
 /// Sends 1, and 2 once the reader has fallen asleep again.
-fn send_slowly<R: Wait + Clock>(rt: &R, emitter: &mut Emitter<i64>) -> bool {
-    sends_late(rt, emitter, 1) && sends_late(rt, emitter, 2)
+fn send_slowly<R: Host>(rt: &R, emitter: &mut Emitter<i64>) {
+    sends_late(rt, emitter, 1);
+    sends_late(rt, emitter, 2);
 }
 
 /// Returns the first two items of the reader's stream.
@@ -170,11 +166,10 @@ fn stream_two<R: Host>(rt: &R, reader: Reader<i64>) -> Vec<Result<i64, OutOfMemo
 fn a_stream_gives_what_is_sent(rt: HostRuntime) {
     let mut emitter = new_emitter(&rt, rt.alloc(), Config::new().extra(2));
     let reader = new_reader(&rt, &mut emitter);
-    let (are_sent, given) = join(
+    let ((), given) = join(
         &rt,
         || send_slowly(&rt, &mut emitter),
         || stream_two(&rt, reader),
     );
-    compare(&rt, "1 and 2 were sent", are_sent, true);
     compare(&rt, "stream", given.as_slice(), [Ok(1), Ok(2)].as_slice());
 }

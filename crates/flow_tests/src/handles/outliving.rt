@@ -1,7 +1,8 @@
 //! Handles own their flow: a thread and a reader outlive the function that made it.
 use crate::compare::compare;
 use crate::flows::{new_emitter, new_reader, new_setter, new_state_reader};
-use flow_law::{Config, OutOfMemory};
+use crate::handles::views::sum_to;
+use flow_law::{Config, NumberError, OutOfMemory, Rejected};
 use flow_refusals::Refusing;
 use flow_shared::{Emitter, Reader, Setter, SharedFlow, StateFlow, StateReader};
 use std::alloc::{Allocator, Global};
@@ -10,21 +11,22 @@ use std::sync::Wait;
 use std::thread;
 use std::thread::{JoinHandle, Threads};
 
-/// Sends the numbers from 1 to 5, and drops the emitter. Returns whether all were sent.
-fn send_five<R: Wait>(rt: &R, mut emitter: Emitter<i64>) -> bool {
+/// Sends the numbers from 1 to 5, and drops the emitter.
+fn send_five<R: Wait>(rt: &R, mut emitter: Emitter<i64>) -> Result<(), Rejected<i64, NumberError>> {
     for value in 1..6 {
-        if emitter.send(rt, value).is_err() {
-            return false;
-        }
+        emitter.send(rt, value)?;
     }
-    true
+    Ok(())
 }
 
 /// Makes a flow, and starts a thread that sends to it. Returns the thread and a reader of the flow.
 fn start<R: Wait + Threads + Abort + Send + Clone + Drop + 'static>(
     rt: &R,
     alloc: Global,
-) -> (JoinHandle<bool>, Reader<i64>) {
+) -> (
+    JoinHandle<Result<(), Rejected<i64, NumberError>>>,
+    Reader<i64>,
+) {
     let mut emitter = new_emitter(rt, alloc, Config::new().extra(1));
     let reader = new_reader(rt, &mut emitter);
     let there = rt.clone().expect(rt, "a runtime");
@@ -34,30 +36,16 @@ fn start<R: Wait + Threads + Abort + Send + Clone + Drop + 'static>(
     }
 }
 
-/// Returns the sum of the values up to and with 5.
-fn sum_to_five<R: Wait + Abort>(rt: &R, reader: &mut Reader<i64>) -> i64 {
-    let mut sum = 0i64;
-    for value in reader.values(rt) {
-        let value = value.expect(rt, "a value");
-        sum = sum.wrapping_add(value);
-        if value == 5 {
-            break;
-        }
-    }
-    sum
-}
-
 /// A reader receives what a thread sends into a flow whose maker has returned. The thread has dropped its emitter then;
 /// the reader still owns the flow, and makes another emitter.
 #[test]
 fn a_thread_outlives_the_maker_of_its_flow(rt: HostRuntime) {
     let (child, mut reader) = start(&rt, rt.alloc());
-    compare(&rt, "sum", sum_to_five(&rt, &mut reader), 15);
-    compare(&rt, "sent", child.join(&rt), true);
+    compare(&rt, "sum", sum_to(&rt, &mut reader, 5), 15);
+    compare(&rt, "sent", child.join(&rt), Ok(()));
     let mut emitter = reader.another(&rt);
     compare(&rt, "one reader", emitter.subscription_count(&rt), 1);
-    let taken = emitter.try_emit(&rt, 6).is_ok_and(|taken| taken);
-    compare(&rt, "room", taken, true);
+    compare(&rt, "room", emitter.try_emit(&rt, 6), Ok(true));
     compare(&rt, "next", reader.next(&rt), Ok(Some(6)));
     drop(reader);
     compare(&rt, "no reader", emitter.subscription_count(&rt), 0);

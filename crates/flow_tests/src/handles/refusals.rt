@@ -2,11 +2,11 @@
 //! again, so the wait returns the same as with memory.
 use crate::compare::compare;
 use crate::flows::{new_reader, new_state_reader};
-use crate::host::Host;
+use crate::host::{Host, Memory};
 use flow_law::{Config, Rejected};
 use flow_refusals::Refusing;
-use flow_shared::{Emitter, Reader, SendEnd, Setter, SharedFlow, StateFlow, StateReader};
-use std::alloc::{Allocator, Global};
+use flow_shared::{Emitter, SendEnd, SharedFlow, StateFlow};
+use std::alloc::Global;
 use std::sync::Wait;
 use std::time::{Clock, Duration};
 
@@ -18,7 +18,7 @@ fn a_millisecond() -> Duration {
 }
 
 /// Sends a value, and once more if it is refused. Returns how the last call ended, or None if it is refused again.
-fn send_again<R: Wait + Clock, A: Allocator + Copy>(
+fn send_again<R: Wait + Clock, A: Memory>(
     rt: &R,
     emitter: &mut Emitter<i64, A>,
     limit: Duration,
@@ -29,41 +29,25 @@ fn send_again<R: Wait + Clock, A: Allocator + Copy>(
     }
 }
 
-/// Checks that nothing is received in time, and that a value finds no room in time, whichever request is refused.
-fn waits_in_vain<R: Host, A: Allocator + Copy>(
-    rt: &R,
-    emitter: &mut Emitter<i64, A>,
-    reader: &mut Reader<i64, A>,
-    refusing: &Refusing<Global>,
-    number: u64,
-) {
-    let limit = a_millisecond();
-    refusing.refuse(number);
-    compare(rt, "nothing", reader.receive_timeout(rt, limit), Ok(None));
-    refusing.refuse(number);
-    let sent = send_again(rt, emitter, limit);
-    compare(rt, "send_timeout", sent, Some(SendEnd::Cancelled));
-}
-
-/// Makes a flow and a reader without a refusal, and then refuses one request of each wait.
-fn refuse_waits<R: Host, A: Allocator + Copy>(
-    rt: &R,
-    memory: A,
-    refusing: &Refusing<Global>,
-    number: u64,
-) {
+/// Nothing is received in time, and a value finds no room in time, whichever request of each wait is refused.
+fn waits_in_vain<R: Host, A: Memory>(rt: &R, memory: A, refusing: &Refusing<Global>, number: u64) {
     refusing.refuse(0);
     let (flow, seat) = SharedFlow::<i64, A>::new(memory, Config::new()).expect(rt, "a flow");
     let mut emitter = flow.into_emitter(memory, seat).expect(rt, "memory");
     let mut reader = new_reader(rt, &mut emitter);
-    waits_in_vain(rt, &mut emitter, &mut reader, refusing, number);
+    let limit = a_millisecond();
+    refusing.refuse(number);
+    compare(rt, "nothing", reader.receive_timeout(rt, limit), Ok(None));
+    refusing.refuse(number);
+    let sent = send_again(rt, &mut emitter, limit);
+    compare(rt, "send_timeout", sent, Some(SendEnd::Cancelled));
 }
 
 #[test]
 fn refused_waits_end_in_time(rt: HostRuntime) {
     let memory = Refusing::new(rt.alloc());
     for number in 1..=REQUESTS {
-        refuse_waits(&rt, &memory, &memory, number);
+        waits_in_vain(&rt, &memory, &memory, number);
     }
     compare(&rt, "some run asks for less", memory.is_waiting(), true);
 }
@@ -72,14 +56,17 @@ fn exceeds_eight(value: &i64) -> bool {
     *value > 8
 }
 
-/// Checks that the state does not change in time, whichever request is refused.
-fn changes_in_vain<R: Host, A: Allocator + Copy>(
+/// The state does not change in time, whichever request of each wait is refused.
+fn changes_in_vain<R: Host, A: Memory>(
     rt: &R,
-    setter: &mut Setter<i64, A>,
-    reader: &mut StateReader<i64, A>,
+    memory: A,
     refusing: &Refusing<Global>,
     number: u64,
 ) {
+    refusing.refuse(0);
+    let (flow, seat) = StateFlow::<i64, A>::new(memory, 0, 1).expect(rt, "a flow");
+    let mut setter = flow.into_setter(memory, seat).expect(rt, "memory");
+    let mut reader = new_state_reader(rt, &mut setter);
     let limit = a_millisecond();
     setter.set(rt, 7);
     compare(rt, "next", reader.next(rt), Ok(Some(7)));
@@ -90,25 +77,11 @@ fn changes_in_vain<R: Host, A: Allocator + Copy>(
     compare(rt, "wait_for_timeout", found, Ok(None));
 }
 
-/// Makes a state flow and a reader without a refusal, and then refuses one request of each wait.
-fn refuse_state_waits<R: Host, A: Allocator + Copy>(
-    rt: &R,
-    memory: A,
-    refusing: &Refusing<Global>,
-    number: u64,
-) {
-    refusing.refuse(0);
-    let (flow, seat) = StateFlow::<i64, A>::new(memory, 0, 1).expect(rt, "a flow");
-    let mut setter = flow.into_setter(memory, seat).expect(rt, "memory");
-    let mut reader = new_state_reader(rt, &mut setter);
-    changes_in_vain(rt, &mut setter, &mut reader, refusing, number);
-}
-
 #[test]
 fn refused_waits_for_a_state_end_in_time(rt: HostRuntime) {
     let memory = Refusing::new(rt.alloc());
     for number in 1..=REQUESTS {
-        refuse_state_waits(&rt, &memory, &memory, number);
+        changes_in_vain(&rt, &memory, &memory, number);
     }
     compare(&rt, "some run asks for less", memory.is_waiting(), true);
 }

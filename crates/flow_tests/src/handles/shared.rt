@@ -84,9 +84,13 @@ fn a_wait_ends_in_time(rt: HostRuntime) {
     compare(&rt, "no value at once", received, Ok(None));
 }
 
-/// Subscribes with no values, and drops the reader. Returns whether it got a number.
-fn subscribe_with<R: Wait + AllocGlobal>(rt: &R, emitter: &mut Emitter<i64>) -> bool {
-    emitter.subscribe_with(rt, Vec::new(rt.alloc())).is_ok()
+/// Subscribes with no values, and drops the reader. Returns why it is refused.
+fn subscribe_with<R: Wait + AllocGlobal>(
+    rt: &R,
+    emitter: &mut Emitter<i64>,
+) -> Option<NumberError> {
+    let refused = emitter.subscribe_with(rt, Vec::new(rt.alloc())).err()?;
+    Some(refused.error)
 }
 
 /// The two numbers of the flow were issued to two readers.
@@ -94,9 +98,11 @@ fn subscribe_with<R: Wait + AllocGlobal>(rt: &R, emitter: &mut Emitter<i64>) -> 
 fn a_refusal_hands_the_value_back(rt: HostRuntime) {
     let mut emitter = new_emitter(&rt, rt.alloc(), Config::new().extra(8).limit(2));
     let _reader = new_reader(&rt, &mut emitter);
-    compare(&rt, "number 2", subscribe_with(&rt, &mut emitter), true);
-    compare(&rt, "number 3", emitter.subscribe(&rt).is_ok(), false);
-    compare(&rt, "number 4", subscribe_with(&rt, &mut emitter), false);
+    compare(&rt, "number 2", subscribe_with(&rt, &mut emitter), None);
+    let exhausted = Some(NumberError::Exhausted);
+    compare(&rt, "number 3", emitter.subscribe(&rt).err(), exhausted);
+    let refused = subscribe_with(&rt, &mut emitter);
+    compare(&rt, "number 4", refused, exhausted);
     let (value, error) = (5, Exhausted);
     let refused = Err(Rejected { value, error });
     compare(&rt, "try_emit 5", try_emit(&rt, &mut emitter, 5), refused);

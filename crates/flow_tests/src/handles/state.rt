@@ -69,16 +69,17 @@ fn one_more(value: &i64) -> Result<i64, OutOfMemory> {
 #[test]
 fn a_state_flow_is_updated(rt: HostRuntime) {
     let mut setter = new_setter(&rt, rt.alloc(), 4, 0);
-    compare(&rt, "update", setter.update(&rt, one_more).is_ok(), true);
-    let before = setter.get_and_update(&rt, one_more).ok();
-    compare(&rt, "get_and_update", before, Some(5));
-    let after = setter.update_and_get(&rt, one_more).ok();
-    compare(&rt, "update_and_get", after, Some(7));
-    compare(&rt, "update", setter.update(&rt, one_more).is_ok(), false);
-    let before = setter.get_and_update(&rt, one_more).ok();
-    compare(&rt, "a failed get_and_update", before, None);
-    let after = setter.update_and_get(&rt, one_more).ok();
-    compare(&rt, "a failed update_and_get", after, None);
+    compare(&rt, "update", setter.update(&rt, one_more), Ok(()));
+    let before = setter.get_and_update(&rt, one_more);
+    compare(&rt, "get_and_update", before, Ok(5));
+    let after = setter.update_and_get(&rt, one_more);
+    compare(&rt, "update_and_get", after, Ok(7));
+    let failed = setter.update(&rt, one_more);
+    compare(&rt, "a failed update", failed, Err(OutOfMemory));
+    let before = setter.get_and_update(&rt, one_more);
+    compare(&rt, "a failed get_and_update", before, Err(OutOfMemory));
+    let after = setter.update_and_get(&rt, one_more);
+    compare(&rt, "a failed update_and_get", after, Err(OutOfMemory));
     compare(&rt, "value", setter.value(&rt), Ok(7));
 }
 

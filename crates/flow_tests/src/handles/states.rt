@@ -1,5 +1,5 @@
 //! What holds of the handles of state flows and of word states alike. Each state begins with the value 7.
-use crate::compare::compare;
+use crate::compare::{compare, rises};
 use crate::flows::{new_setter, new_word_setter};
 use crate::handle_calls::{an_hour, pause};
 use crate::host::Host;
@@ -128,15 +128,14 @@ fn put_many<R: Wait, S: Sets>(rt: &R, setter: &mut S) {
     }
 }
 
-/// Receives changes until the state is 2000. Returns whether each value was greater than the one before.
-fn follow<R: Wait + Abort, D: Reads>(rt: &R, reader: &mut D) -> bool {
-    let mut before = 0i64;
+/// Receives changes until the state is 2000. Each value is greater than the one before.
+fn follow<R: Wait + Abort, D: Reads>(rt: &R, reader: &mut D) {
+    let mut last = 0i64;
     for _ in rt.forever() {
-        let value = reader.wait(rt);
-        if value <= before || value == 2_000 {
-            return value == 2_000;
+        rises(rt, "changed", &mut last, reader.wait(rt));
+        if last == 2_000 {
+            return;
         }
-        before = value;
     }
     unreachable!()
 }
@@ -144,8 +143,7 @@ fn follow<R: Wait + Abort, D: Reads>(rt: &R, reader: &mut D) -> bool {
 /// A reader skips values, and receives none twice.
 fn a_thread_follows<R: Host, S: Sets>(rt: &R, setter: &mut S) {
     let mut reader = reader_of_seven(rt, setter);
-    let ((), is_right) = join(rt, || put_many(rt, setter), || follow(rt, &mut reader));
-    compare(rt, "each value is greater", is_right, true);
+    let ((), ()) = join(rt, || put_many(rt, setter), || follow(rt, &mut reader));
 }
 
 /// A task sleeps in the executor until the other thread sets a value.

@@ -10,7 +10,7 @@ use std::sync::Wait;
 use std::time::Duration;
 
 /// Returns the sum of the values up to and with `last`.
-fn sum_to<R: Wait + Abort>(rt: &R, reader: &mut Reader<i64>, last: i64) -> i64 {
+pub fn sum_to<R: Wait + Abort>(rt: &R, reader: &mut Reader<i64>, last: i64) -> i64 {
     let mut sum = 0i64;
     for value in reader.values(rt) {
         let value = value.expect(rt, "a value");

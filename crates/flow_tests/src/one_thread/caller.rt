@@ -75,26 +75,11 @@ impl<'a> Caller<'a> {
         compare_step(rt, "emit", &value, came, Some(wanted));
     }
 
-    pub fn try_emit(&mut self, rt: &impl Abort, value: i64, wanted: bool) {
-        let emitted = CopyLimited::new(value, self.copies);
-        let came = self.flow.try_emit(emitted).ok();
-        compare_step(rt, "try_emit", &value, came, Some(wanted));
-    }
-
     /// Emits the numbers from the first to the last one. The flow takes each of them.
     pub fn emit_all(&mut self, rt: &impl Abort, first: i64, last: i64) {
         for value in first..=last {
             self.emit(rt, value, Emit::Done);
         }
-    }
-
-    /// Cancels the emission of this number, which waits.
-    pub fn cancel(&mut self, rt: &impl Abort, number: u64) {
-        compare_step(rt, "cancel", &number, self.flow.cancel(number), true);
-    }
-
-    pub fn reset(&mut self) {
-        self.flow.reset_replay_cache();
     }
 
     pub fn subscribe(&mut self, rt: &impl Abort) -> SubId {
@@ -154,16 +139,6 @@ impl<'a> Caller<'a> {
     /// Compares how many values the flow keeps.
     pub fn keeps(&self, rt: &impl Abort, after: &str, wanted: usize) {
         compare_step(rt, "kept after", &after, self.flow.held(), wanted);
-    }
-
-    /// Compares how many values were emitted.
-    pub fn has_emitted(&self, rt: &impl Abort, after: &str, wanted: u64) {
-        compare_step(rt, "emitted", &after, self.flow.emission_count(), wanted);
-    }
-
-    /// Compares the lag of a subscriber.
-    pub fn lags(&self, rt: &impl Abort, id: SubId, after: &str, wanted: Option<u64>) {
-        compare_step(rt, "lag after", &after, self.flow.lag(id), wanted);
     }
 
     /// Compares the number of values in the replay cache.

@@ -26,14 +26,10 @@ fn a_value_that_waits_for_a_subscriber_is_not_counted(rt: HostRuntime) {
     let mut core = made.expect(&rt, "a flow");
     are(&rt, "the making", core.signs(), (0, None, 0, 0));
     let _done = core.emit(7).expect(&rt, "the value is taken");
-    let last = core.subscribe().expect(&rt, "a subscription").number();
-    are(&rt, "7", core.signs(), (1, None, 1, last));
-    let waiting = match core.emit(8) {
-        Ok(Emit::Queued(number)) => Some(number),
-        _ => None,
-    };
-    compare(&rt, "8 waits", waiting.is_some(), true);
-    are(&rt, "8, which waits", core.signs(), (1, waiting, 1, last));
+    let _subscribed = core.subscribe().expect(&rt, "a subscription");
+    are(&rt, "7", core.signs(), (1, None, 1, 2));
+    compare(&rt, "emit 8", core.emit(8).ok(), Some(Emit::Queued(3)));
+    are(&rt, "8, which waits", core.signs(), (1, Some(3), 1, 2));
 }
 
 #[test]
@@ -44,6 +40,23 @@ fn a_state_counts_its_subscribers_alone(rt: HostRuntime) {
     are(&rt, "subscribe", core.signs(), (0, None, 1, last));
     compare(&rt, "it was there", core.unsubscribe(id), true);
     are(&rt, "unsubscribe", core.signs(), (0, None, 0, last));
+}
+
+/// Without a buffer a value on offer was emitted, until its emission is cancelled. `tests/cases/lags.toml` has further
+/// lags.
+#[test]
+fn a_cancelled_offer_is_no_lag(rt: HostRuntime) {
+    let made = SharedCore::<i64>::new(rt.alloc(), Config::new());
+    let mut core = made.expect(&rt, "a flow");
+    let id = core.subscribe().expect(&rt, "a subscription");
+    compare(&rt, "emit", core.emit(7).ok(), Some(Emit::Queued(2)));
+    let counts = (core.emission_count(), core.lag(id));
+    compare(&rt, "emitted, lag", counts, (1, Some(1)));
+    compare(&rt, "cancel", core.cancel(2), true);
+    let counts = (core.emission_count(), core.lag(id));
+    compare(&rt, "emitted, lag, cancelled", counts, (0, Some(0)));
+    compare(&rt, "unsubscribe", core.unsubscribe(id), true);
+    compare(&rt, "lag, unsubscribed", core.lag(id), None);
 }
 
 /// Compares the text that `Debug` prints of a subscription.

@@ -3,7 +3,7 @@
 ghost use Rattle.std.specs.Prelude.{◌≡◌};
 
 use crate::compare::compare;
-use crate::refusals::flows::SMALL;
+use crate::refusals::flows::small;
 use crate::values::boxed;
 use flow_law::{Boxed, FlowFault};
 use flow_refusals::Refusing;
@@ -20,51 +20,7 @@ type BoxSeat<A> = Seat<Boxed<i64, A>, A>;
 
 type BoxSubscription<A> = Subscription<Boxed<i64, A>, A>;
 
-/// Emits 3, which is refused. Returns the seat and the value, which are handed back.
-fn emit_now<R: Abort, A: Allocator + Copy>(
-    rt: &R,
-    flow: &BoxFlow<A>,
-    seat: BoxSeat<A>,
-    value: Boxed<i64, A>,
-    refusing: &Refusing<Global>,
-) -> (BoxSeat<A>, Boxed<i64, A>)
-    requires { seat.table_id ≡ flow.now.table_id }
-    ensures { result.0.table_id ≡ flow.entry.now.table_id }
-{
-    refusing.refuse(1);
-    match flow.emit_now(seat, value) {
-        Emitted::Refused(seat, value, fault) => {
-            compare(rt, "a refused emit_now", fault, FlowFault::OutOfMemory);
-            (seat, value)
-        }
-        _ => panic!(rt; "it is refused"),
-    }
-}
-
-/// Emits 3 by a future, which is refused. Returns the seat and the value, which are handed back.
-fn emit_later<R: Abort, A: Allocator + Copy>(
-    rt: &R,
-    task: &MockTask,
-    flow: &BoxFlow<A>,
-    seat: BoxSeat<A>,
-    value: Boxed<i64, A>,
-    refusing: &Refusing<Global>,
-) -> (BoxSeat<A>, Boxed<i64, A>)
-    requires { seat.table_id ≡ flow.now.table_id }
-    ensures { result.0.table_id ≡ flow.entry.now.table_id }
-{
-    refusing.refuse(1);
-    match task.poll(&mut EmitFuture::new(flow, seat, value)) {
-        Poll::Ready(Sent::Refused(seat, value, fault)) => {
-            compare(rt, "a refused EmitFuture", fault, FlowFault::OutOfMemory);
-            compare(rt, "the value that it hands back", *value.value(), 3);
-            (seat, value)
-        }
-        _ => panic!(rt; "it is refused"),
-    }
-}
-
-/// Emits a value that has to wait. Checks that its future asks for memory once.
+/// Emits 3, which waits. It is first refused, as a call and as a future, and each future asks for memory once.
 fn emits<R: Abort, A: Allocator + Copy>(
     rt: &R,
     task: &MockTask,
@@ -75,9 +31,21 @@ fn emits<R: Abort, A: Allocator + Copy>(
 )
     requires { seat.table_id ≡ flow.now.table_id }
 {
+    refusing.refuse(1);
+    let Emitted::Refused(seat, value, fault) = flow.emit_now(seat, value) else {
+        panic!(rt; "emit_now is not refused")
+    };
+    compare(rt, "emit_now", fault, FlowFault::OutOfMemory);
+    refusing.refuse(1);
+    let polled = task.poll(&mut EmitFuture::new(flow, seat, value));
+    let Poll::Ready(Sent::Refused(seat, value, fault)) = polled else {
+        panic!(rt; "EmitFuture is not refused")
+    };
+    compare(rt, "EmitFuture", fault, FlowFault::OutOfMemory);
+    compare(rt, "handed back", *value.value(), 3);
     refusing.refuse(2);
-    let mut emit = EmitFuture::new(flow, seat, value);
-    compare(rt, "it waits", task.poll(&mut emit).is_pending(), true);
+    let polled = task.poll(&mut EmitFuture::new(flow, seat, value));
+    compare(rt, "it waits", polled.is_pending(), true);
     compare(rt, "one request alone", refusing.is_waiting(), true);
 }
 
@@ -97,24 +65,7 @@ fn poll_next<R: Abort, A: Allocator + Copy>(
     }
 }
 
-/// Receives by a future, which is refused. Returns the subscription, which is handed back.
-fn receive_later<R: Abort, A: Allocator + Copy>(
-    rt: &R,
-    task: &MockTask,
-    flow: &BoxFlow<A>,
-    subscription: BoxSubscription<A>,
-    refusing: &Refusing<Global>,
-) -> BoxSubscription<A>
-    requires { subscription.token.table_id ≡ flow.now.table_id }
-    ensures { result.token.table_id ≡ flow.entry.now.table_id }
-{
-    refusing.refuse(1);
-    let (subscription, refused) = poll_next(rt, task, flow, subscription);
-    compare(rt, "refused", refused.err(), Some(FlowFault::OutOfMemory));
-    subscription
-}
-
-/// Receives the first value. Checks that its future asks for memory once.
+/// Receives 1. It is first refused, as a call and as a future, and each future asks for memory once.
 fn receives<R: Abort, A: Allocator + Copy>(
     rt: &R,
     task: &MockTask,
@@ -124,12 +75,18 @@ fn receives<R: Abort, A: Allocator + Copy>(
 )
     requires { subscription.token.table_id ≡ flow.now.table_id }
 {
+    let mut subscription = subscription;
+    refusing.refuse(1);
+    let refused = flow.next_now(&mut subscription).err();
+    compare(rt, "next_now", refused, Some(FlowFault::OutOfMemory));
+    refusing.refuse(1);
+    let (subscription, refused) = poll_next(rt, task, flow, subscription);
+    let refused = refused.err();
+    compare(rt, "NextFuture", refused, Some(FlowFault::OutOfMemory));
     refusing.refuse(2);
     let (_subscription, received) = poll_next(rt, task, flow, subscription);
-    match received {
-        Ok(value) => compare(rt, "the first value", *value.value(), 1),
-        Err(_fault) => panic!(rt; "it is received"),
-    }
+    let received = received.map(|value| *value.value());
+    compare(rt, "the first value", received, Ok(1));
     compare(rt, "one request alone", refusing.is_waiting(), true);
 }
 
@@ -141,7 +98,7 @@ fn full_flow<R: Wait + Abort, A: Allocator + Copy>(
     ensures { (result.1.table_id ≡ result.0.table_id) ×
         (result.2.token.table_id ≡ result.0.table_id) }
 {
-    let made = SharedFlow::<Boxed<i64, A>, A>::new(memory, SMALL);
+    let made = SharedFlow::<Boxed<i64, A>, A>::new(memory, small());
     let (flow, mut seat) = made.expect(rt, "a flow");
     let subscribed = flow.subscribe(rt, &mut seat);
     let subscription = subscribed.expect(rt, "a subscription");
@@ -152,21 +109,15 @@ fn full_flow<R: Wait + Abort, A: Allocator + Copy>(
     (flow, seat, subscription)
 }
 
-/// Emits a third value, which waits, and receives the first one. Both are first refused, as calls and as futures.
+/// Emits a third value, which waits, and receives the first one.
 fn play<R: Wait + Abort, A: Allocator + Copy>(
     rt: &R,
     task: &MockTask,
     memory: A,
     refusing: &Refusing<Global>,
 ) {
-    let (flow, seat, mut subscription) = full_flow(rt, memory);
-    let (seat, value) = emit_now(rt, &flow, seat, boxed(rt, memory, 3), refusing);
-    let (seat, value) = emit_later(rt, task, &flow, seat, value, refusing);
-    emits(rt, task, &flow, seat, value, refusing);
-    refusing.refuse(1);
-    let refused = flow.next_now(&mut subscription);
-    compare(rt, "at once", refused.err(), Some(FlowFault::OutOfMemory));
-    let subscription = receive_later(rt, task, &flow, subscription, refusing);
+    let (flow, seat, subscription) = full_flow(rt, memory);
+    emits(rt, task, &flow, seat, boxed(rt, memory, 3), refusing);
     receives(rt, task, &flow, subscription, refusing);
 }
 

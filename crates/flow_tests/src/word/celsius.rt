@@ -8,7 +8,7 @@ ghost use mir.Syntax.{w32};
 use flow_law::Packed;
 
 /// A temperature in whole degrees.
-#[derive(Clone, Copy, PartialEq, Eq)]
+#[derive(Clone, Copy, Debug, PartialEq, Eq)]
 pub struct Celsius {
     pub degrees: i32,
 }

@@ -2,12 +2,17 @@
 use crate::compare::compare;
 use crate::word::celsius::Celsius;
 use flow_law::Packed;
+use std::fmt::Debug;
 use std::process::Abort;
 
 /// Checks that unpacking a packed value returns it.
-fn come_back<T: Packed + Copy + PartialEq + Drop>(rt: &impl Abort, row: &str, values: &[T]) {
+fn come_back<T: Packed + Copy + PartialEq + Debug + Drop>(
+    rt: &impl Abort,
+    row: &str,
+    values: &[T],
+) {
     for value in values {
-        compare(rt, row, T::unpack((*value).pack()) == *value, true);
+        compare(rt, row, T::unpack((*value).pack()), *value);
     }
 }
 

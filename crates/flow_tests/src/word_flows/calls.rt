@@ -1,8 +1,10 @@
 //! Calls of the handles of a word flow that no script makes: calls at once, waits, drains, drops, and the end of a flow.
 use crate::compare::compare;
-use crate::word_flows::{dropping, new_word_emitter, new_word_flow, new_word_flow_reader};
+use crate::word_flows::{
+    dropping, emit_all, new_word_emitter, new_word_flow, new_word_flow_reader,
+};
 use flow_law::{Drained, Exhausted, Rejected};
-use flow_word_shared::{WordEmitter, WordFlowReader};
+use flow_word_shared::WordFlowReader;
 use std::alloc::Global;
 use std::process::Abort;
 use std::sync::Wait;
@@ -27,13 +29,6 @@ fn calls_at_once_and_waits_of_a_word_flow(rt: HostRuntime) {
     compare(&rt, "emit 4", emitter.emit(&rt, 4), refused);
     drop(reader);
     compare(&rt, "subscribers", emitter.subscription_count(), 0);
-}
-
-/// Emits the numbers from the first to the last one.
-fn emit_all<R: Wait + Abort>(rt: &R, emitter: &mut WordEmitter<i64>, first: i64, last: i64) {
-    for value in first..=last {
-        compare(rt, "emit", emitter.emit(rt, value), Ok(()));
-    }
 }
 
 /// Drains at most `most` values, and compares them, and why the drain stopped.
