@@ -89,8 +89,9 @@ def equal_sets():
     yield "a set of an equal value has ended before the value was read anew", again(5), 8
     yield "a set of an equal value may have happened after another value was read", again(9), None
     both = made("t1", "set", 0, 9, value=1), made("t1", "set", 0, 9, value=2)
-    read = [made("t2", "value", begin, end, {"value": value}) for begin, end, value in ((1, 2, 1), (3, 4, 2), (6, 7, 1))]
-    yield "1 and 2 are set in the same moments, and 1 is set by another caller", whole(*both, made("t3", "set", 0, 5, value=1), *read, flow=STATE), None
+    other = made("t2", "set", 0, 5, value=1)
+    read = [made("t3", "value", begin, end, {"value": value}) for begin, end, value in ((1, 2, 1), (3, 4, 2), (6, 7, 1))]
+    yield "one caller sets 1 and 2 in the same moments, and another one sets 1", whole(*both, other, *read, flow=STATE), None
 
 
 def worked_records():

@@ -33,6 +33,7 @@ pub fn compare_step<S: Debug, T: PartialEq + Debug + Drop>(
 
 /// Ends the test unless this value of a row is greater than the last one, whose place it then takes.
 pub fn rises<T: PartialOrd + Copy + Debug>(rt: &impl Abort, row: &str, last: &mut T, value: T) {
-    assert!(rt; value > *last, "{row}: {value:?} came after {last:?}");
+    let before = *last;
+    assert!(rt; value > before, "{row}: {value:?} came after {before:?}");
     *last = value;
 }

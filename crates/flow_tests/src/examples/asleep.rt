@@ -4,12 +4,15 @@ use crate::flows::{new_emitter, new_reader};
 use crate::handle_calls::next;
 use crate::host::Host;
 use flow_core::SharedCore;
-use flow_law::{Config, OutOfMemory};
+use flow_law::{Config, NumberError, OutOfMemory, Rejected};
 use flow_shared::{Emitter, Reader, ReceiveFuture, SendFuture};
 use futures::task::Poll;
 use futures::test::MockTask;
 use std::process::Abort;
 use std::sync::Wait;
+
+/// How an emission ends.
+type Sent = Result<(), Rejected<i64, NumberError>>;
 
 /// Polls once. Returns what the subscriber receives, or `None` if the future is pending.
 fn received(
@@ -22,10 +25,10 @@ fn received(
     }
 }
 
-/// Polls once. Returns whether the emission is done, or `None` if the future is pending.
-fn sent(task: &MockTask, future: &mut SendFuture<i64>) -> Option<bool> {
+/// Polls once. Returns how the emission ended, or `None` if the future is pending.
+fn sent(task: &MockTask, future: &mut SendFuture<i64>) -> Option<Sent> {
     match task.poll(future) {
-        Poll::Ready((_emitter, sent)) => Some(sent.is_ok()),
+        Poll::Ready((_emitter, sent)) => Some(sent),
         Poll::Pending => None,
     }
 }
@@ -58,7 +61,7 @@ fn wakes_emitter<R: Wait + Abort>(
     compare(rt, "the emitter sleeps on", task.is_woken(), false);
     compare(rt, "the other reader", next(rt, reader), Ok(Some(7)));
     compare(rt, "the last reader wakes it", task.is_woken(), true);
-    compare(rt, "the emission is done", sent(task, send), Some(true));
+    compare(rt, "the emission is done", sent(task, send), Some(Ok(())));
 }
 
 /// Checks that a subscriber's task sleeps until 7 is emitted, and the emitter's task until that subscriber and a reader

@@ -14,9 +14,9 @@ use std::thread::join;
 const WANTED: Ends = Ends { all: 100, ..EACH };
 
 /// Reads once. Returns the value that the reader receives, if any.
-fn read<R: Wait>(rt: &R, start: &Barrier, run: u32, reader: &mut Reader<i64>) -> Option<i64> {
+fn read<R: Host>(rt: &R, start: &Barrier, run: u32, reader: &mut Reader<i64>) -> Option<i64> {
     begin(rt, start, run);
-    next(rt, reader).unwrap_or(None)
+    next(rt, reader).expect(rt, "memory")
 }
 
 /// Cancels the emission. Returns whether it waited until then.

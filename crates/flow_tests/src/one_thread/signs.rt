@@ -28,7 +28,7 @@ fn a_value_that_waits_for_a_subscriber_is_not_counted(rt: HostRuntime) {
     let _done = core.emit(7).expect(&rt, "the value is taken");
     let _subscribed = core.subscribe().expect(&rt, "a subscription");
     are(&rt, "7", core.signs(), (1, None, 1, 2));
-    compare(&rt, "emit 8", core.emit(8).ok(), Some(Emit::Queued(3)));
+    compare(&rt, "emit 8", core.emit(8), Ok(Emit::Queued(3)));
     are(&rt, "8, which waits", core.signs(), (1, Some(3), 1, 2));
 }
 
@@ -49,7 +49,7 @@ fn a_cancelled_offer_is_no_lag(rt: HostRuntime) {
     let made = SharedCore::<i64>::new(rt.alloc(), Config::new());
     let mut core = made.expect(&rt, "a flow");
     let id = core.subscribe().expect(&rt, "a subscription");
-    compare(&rt, "emit", core.emit(7).ok(), Some(Emit::Queued(2)));
+    compare(&rt, "emit", core.emit(7), Ok(Emit::Queued(2)));
     let counts = (core.emission_count(), core.lag(id));
     compare(&rt, "emitted, lag", counts, (1, Some(1)));
     compare(&rt, "cancel", core.cancel(2), true);

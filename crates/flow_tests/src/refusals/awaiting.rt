@@ -103,9 +103,9 @@ fn full_flow<R: Wait + Abort, A: Allocator + Copy>(
     let subscribed = flow.subscribe(rt, &mut seat);
     let subscription = subscribed.expect(rt, "a subscription");
     let taken = flow.try_emit(rt, &mut seat, boxed(rt, memory, 1));
-    compare(rt, "try_emit 1", taken.ok(), Some(true));
+    compare(rt, "try_emit 1", taken, Ok(true));
     let taken = flow.try_emit(rt, &mut seat, boxed(rt, memory, 2));
-    compare(rt, "try_emit 2", taken.ok(), Some(true));
+    compare(rt, "try_emit 2", taken, Ok(true));
     (flow, seat, subscription)
 }
 
