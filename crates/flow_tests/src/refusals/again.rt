@@ -9,7 +9,7 @@ use std::process::Abort;
 /// A number greater than that of the runs of an example.
 const MANY: u64 = 200;
 
-/// The calls of an example that may take memory, by their names, which differ.
+/// The calls of an example that take memory. Each has a name of its own.
 #[derive(Drop)]
 pub struct Calls {
     /// Those of this run.

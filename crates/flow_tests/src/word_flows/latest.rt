@@ -28,8 +28,8 @@ pub(super) fn new_flow<T: Words>(
     Closing::new(rt, alloc, flow, seat)
 }
 
-/// The flow has a place for one reader. It is free again once its reader has left. The first of two values is received
-/// in one of three ways, and the second one is dropped.
+/// The flow has a place for one reader. It is free again once its reader has left. While that one is a full buffer behind,
+/// values are dropped.
 #[test]
 fn a_place_is_free_after_its_reader_has_left(rt: HostRuntime) {
     let (closing, mut emitter) = new_flow(&rt, rt.alloc(), 1, 1);
