@@ -42,23 +42,6 @@ fn a_state_counts_its_subscribers_alone(rt: HostRuntime) {
     are(&rt, "unsubscribe", core.signs(), (0, None, 0, last));
 }
 
-/// Without a buffer a value on offer was emitted, until its emission is cancelled. `tests/cases/lags.toml` has further
-/// lags.
-#[test]
-fn a_cancelled_offer_is_no_lag(rt: HostRuntime) {
-    let made = SharedCore::<i64>::new(rt.alloc(), Config::new());
-    let mut core = made.expect(&rt, "a flow");
-    let id = core.subscribe().expect(&rt, "a subscription");
-    compare(&rt, "emit", core.emit(7), Ok(Emit::Queued(2)));
-    let counts = (core.emission_count(), core.lag(id));
-    compare(&rt, "emitted, lag", counts, (1, Some(1)));
-    compare(&rt, "cancel", core.cancel(2), true);
-    let counts = (core.emission_count(), core.lag(id));
-    compare(&rt, "emitted, lag, cancelled", counts, (0, Some(0)));
-    compare(&rt, "unsubscribe", core.unsubscribe(id), true);
-    compare(&rt, "lag, unsubscribed", core.lag(id), None);
-}
-
 /// Compares the text that `Debug` prints of a subscription.
 fn is_printed(rt: &impl Abort, alloc: Global, id: SubId, wanted: &str) {
     let printed = format!(in alloc; "{id:?}").expect(rt, "memory");
