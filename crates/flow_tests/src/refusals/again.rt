@@ -1,5 +1,5 @@
 //! Runs of a worked example, each with another allocation refused. A call that is refused is made again.
-use crate::compare::{compare, compare_any};
+use crate::compare::{compare, compare_any, compare_step};
 use crate::host::Host;
 use flow_law::FlowFault;
 use flow_refusals::Refusing;
@@ -9,13 +9,13 @@ use std::process::Abort;
 /// A number greater than that of the runs of an example.
 const MANY: u64 = 200;
 
-/// The calls of an example that take memory. Each has a name of its own.
+/// The calls of an example that take memory.
 #[derive(Drop)]
 pub struct Calls {
-    /// Those of this run.
-    made: Vec<&'static str>,
-    /// Those that were refused in some run.
-    refused: Vec<&'static str>,
+    /// How many were made in this run.
+    made: u64,
+    /// The numbers of those that were refused in some run. The first call of a run has the number 1.
+    refused: Vec<u64>,
     /// How many were refused in this run.
     count: u64,
 }
@@ -25,14 +25,14 @@ impl Calls {
     pub fn again<T, E: Drop, F: FnMut() -> Result<T, E>>(
         &mut self,
         rt: &impl Abort,
-        name: &'static str,
+        name: &str,
         mut call: F,
     ) -> T
     where
         FlowFault: From<E>,
         requires { F.IsAlwaysCallable call }
     {
-        self.made.push(name).expect(rt, "memory");
+        self.made = self.made.wrapping_add(1);
         match call() {
             Ok(answer) => return answer,
             Err(error) => self.add(rt, name, FlowFault::from(error)),
@@ -43,12 +43,21 @@ impl Calls {
         }
     }
 
-    /// Adds a call that was refused.
-    fn add(&mut self, rt: &impl Abort, name: &'static str, fault: FlowFault) {
+    /// Adds the last call, which was refused.
+    fn add(&mut self, rt: &impl Abort, name: &str, fault: FlowFault) {
         compare(rt, name, fault, FlowFault::OutOfMemory);
         self.count = self.count.wrapping_add(1);
-        if !self.refused.as_slice().contains(&name) {
-            self.refused.push(name).expect(rt, "memory");
+        if !self.refused.as_slice().contains(&self.made) {
+            self.refused.push(self.made).expect(rt, "memory");
+        }
+    }
+
+    /// Checks after the last run that nothing was refused in it, and each call in some other one.
+    fn are_refused(&self, rt: &impl Abort) {
+        compare(rt, "refused in the last run", self.count, 0);
+        for number in 1..=self.made {
+            let is_refused = self.refused.as_slice().contains(&number);
+            compare_step(rt, "refused, the call", &number, is_refused, true);
         }
     }
 }
@@ -60,19 +69,17 @@ pub fn refuse_each<R: Host, F: FnMut(&Refusing<Global>, &mut Calls)>(rt: &R, mut
 {
     let memory = Refusing::new(rt.alloc());
     let mut calls = Calls {
-        made: Vec::new(rt.alloc()),
+        made: 0,
         refused: Vec::new(rt.alloc()),
         count: 0,
     };
     for number in 1..MANY {
         memory.refuse(number);
-        calls.made.clear();
+        calls.made = 0;
         calls.count = 0;
         play(&memory, &mut calls);
         if memory.is_waiting() {
-            compare(rt, "refused in the last run", calls.count, 0);
-            let made = calls.made.as_slice();
-            return compare(rt, "refused", calls.refused.as_slice(), made);
+            return calls.are_refused(rt);
         }
         compare_any(rt, "refused in a run", calls.count, &[0, 1]);
     }

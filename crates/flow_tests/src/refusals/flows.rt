@@ -71,7 +71,7 @@ fn subscribe_with<R: Host, A: Memory>(
 fn receives<R: Host, S: FlowCore<Item = Boxed<i64, A>> + SubscriberCalls + Drop, A: Memory>(
     rt: &R,
     calls: &mut Calls,
-    name: &'static str,
+    name: &str,
     reader: &mut FlowReader<S, A>,
     number: i64,
 ) {
