@@ -12,7 +12,7 @@ const WORDS = {
   [VERDICT.GAVE_UP]: ["gave up", "The search took too long, so it is not known whether some order has these answers."],
   [VERDICT.REFUSED]: ["refused", "The text is not a record. The reason is below the text."],
   [VERDICT.OUT_OF_MEMORY]: ["out of memory", "The record was not judged."],
-  stopped: ["stopped", "The checker stopped, so the record was not judged. The reason is below the text."],
+  stopped: ["stopped", "The judge stopped, so the record was not judged. The reason is below the text."],
 };
 
 const recordRefusal = byId("record-refusal");
