@@ -1,6 +1,8 @@
 """./use_in copies crates with all that they need, and says in one sentence why it does not."""
 import os
+import signal
 import subprocess
+import time
 
 import pytest
 
@@ -76,6 +78,19 @@ def test_changed_copy_is_not_overwritten(tmp_path):
     assert (ran.returncode, ran.stdout) == (6, "")
     assert ran.stderr == "changed since they were copied, so nothing is copied: flow_law; move them away first\n"
     assert changed.read_text() == "// mine\n"
+
+
+def test_interrupt(tmp_path):
+    """The folder is as it was, and no traceback is printed."""
+    heed = lambda: signal.signal(signal.SIGINT, signal.default_int_handler)
+    copying = subprocess.Popen([top / "use_in", tmp_path, *NAMES], stdout=subprocess.PIPE, stderr=subprocess.PIPE, text=True, preexec_fn=heed)
+    end = time.monotonic() + 60
+    while not list(tmp_path.glob("crates/.wumsnair-*/*")) and time.monotonic() < end:
+        time.sleep(0.001)
+    copying.send_signal(signal.SIGINT)
+    printed, said = copying.communicate(timeout=60)
+    assert (copying.returncode, printed, said) == (130, "", "interrupted, so nothing is copied\n")
+    assert list(tmp_path.iterdir()) == []
 
 
 REFUSALS = (
