@@ -26,12 +26,12 @@ def calls(wanted):
 
 
 def believed(clauses, scope, types):
-    found = {(d.path, d.name): d for d in rests_on(clauses, scope)}
+    found = {(d.path, d.name): d for d in rests_on((clauses, scope))}
     if types:
         given = members(types)
         for member in set(re.findall(r"\bS\.(\w+)", clauses)):
             for body, inner in given[member]:
-                found.update({(d.path, d.name): d for d in rests_on(body, inner)})
+                found.update({(d.path, d.name): d for d in rests_on((body, inner))})
     return sorted(found.values())
 
 
