@@ -125,3 +125,9 @@ def test_folder_that_may_not_be_written(tmp_path):
 def test_help_lists_the_crates():
     ran = use_in("--help")
     assert (ran.returncode, ran.stderr) == (0, "") and all(name in ran.stdout for name in NAMES)
+
+
+def test_full_device():
+    with open("/dev/full", "wb") as full:
+        ran = subprocess.run([top / "use_in", "--help"], stdout=full, stderr=subprocess.PIPE, text=True)
+    assert (ran.returncode, ran.stderr) == (6, "cannot write: No space left on device\n")
