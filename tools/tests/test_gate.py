@@ -21,7 +21,7 @@ def test_help_lists_the_parts_in_order():
 
 def test_help_says_what_each_part_needs(gate):
     told = " ".join(gate.usage().split())
-    assert "(minutes; needs no package; `proofs` passed before)" in told
+    assert "(minutes) needs no package, and that `proofs` passed" in told
     for part in gate.PARTS:
         assert all(package in told for package in gate.packages.packages_of(part.needs))
         assert all(name in PARTS[: PARTS.index(part.name)] for name in part.after)
