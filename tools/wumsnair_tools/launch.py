@@ -42,6 +42,12 @@ def put(words):
     return True
 
 
+def show(words):
+    """Prints words, and exits if that fails."""
+    if not put(words):
+        sys.exit(FAILED)
+
+
 def ended(main):
     """The status of a command, also of one that exits by itself."""
     try:
@@ -181,10 +187,10 @@ def refuse_word(kind, word, known):
 def first_options(words, usage, options):
     """Handles --help and --version, and refuses an option that is not among these."""
     if "--help" in words or "-h" in words:
-        print(usage)
+        show(f"{usage}\n")
         sys.exit(0)
     if "--version" in words:
-        print(f"wumsnair {VERSION}")
+        show(f"wumsnair {VERSION}\n")
         sys.exit(0)
     for word in words:
         if not is_file(word) and word not in options:
