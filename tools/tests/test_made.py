@@ -30,6 +30,13 @@ def test_file_that_is_not_there(made, tmp_path):
     assert (tmp_path / "sizes.md").exists()
 
 
+def test_last_line_without_its_end(made, tmp_path, capsys):
+    (tmp_path / "calls.md").write_text("a\nc")
+    with pytest.raises(SystemExit):
+        made.main(["calls"])
+    assert capsys.readouterr().out.startswith("differs: calls.md\n-c\n")
+
+
 def test_unknown_part(made):
     with pytest.raises(SystemExit, match="tools/made"):
         made.main(["call"])
