@@ -15,8 +15,8 @@ const BY_STATUS = {
 /** The most bytes of a record. */
 export const MOST_BYTES = 268_435_456;
 
-/** The status of a command that could not begin: a file is not there or cannot be read. */
-export const NOT_BEGUN = 6;
+/** The status of a command that fails: a file is not there or cannot be read, or a write fails. */
+export const FAILED = 6;
 
 /** Returns the verdict of the module on the bytes of a record: its word, the status of the command, and the words. */
 export function verdictOf(player, bytes, withOrder) {

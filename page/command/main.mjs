@@ -3,7 +3,7 @@ import { closeSync, openSync, readFileSync, readSync, statSync, writeSync } from
 import { isMainThread } from "node:worker_threads";
 import { inflateRawSync } from "node:zlib";
 import { FORM, Player, STATUS } from "../web/player.js";
-import { MOST_BYTES, NOT_BEGUN, judged, serve, verdictOf } from "./judging.mjs";
+import { FAILED, MOST_BYTES, judged, serve, verdictOf } from "./judging.mjs";
 import { jsonReport, junitReport, statusOf, summary } from "./reports.mjs";
 
 const HELP = `Judges records of calls, and plays and draws flow scripts.
@@ -22,9 +22,9 @@ Options of judge:
                  a line with the status and the number of bytes of the words, and the words
 
 Without a file each reads standard input. The statuses are those of ./judge, ./play and ./draw (docs/SECURITY.md): 0 for a legal record
-or a script that was played, 1 for an illegal record, 2 if a text or an option is refused, 3 if the search gave up, or a read or a
-write of play or draw failed, 4 if it is out of memory, or a read or a write of judge failed, and 6 if a file is not there or cannot
-be read. The status of several records is 1 if one is illegal, else the greatest.
+or a script that was played, 1 for an illegal record, 2 if a text or an option is refused, 3 if the search gave up, 4 if it is out
+of memory, and 6 if it fails: a file is not there, say, or a read or a write fails. The status of several records is 1 if one is
+illegal, else the greatest.
 `;
 const MOST_OF_A_SCRIPT = 1_048_577;
 const OPTIONS = { judge: ["--order", "--json", "--junit", "--seconds", "--stream"], play: [], draw: ["--text", "--explain"], explain: [] };
@@ -39,20 +39,20 @@ class Stop extends Error {
 }
 
 /** Writes all bytes, also to a pipe that is full for a while. */
-function put(output, bytes, failed) {
+function put(output, bytes) {
   let rest = Buffer.from(bytes);
   while (rest.length > 0) {
     try {
       rest = rest.subarray(writeSync(output, rest));
     } catch (error) {
       if (error.code !== "EAGAIN") {
-        throw new Stop(failed, error.code === "EPIPE" ? "" : `cannot write: ${error.message}`);
+        throw new Stop(FAILED, error.code === "EPIPE" ? "" : `cannot write: ${error.message}`);
       }
     }
   }
 }
 
-const say = (words) => put(2, `${words}\n`, NOT_BEGUN);
+const say = (words) => put(2, `${words}\n`);
 
 /** Returns the first bytes of a file that has more. */
 function frontOf(file, most) {
@@ -69,7 +69,7 @@ async function read(file, what, most) {
     try {
       return statSync(file).size > most ? frontOf(file, most) : readFileSync(file);
     } catch (error) {
-      throw new Stop(NOT_BEGUN, error.code === "ENOENT" ? `no such file: ${file}` : `cannot read ${file}: ${error.message}`);
+      throw new Stop(FAILED, error.code === "ENOENT" ? `no such file: ${file}` : `cannot read ${file}: ${error.message}`);
     }
   }
   if (process.stdin.isTTY) {
@@ -133,14 +133,14 @@ function parts(command, words) {
 /** Plays or draws a script. Returns the status. */
 async function showScript(player, command, { asks, files }) {
   if (files.length > 1) {
-    throw new Stop(NOT_BEGUN, `one script at a time: ${files.join(" ")}`);
+    throw new Stop(FAILED, `one script at a time: ${files.join(" ")}`);
   }
   const script = (await read(files[0], "script", MOST_OF_A_SCRIPT)).subarray(0, MOST_OF_A_SCRIPT);
   const form = command === "explain" || asks.explain ? FORM.EXPLAINED : asks.text ? FORM.TEXT : FORM.SVG;
   const { status, bytes } = command === "play" ? player.play(script) : player.draw(form, script);
-  put(1, bytes, 3);
+  put(1, bytes);
   if (status === STATUS.REFUSED) {
-    put(2, player.explain(script).bytes, 3);
+    put(2, player.explain(script).bytes);
   }
   return status;
 }
@@ -160,7 +160,7 @@ async function judgeFile(player, table, file, asks) {
 
 /** Prints the verdict on one of several records, or on the only one. */
 function show({ record, words, hints, verdict }, isOnly) {
-  put(1, isOnly ? words : `${record}: ${words || `${verdict}\n`}`, 4);
+  put(1, isOnly ? words : `${record}: ${words || `${verdict}\n`}`);
   hints.forEach((hint) => say(verdict === "failed" ? hint : isOnly ? `hint: ${hint}` : `${record}: hint: ${hint}`));
 }
 
@@ -176,9 +176,9 @@ async function judgeAll(player, table, { asks, files }) {
     }
   }
   if (isReport) {
-    put(1, asks.json ? jsonReport(verdicts, asks.order) : junitReport(verdicts), 4);
+    put(1, asks.json ? jsonReport(verdicts, asks.order) : junitReport(verdicts));
   } else if (files.length > 1) {
-    put(1, summary(verdicts), 4);
+    put(1, summary(verdicts));
   }
   return statusOf(verdicts);
 }
@@ -194,7 +194,7 @@ async function judgeStream(player, order) {
         break;
       }
       const { status, words } = verdictOf(player, buffer.subarray(line + 1, end), order);
-      put(1, `${status} ${Buffer.byteLength(words)}\n${words}`, 4);
+      put(1, `${status} ${Buffer.byteLength(words)}\n${words}`);
       buffer = buffer.subarray(end);
     }
   }
@@ -203,11 +203,11 @@ async function judgeStream(player, order) {
 
 async function run([command, ...words]) {
   if (command === undefined || [command, ...words].some((word) => word === "--help" || word === "-h")) {
-    put(1, HELP, NOT_BEGUN);
+    put(1, HELP);
     return command === undefined ? 2 : 0;
   }
   if ([command, ...words].includes("--version")) {
-    put(1, `wumsnair ${VERSION}, built from ${COMMIT}\n`, NOT_BEGUN);
+    put(1, `wumsnair ${VERSION}, built from ${COMMIT}\n`);
     return 0;
   }
   if (!Object.hasOwn(OPTIONS, command)) {

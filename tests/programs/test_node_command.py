@@ -128,8 +128,8 @@ def test_help_and_version(node, page):
 
 
 def test_full_device(node, page):
-    """A write that fails has the status of the program."""
-    for words, status in ((["play", REPLAY], 3), (["judge", STALE], 4)):
+    """A write that fails has the same status as in ./play, ./draw and ./judge."""
+    for words in (["play", REPLAY], ["draw", REPLAY], ["judge", STALE]):
         with open("/dev/full", "wb") as full:
             ran = subprocess.run(["node", page / "wumsnair.mjs", *words], cwd=top, stdout=full, stderr=subprocess.PIPE, timeout=SECONDS)
-        assert ran.returncode == status and b"cannot write" in ran.stderr
+        assert ran.returncode == 6 and b"cannot write" in ran.stderr

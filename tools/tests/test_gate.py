@@ -19,6 +19,14 @@ def test_help_lists_the_parts_in_order():
     assert places == sorted(places)
 
 
+def test_help_says_what_each_part_needs(gate):
+    told = " ".join(gate.usage().split())
+    assert "(minutes) needs no package, and that `proofs` passed" in told
+    for part in gate.PARTS:
+        assert all(package in told for package in gate.packages.packages_of(part.needs))
+        assert all(name in PARTS[: PARTS.index(part.name)] for name in part.after)
+
+
 @pytest.mark.parametrize("name, said", [("proof", "no part proof: did you mean proofs?\n"), ("zzz", "no part zzz; --help lists them\n")])
 def test_unknown_part(name, said):
     ran = gate_of(name)
@@ -45,8 +53,9 @@ def test_parts_run_in_their_order(gate, monkeypatch, capfd):
 
 
 def test_contributing_lists_the_parts():
-    listed = re.findall(r"^\| `(\w+)` \|", (top / "CONTRIBUTING.md").read_text(), re.M)
-    assert listed == PARTS
+    text = (top / "CONTRIBUTING.md").read_text()
+    section = text.split("Run after a change of")[1].split("Not in the CI run")[0]
+    assert re.findall(r"`(\w+)`", section) == PARTS
 
 
 def test_every_command_of_a_part_exists(gate):

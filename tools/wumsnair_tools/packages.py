@@ -24,9 +24,14 @@ def has(need):
     return subprocess.run([PYTHON, "-c", f"import {need}"], stderr=subprocess.DEVNULL).returncode == 0
 
 
+def packages_of(needs):
+    """The packages of these commands and modules."""
+    return [package for need in needs for package in {**COMMANDS, **MODULES}[need]]
+
+
 def missing(needs):
     """The packages of these commands and modules that are not installed."""
-    return [package for need in needs if not has(need) for package in {**COMMANDS, **MODULES}[need]]
+    return packages_of(need for need in needs if not has(need))
 
 
 def is_installed(packages):

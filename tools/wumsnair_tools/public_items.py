@@ -1,4 +1,4 @@
-"""The public items of the crates, read from their `.rt` sources as `rt fmt` lays them out: for tools/calls and tools/believe."""
+"""The public items of the crates, read from their `.rt` sources as `rt fmt` lays them out: for tools/made and tools/believe."""
 import collections
 import functools
 import pathlib

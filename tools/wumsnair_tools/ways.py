@@ -38,8 +38,8 @@ def is_slow(words):
     return str(words[0]).endswith(".unproved")
 
 
-def command(name, may_be_node=True):
-    """The words that begin a call of a program."""
+def present(name, may_be_node=True):
+    """The words that begin a call of a program, by the fastest way that needs no build; None if there is none."""
     found = launch.fresh_program(name)
     if found is not None and not is_slow([found]):
         return [found]
@@ -49,4 +49,9 @@ def command(name, may_be_node=True):
     if found is None and node and not shutil.which("rt"):
         launch.say(OTHER_CODE)
         return [node, str(KEPT), COMMANDS[name]]
-    return [found or launch.program(name)]
+    return found and [found]
+
+
+def command(name, may_be_node=True):
+    """The words that begin a call of a program, which is built if there is no other way."""
+    return present(name, may_be_node) or [launch.program(name)]

@@ -1,5 +1,4 @@
 """The command ./judge."""
-import os
 import subprocess
 import sys
 from dataclasses import dataclass, field
@@ -57,19 +56,6 @@ def asked(words):
     return asks
 
 
-def put(words):
-    """Prints words. Returns whether that went well."""
-    try:
-        sys.stdout.buffer.write(words if isinstance(words, bytes) else words.encode(errors="surrogateescape"))
-        sys.stdout.buffer.flush()
-    except OSError as error:
-        launch.say(f"cannot write: {error.strerror}")
-        # Python would try to write the rest as it ends.
-        os.dup2(os.open(os.devnull, os.O_WRONLY), 1)
-        return False
-    return True
-
-
 class Unread(Exception):
     """Why a record was not read. The status is the first argument, and the words the second one."""
 
@@ -85,7 +71,7 @@ def text_of(file):
     try:
         return source.read(oracle.MOST_BYTES + 1)
     except OSError as error:
-        raise Unread(oracle.FAILED, f"cannot read {file or 'standard input'}: {error.strerror}")
+        raise Unread(launch.FAILED, f"cannot read {file or 'standard input'}: {error.strerror}")
 
 
 def judge_file(words, file, asks):
@@ -102,7 +88,7 @@ def judge_file(words, file, asks):
 
 def show(told, is_only):
     """Prints the verdict on one of several records, or on the only one. Returns whether that went well."""
-    went_well = put(told.words if is_only else f"{told.record}: {told.words or told.verdict + chr(10)}")
+    went_well = launch.put(told.words if is_only else f"{told.record}: {told.words or told.verdict + chr(10)}")
     for hint in told.hints:
         launch.say(hint if told.verdict == "failed" else f"hint: {hint}" if is_only else f"{told.record}: hint: {hint}")
     return went_well
@@ -124,8 +110,8 @@ def judge_all(words, asks):
         verdicts.append(judge_file(words, file, asks))
         if asks.form is None:
             went_well &= show(verdicts[-1], len(asks.files) < 2)
-    went_well &= put(report(verdicts, asks))
-    return reports.status_of(verdicts) if went_well else oracle.FAILED
+    went_well &= launch.put(report(verdicts, asks))
+    return reports.status_of(verdicts) if went_well else launch.FAILED
 
 
 def shrink(asks):
@@ -140,7 +126,7 @@ def shrink(asks):
         launch.say(words.rstrip("\n"))
         return status
     launch.say(words)
-    return status if put(small) else oracle.FAILED
+    return status if launch.put(small) else launch.FAILED
 
 
 def check_source(asks):
@@ -164,5 +150,6 @@ def main(words, usage):
         sys.stdout.flush()
         return subprocess.run([*program, *words]).returncode
     if asks.draws:
-        return subprocess.run([*program, *asks.flags], stdin=launch.opened((asks.files or [None])[0], "record")).returncode
+        drawn = subprocess.run([*program, *asks.flags], stdin=launch.opened((asks.files or [None])[0], "record"), stdout=subprocess.PIPE)
+        return drawn.returncode if launch.put(drawn.stdout) else launch.FAILED
     return judge_all(program, asks)

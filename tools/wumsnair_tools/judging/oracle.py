@@ -14,7 +14,7 @@ VERDICTS = {0: "legal", 1: "illegal", 2: "refused", 3: "gave up"}
 # The most bytes of a record.
 MOST_BYTES = 268_435_456
 TOO_LARGE = f"refused: the record has more than {MOST_BYTES} bytes\n  expected: at most {MOST_BYTES} bytes\n"
-# A program is out of memory, or a read or a write failed.
+# The program is out of memory, or was ended by a signal.
 FAILED = 4
 # The status of an illegal record in the library.
 ILLEGAL_IN_LIBRARY = 5
