@@ -44,11 +44,12 @@ pub fn add_up<R: Wait + Threads + Sync>(rt: &R, alloc: Global, workers: u32) -> 
         let mut started = Ok(());
         for reader in readers {
             if let Err(refused) = scope.spawn(move || add_all(rt, reader, total)) {
-                started = Err(refused);
+                // This drops the closure, and with it the reader, for which the flow would wait.
+                started = Err(refused.into());
             }
         }
         send_all(rt, &mut emitter)?;
-        Ok(started?)
+        started
     })?;
     Ok(total.load(Ordering::SeqCst))
 }
