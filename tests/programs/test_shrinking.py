@@ -89,6 +89,31 @@ def test_few_values():
     assert status == 1 and wrong_from(judge(small)[1]) == wrong_from(judge(text)[1]) == 12
 
 
+def done(by, call, begin, end, answer="done", **keys):
+    return {"by": by, "call": call, **keys, "begin": begin, "end": end, "answer": answer}
+
+
+def test_cancelled_emission():
+    """An emission that is cancelled after the moment may have withdrawn its value before: wrong is the count, and not what r received."""
+    flow = {"kind": "shared", "replay": 0, "extra": 0, "overflow": "suspend"}
+    calls = [done("r", "subscribe", 0, 1), done("s", "subscribe", 0, 1), done("t1", "emit", 2, 20, "cancelled", value=3),
+             done("s", "next", 5, 6, {"value": 3}), done("r", "next", 7, 8, "empty"), done("t3", "subscription_count", 14, 15, 7)]  # fmt: skip
+    assert judge(text_of(flow, calls[:-1]))[0] == 0
+    status, _, small = shrink(judge, text_of(flow, calls))
+    assert status == 1 and wrong_from(judge(small)[1]) == 15 and calls[-1] in calls_of(small)
+
+
+def test_small_record_of_another_conflict(monkeypatch):
+    """If a smaller record is illegal from another moment on, it is not printed, whatever leaving_out.py leaves out."""
+    calls = [done("t1", "set", 10, 20, value=3), done("t2", "value", 11, 12, {"value": 3}), done("t2", "value", 21, 30, {"value": 0})]
+    text = text_of({"kind": "state", "initial": 0}, calls)
+    early = Case({"kind": "state", "initial": 0}, (done("t2", "value", 11, 12, {"value": 3}),))
+    monkeypatch.setattr(Case, "without", lambda case, places: early)
+    monkeypatch.setattr(Case, "without_value", lambda case, value: early)
+    status, _, small = shrink(judge, text)
+    assert status == 1 and wrong_from(judge(small)[1]) == wrong_from(judge(text)[1]) == 30
+
+
 @pytest.mark.parametrize("kind", MAY_BE_PENDING)
 def test_random_small_records(kind, request):
     """The small record of a random illegal one goes wrong at the same moment."""

@@ -11,6 +11,7 @@ import threading
 import time
 
 from wumsnair_tools.built import sources, top
+from wumsnair_tools.terminal import for_stream, is_terminal
 
 # How many runs `rt try` makes of the program that it builds.
 RUNS = 40
@@ -19,7 +20,7 @@ FAILED = 6
 
 
 def say(words):
-    print(words, file=sys.stderr, flush=True)
+    print(for_stream(words, sys.stderr), file=sys.stderr, flush=True)
 
 
 def stop(words):
@@ -37,17 +38,20 @@ def fresh_program(name):
 
 
 @contextlib.contextmanager
-def seconds_shown():
-    """Shows at a terminal how many seconds have passed, once a second."""
-    if not sys.stderr.isatty():
+def seconds_shown(what="", every=1):
+    """Shows at a terminal how many seconds have passed, once in so many seconds."""
+    if not is_terminal(sys.stderr):
         yield
         return
     begin, is_over = time.monotonic(), threading.Event()
 
     def show():
-        while not is_over.wait(1):
-            print(f"\r{time.monotonic() - begin:4.0f} s ", end="", file=sys.stderr, flush=True)
-        print("\r\x1b[K", end="", file=sys.stderr, flush=True)
+        is_shown = False
+        while not is_over.wait(every):
+            is_shown = True
+            print(f"\r{what}{time.monotonic() - begin:4.0f} s ", end="", file=sys.stderr, flush=True)
+        if is_shown:
+            print("\r\x1b[K", end="", file=sys.stderr, flush=True)
 
     shower = threading.Thread(target=show)
     shower.start()

@@ -6,8 +6,12 @@ from dataclasses import dataclass, field
 
 from wumsnair_tools import launch, ways
 from wumsnair_tools.judging import oracle, reports, shrinking
+from wumsnair_tools.judging.verdict_text import visible_words
+from wumsnair_tools.terminal import for_stream, is_terminal, visible
 
-OPTIONS = ["--order", "--draw", "--text", "--json", "--junit", "--seconds", "--shrink"]
+OPTIONS = ["--order", "--draw", "--text", "--json", "--junit", "--seconds", "--memory", "--shrink"]
+# The least and the most megabytes of --memory: the program needs a few to begin, and wumsnair.mjs has addresses of 32 bits.
+LEAST_MEMORY, MOST_MEMORY = 16, 4096
 # The options that the program takes, in the forms that it takes.
 FORMS = [], ["--order"], ["--draw"], ["--draw", "--text"]
 
@@ -19,11 +23,21 @@ class Asks:
     flags: list = field(default_factory=list)
     files: list = field(default_factory=list)
     seconds: float | None = None
+    memory: int | None = None
     form: str | None = None
 
     @property
     def draws(self):
         return "--draw" in self.flags
+
+    @property
+    def limits(self):
+        return oracle.Limits(self.seconds, self.memory)
+
+    @property
+    def reads_calls(self):
+        """Whether the calls of a legal record are read, too: for a report, or since the callers' names are shown at a terminal."""
+        return self.form is not None or "--order" in self.flags and is_terminal(sys.stdout)
 
 
 def seconds_of(word):
@@ -36,12 +50,21 @@ def seconds_of(word):
     return seconds
 
 
+def memory_of(word):
+    megabytes = int(word) if word and word.isascii() and word.isdecimal() else 0
+    if not LEAST_MEMORY <= megabytes <= MOST_MEMORY:
+        launch.refuse(f"--memory takes a number of megabytes from {LEAST_MEMORY} to {MOST_MEMORY:,}")
+    return megabytes
+
+
 def asked(words):
     """What the words ask for."""
     asks, rest = Asks(), iter(words)
     for word in rest:
         if word == "--seconds":
             asks.seconds = seconds_of(next(rest, None))
+        elif word == "--memory":
+            asks.memory = memory_of(next(rest, None))
         elif word in ("--json", "--junit", "--shrink"):
             if asks.form not in (None, word):
                 launch.refuse(f"{asks.form} and {word} do not go together")
@@ -50,7 +73,7 @@ def asked(words):
             asks.flags.append(word)
         else:
             asks.files.append(word)
-    if sorted(asks.flags) not in FORMS or asks.draws and (asks.form or asks.seconds):
+    if sorted(asks.flags) not in FORMS or asks.draws and (asks.form or asks.seconds or asks.memory):
         launch.refuse("--text goes with --draw, and --draw with no other option")
     if len(asks.files) > 1 and (asks.form == "--shrink" or asks.draws):
         launch.stop(f"one record at a time: {' '.join(asks.files)}")
@@ -59,6 +82,8 @@ def asked(words):
 
 def put(words):
     """Prints words. Returns whether that went well."""
+    if is_terminal(sys.stdout):
+        words = for_stream(words.decode(errors="replace") if isinstance(words, bytes) else words, sys.stdout)
     try:
         sys.stdout.buffer.write(words if isinstance(words, bytes) else words.encode(errors="surrogateescape"))
         sys.stdout.buffer.flush()
@@ -97,13 +122,14 @@ def judge_file(words, file, asks):
         return oracle.Verdict(name, "failed", error.args[0], hints=[error.args[1]])
     if ways.is_slow(words) and len(text) > ways.LARGE:
         launch.say(ways.SLOW)
-    return oracle.judged([*words, *asks.flags], name, text, asks.seconds, asks.form is not None)
+    return oracle.judged([*words, *asks.flags], name, text, asks.limits, asks.reads_calls)
 
 
 def show(told, is_only):
     """Prints the verdict on one of several records, or on the only one. Returns whether that went well."""
-    went_well = put(told.words if is_only else f"{told.record}: {told.words or told.verdict + chr(10)}")
-    for hint in told.hints:
+    words = visible_words(told.words, told.calls or []) if is_terminal(sys.stdout) else told.words
+    went_well = put(words if is_only else f"{told.record}: {words or told.verdict + chr(10)}")
+    for hint in map(visible, told.hints) if is_terminal(sys.stderr) else told.hints:
         launch.say(hint if told.verdict == "failed" else f"hint: {hint}" if is_only else f"{told.record}: hint: {hint}")
     return went_well
 
@@ -135,12 +161,23 @@ def shrink(asks):
     except Unread as error:
         launch.say(error.args[1])
         return error.args[0]
-    status, words, small = shrinking.shrink(oracle.many(), text, asks.seconds)
+    status, words, small = shrinking.shrink(oracle.many(asks.memory), text, asks.seconds)
     if small is None:
         launch.say(words.rstrip("\n"))
         return status
     launch.say(words)
     return status if put(small) else oracle.FAILED
+
+
+def draw(words, asks):
+    """Draws the calls of a record. Returns the status."""
+    record = launch.opened((asks.files or [None])[0], "record")
+    if not is_terminal(sys.stdout):
+        return subprocess.run([*words, *asks.flags], stdin=record).returncode
+    text = record.read(oracle.MOST_BYTES + 1)
+    ran = launch.run([*words, *asks.flags], text, stdout=subprocess.PIPE)
+    put(visible_words(ran.stdout.decode(errors="replace"), oracle.calls_if_read(text) or []))
+    return ran.returncode
 
 
 def check_source(asks):
@@ -159,10 +196,10 @@ def main(words, usage):
         return shrink(asks)
     if asks.form is None and len(asks.files) < 2:
         check_source(asks)
-    program = ways.command("flow_judge", may_be_node=not asks.draws)
+    program = ways.command("flow_judge", may_be_node=not asks.draws, tells_way=True)
     if ways.is_node(program):
         sys.stdout.flush()
         return subprocess.run([*program, *words]).returncode
     if asks.draws:
-        return subprocess.run([*program, *asks.flags], stdin=launch.opened((asks.files or [None])[0], "record")).returncode
+        return draw(program, asks)
     return judge_all(program, asks)
