@@ -5,7 +5,7 @@ import { callsOf, recordOf } from "../web/record_text.js";
 /** The least number of calls of a caller of whose moments anything is said. */
 const FEW_CALLS = 2;
 
-/** The least number of open calls of which anything is said, and the number of them that are named. */
+/** The least number of open calls that are many, and the number of them that are named. */
 const MANY_OPEN = 3;
 const NAMED = 8;
 
@@ -174,11 +174,12 @@ function openCalls(calls) {
   return { moment, numbers: calls.flatMap((call, index) => (isOpen(call, index) ? [index + 1] : [])) };
 }
 
-/** Returns what to do if the search gave up. */
+/** Returns what to do if the search gave up. Where it stopped, it does not say. */
 function giveUpRemedies(table, calls) {
   const { moment, numbers } = openCalls(calls);
   const named = numbers.slice(0, NAMED).map((number) => `call ${number}`).join(", ");
-  return numbers.length < MANY_OPEN ? [] : [filled(table.of_calls.many_open, { moment, count: numbers.length, calls: named })];
+  const sentence = numbers.length < MANY_OPEN ? table.of_calls.few_open : table.of_calls.many_open;
+  return numbers.length === 0 ? [] : [filled(sentence, { moment, count: numbers.length, calls: named })];
 }
 
 /** Returns the calls of a record; nothing if it is none, which a search that was stopped does not say. */

@@ -254,7 +254,7 @@ WRONG = {
     "callers that all overlap": (
         whole(*({**SET, "by": f"u{at}", "value": at} for at in range(20)), {**VALUE, "answer": {"value": 99}}),
         3,
-        "20 calls were open at moment 10, among them call 1, call 2,",
+        "the most were open at moment 10, 20 calls, among them call 1, call 2,",
     ),
     "no subscription": (whole(NEXT), 1, "call 1: b calls next without a subscription: record its subscribe, too"),
     "a first within a subscription": (whole(SUBSCRIBE, FIRST, flow=STATE), 1, "call 2: b calls first while it has a subscription"),

@@ -9,7 +9,7 @@ from wumsnair_tools.built import top
 TABLE = json.loads((top / "page" / "command" / "remedies.json").read_text())
 # The least number of calls of a caller of whose moments anything is said.
 FEW_CALLS = 2
-# The least number of open calls of which anything is said, and the number of them that are named.
+# The least number of open calls that are many, and the number of them that are named.
 MANY_OPEN, NAMED = 3, 8
 TEXT_ENDS = re.compile(r"refused: line (\d+), column \d+: the text ends here")
 # The refusal of a call that begins before its caller's call before has ended.
@@ -168,10 +168,12 @@ def open_calls(calls):
 
 
 def of_giving_up(calls):
-    """What to do if the search gave up."""
+    """What to do if the search gave up. Where it stopped, it does not say."""
     moment, numbers = open_calls(calls)
-    if len(numbers) < MANY_OPEN:
+    if not numbers:
         return []
+    if len(numbers) < MANY_OPEN:
+        return [TABLE["of_calls"]["few_open"].format(moment=moment, count=len(numbers))]
     named = ", ".join(f"call {number}" for number in numbers[:NAMED])
     return [TABLE["of_calls"]["many_open"].format(moment=moment, count=len(numbers), calls=named)]
 
