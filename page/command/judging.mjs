@@ -35,7 +35,8 @@ export function verdictOf(player, bytes, { order, memory }) {
     const hint = memory && status === 4 ? ofMemory(memory) : undefined;
     return { verdict, status, words: textOf(answer), hint };
   } catch (error) {
-    return { verdict: "failed", status: 4, words: "", hint: memory ? ofMemory(memory) : error.message };
+    const isLimited = memory && error instanceof RangeError;
+    return { verdict: "failed", status: 4, words: isLimited ? "out of memory\n" : "", hint: isLimited ? ofMemory(memory) : error.message };
   }
 }
 

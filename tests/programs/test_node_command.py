@@ -134,10 +134,9 @@ def test_standard_input(node):
 @pytest.mark.parametrize("seconds", [[], ["--seconds", "50"]], ids=case_id)
 def test_limit_of_memory(node, seconds):
     """It holds in the main thread, and in the thread that a time stops. The words are those of ./judge."""
-    text = MANY
     assert node("judge", "--memory", "16", *seconds, STALE).status == 1
-    assert node("judge", "--memory", "16", *seconds, text=text) == ended(4, said="16 megabytes are not enough; --memory sets the limit\n")
-    assert node("judge", "--memory", "4096", *seconds, text=text) == ended(0, "legal")
+    assert node("judge", "--memory", "16", *seconds, text=MANY) == ended(4, "out of memory", said="16 megabytes are not enough; --memory sets the limit\n")
+    assert node("judge", "--memory", "4096", *seconds, text=MANY) == ended(0, "legal")
 
 
 @pytest.mark.parametrize("name", NAMES, ids=ascii)

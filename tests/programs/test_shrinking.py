@@ -4,6 +4,7 @@ makes a legal record illegal.
 The numbers of calls that are left were counted by hand: without any of them the record is legal, or another value has no source."""
 import json
 import subprocess
+import time
 
 import pytest
 from hypothesis import given
@@ -112,6 +113,23 @@ def test_small_record_of_another_conflict(monkeypatch):
     monkeypatch.setattr(Case, "without_value", lambda case, value: early)
     status, _, small = shrink(judge, text)
     assert status == 1 and wrong_from(judge(small)[1]) == wrong_from(judge(text)[1]) == 30
+
+
+def test_limit_of_time():
+    """The first judging may take all of the time, and the search ends with it. The last judging has as long as the first one took."""
+    limits = []
+
+    def slow(text, seconds):
+        limits.append(seconds)
+        time.sleep(0.3)
+        return judge(text)
+
+    begin = time.monotonic()
+    status, words, small = shrink(slow, ILLEGAL["illegal_state_torn_exchange"].read_bytes(), 1)
+    assert status == 1 and words.endswith("the time was up, and --seconds sets more") and judge(small)[0] == 1
+    assert limits[0] == 1 and max(limits[1:-1]) < 1 and time.monotonic() - begin < SECONDS
+    stopped = subprocess.run(["./judge", "--shrink", "--seconds", "0.000001", ILLEGAL["illegal_state_stale"]], cwd=top, capture_output=True, text=True)
+    assert (stopped.returncode, stopped.stdout, stopped.stderr) == (3, "", "gave up\n")
 
 
 @pytest.mark.parametrize("kind", MAY_BE_PENDING)

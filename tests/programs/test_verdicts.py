@@ -5,6 +5,7 @@ remedies are those of page/command/remedies.json."""
 import json
 import os
 import pty
+import resource
 import subprocess
 import sys
 import xml.etree.ElementTree
@@ -23,7 +24,7 @@ NO_FILE = "no_such_file.json"
 STATUSES = {"legal": 0, "illegal": 1, "refused": 2}
 MEMBERS = "record verdict status seconds counts moment since calls order refusal hints".split()
 # A record of many calls.
-MANY = lines(*({**SET, "begin": 2 * at, "end": 2 * at + 1} for at in range(200_000)))
+MANY = lines(*({**SET, "begin": 2 * at, "end": 2 * at + 1} for at in range(100_000)))
 # More bytes than a record may have.
 TOO_MANY = 268_435_457
 TOO_LARGE = "refused: the record has more than 268435456 bytes\n  expected: at most 268435456 bytes\n"
@@ -88,10 +89,10 @@ def test_wrong_memory(megabytes):
 
 
 def test_limit_of_memory():
-    """A record of 200,000 calls needs more than 16 megabytes, and a small one does not."""
+    """A record of 100,000 calls needs more than 16 megabytes, and a small one does not."""
     assert judge("--memory", "16", LEGAL) == (0, "legal\n", "")
     status, printed, said = judge("--memory", "16", text=MANY)
-    assert (status, printed, said) == (4, "", "16 megabytes are not enough; --memory sets the limit\n")
+    assert (status, printed, said) == (4, "out of memory\n", "16 megabytes are not enough; --memory sets the limit\n")
     assert report("--memory", "16", text=MANY)[1]["records"][0]["verdict"] == "failed"
     assert judge("--memory", "1024", text=MANY)[:2] == (0, "legal\n")
 
@@ -106,6 +107,34 @@ def test_time_at_a_terminal(monkeypatch):
     said = read(terminal).decode()
     os.close(terminal)
     assert told.verdict == "legal" and said.startswith("\rjudging    0 s ") and said.endswith("\r\x1b[K")
+
+
+def turns_of(calls):
+    """The fewest turns of a search that gives up on so many calls, as docs/RECORDS.md has them."""
+    return max(1_000 * calls, 4_000_000)
+
+
+def test_time_of_a_turn():
+    """Two searches that give up take about a microsecond of processor time for each turn."""
+    text, _, _ = WRONG["callers that all overlap"]
+    before = resource.getrusage(resource.RUSAGE_CHILDREN)
+    assert judge(text=text)[0] == 3
+    after = resource.getrusage(resource.RUSAGE_CHILDREN)
+    seconds = after.ru_utime + after.ru_stime - before.ru_utime - before.ru_stime
+    assert 0.1 < seconds / (2 * turns_of(21)) * 1_000_000 < 10
+
+
+def drawn(text):
+    """The lines of a drawing, without that of the verdict."""
+    return judge("--draw", "--text", text=text)[1].splitlines()[1:]
+
+
+def test_end_of_a_drawing():
+    """The drawing of a legal record ends when 30 calls are over, and has at most 1,000."""
+    apart = [{**VALUE, "begin": 2 * at, "end": 2 * at + 1, "answer": {"value": 0}} for at in range(40)]
+    assert [line.split("t2 ")[0].split()[-1] for line in drawn(whole(*apart))] == [str(number) for number in range(1, 31)]
+    at_once = [{**VALUE, "by": f"u{at}", "begin": 1, "end": 2, "answer": {"value": 0}} for at in range(1_100)]
+    assert len(drawn(whole(*at_once))) == 1_000
 
 
 def test_limit_of_size(tmp_path):

@@ -11,7 +11,8 @@ from wumsnair_tools.terminal import for_stream, is_terminal, visible
 
 OPTIONS = ["--order", "--draw", "--text", "--json", "--junit", "--seconds", "--memory", "--shrink"]
 # The least and the most megabytes of --memory: the program needs a few to begin, and wumsnair.mjs has addresses of 32 bits.
-LEAST_MEMORY, MOST_MEMORY = 16, 4096
+LEAST_MEMORY = 16
+MOST_MEMORY = 4096
 # The options that the program takes, in the forms that it takes.
 FORMS = [], ["--order"], ["--draw"], ["--draw", "--text"]
 
