@@ -10,7 +10,7 @@ import pytest
 from wumsnair_tools.built import top
 from hostile_records import SET, whole
 from running import SECONDS, case_id, ended, examples, program, records, run
-from test_verdicts import MANY, NAMES, at_terminal
+from test_verdicts import MANY, NAMES, WRONG, at_terminal
 from wumsnair_tools.scripts import all_cases, text_of, versions
 
 DRAWN = {("draw",): [], ("draw", "--text"): ["--text"], ("explain",): ["--explain"]}
@@ -143,6 +143,14 @@ def test_limit_of_memory(node, seconds):
 def test_names_at_a_terminal(page, name):
     record = whole({**SET, "by": name})
     assert at_terminal("node", page / "wumsnair.mjs", "judge", "--order", text=record) == f"legal\n  1  {NAMES[name]} set 3: done\n"
+
+
+def test_time_at_a_terminal(page):
+    """A terminal shows for how long a search has run, every two seconds, and nothing of that in the end."""
+    text, _, _ = WRONG["callers that all overlap"]
+    said = at_terminal("node", page / "wumsnair.mjs", "judge", text=text)
+    shown, _, told = said.rpartition("\r\x1b[K")
+    assert re.fullmatch(r"(\rjudging +\d+ s )+", shown) and told.startswith("gave up\nhint: ")
 
 
 def test_time_is_enough(node):

@@ -5,6 +5,7 @@ import sys
 from dataclasses import dataclass, field
 
 from wumsnair_tools import launch, ways
+from wumsnair_tools.building import seconds_shown
 from wumsnair_tools.judging import oracle, reports, shrinking
 from wumsnair_tools.judging.verdict_text import visible_words
 from wumsnair_tools.terminal import for_stream, is_terminal, visible
@@ -162,7 +163,9 @@ def shrink(asks):
     except Unread as error:
         launch.say(error.args[1])
         return error.args[0]
-    status, words, small = shrinking.shrink(oracle.many(asks.memory), text, asks.seconds)
+    judge = oracle.many(asks.memory)
+    with seconds_shown("searching ", oracle.SHOWN_EVERY):
+        status, words, small = shrinking.shrink(judge, text, asks.seconds)
     if small is None:
         launch.say(words.rstrip("\n"))
         return status
@@ -174,9 +177,11 @@ def draw(words, asks):
     """Draws the calls of a record. Returns the status."""
     record = launch.opened((asks.files or [None])[0], "record")
     if not is_terminal(sys.stdout):
-        return subprocess.run([*words, *asks.flags], stdin=record).returncode
+        with seconds_shown("judging ", oracle.SHOWN_EVERY):
+            return subprocess.run([*words, *asks.flags], stdin=record).returncode
     text = record.read(oracle.MOST_BYTES + 1)
-    ran = launch.run([*words, *asks.flags], text, stdout=subprocess.PIPE)
+    with seconds_shown("judging ", oracle.SHOWN_EVERY):
+        ran = launch.run([*words, *asks.flags], text, stdout=subprocess.PIPE)
     put(visible_words(ran.stdout.decode(errors="replace"), oracle.calls_if_read(text) or []))
     return ran.returncode
 

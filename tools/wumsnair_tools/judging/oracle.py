@@ -1,5 +1,4 @@
 """Judges the bytes of records by the fastest way that is there."""
-import resource
 import select
 import signal
 import subprocess
@@ -18,7 +17,8 @@ TOO_LARGE = f"refused: the record has more than {MOST_BYTES} bytes\n  expected: 
 FAILED = 4
 # After how many seconds a terminal shows for how long a search has run, and how often.
 SHOWN_EVERY = 2
-MEGABYTE = 1 << 20
+# Runs a program with so many kilobytes of memory, or with fewer if it may not have so many.
+WITH_MEMORY = 'ulimit -v "$1" 2>/dev/null; shift; exec "$@"'
 
 
 @dataclass(frozen=True)
@@ -44,15 +44,15 @@ class Verdict:
 
 def run(words, text, limits):
     """The status and the words of a program, and a hint."""
-    most = limits.memory and limits.memory * MEGABYTE
-    begin = (lambda: resource.setrlimit(resource.RLIMIT_AS, (most, most))) if most else None
+    if limits.memory:
+        words = ["sh", "-c", WITH_MEMORY, "sh", str(limits.memory * 1024), *words]
     try:
-        ran = launch.run([*words], text, stdout=subprocess.PIPE, timeout=limits.seconds, preexec_fn=begin)
+        ran = launch.run([*words], text, stdout=subprocess.PIPE, timeout=limits.seconds)
     except subprocess.TimeoutExpired:
         return 3, "gave up\n", [f"stopped after {limits.seconds:g} seconds; --seconds sets the limit"]
     if ran.returncode < 0:
         return FAILED, "", [f"the program was ended by the signal {signal.Signals(-ran.returncode).name}"]
-    hints = [f"{limits.memory} megabytes are not enough; --memory sets the limit"] if most and ran.returncode == FAILED else []
+    hints = [f"{limits.memory} megabytes are not enough; --memory sets the limit"] if limits.memory and ran.returncode == FAILED else []
     return ran.returncode, ran.stdout.decode(errors="replace"), hints
 
 
