@@ -90,6 +90,6 @@ export async function judged(player, table, record, bytes, asks) {
   const seconds = Math.round(performance.now() - begin) / 1000;
   const hints = told.hint ? [told.hint] : [];
   const isRead = ["illegal", "refused", "gave up"].includes(told.verdict) || (asks.calls && told.verdict !== "failed");
-  const looked = isRead && bytes.length <= MOST_BYTES ? lookAt(table, bytes, told.verdict, told.words) : { remedies: [] };
+  const looked = isRead && bytes.length <= MOST_BYTES ? lookAt(table, bytes, told.verdict, told.words, Boolean(told.hint)) : { remedies: [] };
   return { record, ...told, hints: [...hints, ...looked.remedies], calls: looked.calls, seconds };
 }

@@ -101,8 +101,7 @@ GAVE_UP = {
     ),
     "two callers": (
         lines(STATE, PENDING, {**PENDING, "by": "b", "begin": 3}),
-        ["no more than 2 calls overlap, at moment 3, so the record is long: judge the calls that began in the first half of its moments, and give a "
-         "search that was stopped more time"],
+        ["no more than 2 calls overlap, at moment 3, so the record is long: judge the calls that began in the first half of its moments"],
     ),
     "no calls": (lines(STATE), []),
     "no record": ("{", []),
@@ -135,4 +134,6 @@ def test_warnings(what, in_node):
 @pytest.mark.parametrize("what", GAVE_UP)
 def test_giving_up(what, in_node):
     text, wanted = GAVE_UP[what]
-    assert remedies.of_giving_up(oracle.calls_if_read(text.encode()) or []) == wanted == in_node[what]
+    calls = oracle.calls_if_read(text.encode()) or []
+    assert remedies.of_giving_up(calls) == wanted == in_node[what]
+    assert remedies.of_giving_up(calls, True) == (wanted if what == "many callers" else [])

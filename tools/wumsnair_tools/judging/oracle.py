@@ -66,7 +66,7 @@ def judged(words, record, text, limits=Limits(), reads_calls=False):
         verdict.hints += remedies.of_refusal(told, text)
     elif verdict.verdict == "gave up":
         verdict.calls = calls_if_read(text)
-        verdict.hints += remedies.of_giving_up(verdict.calls or [])
+        verdict.hints += remedies.of_giving_up(verdict.calls or [], bool(hints))
     elif verdict.verdict == "illegal" or reads_calls and verdict.verdict == "legal":
         flow, verdict.calls = remedies.record_of(text)
         verdict.hints += remedies.of_calls(flow, verdict.calls)

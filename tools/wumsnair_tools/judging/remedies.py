@@ -167,10 +167,10 @@ def open_calls(calls):
     return moment, [number for number, call in enumerate(calls, 1) if call["begin"] <= moment <= ends[number - 1]]
 
 
-def of_giving_up(calls):
-    """What to do if the search gave up. Where it stopped, it does not say."""
+def of_giving_up(calls, is_stopped=False):
+    """What to do if the search gave up, by itself or since the time was up. Where it stopped, it does not say."""
     moment, numbers = open_calls(calls)
-    if not numbers:
+    if len(numbers) < MANY_OPEN and (is_stopped or not numbers):
         return []
     if len(numbers) < MANY_OPEN:
         return [TABLE["of_calls"]["few_open"].format(moment=moment, count=len(numbers))]
