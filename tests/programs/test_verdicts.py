@@ -104,8 +104,7 @@ def test_time_at_a_terminal(monkeypatch):
     with os.fdopen(end, "w") as shown:
         monkeypatch.setattr(sys, "stderr", shown)
         told = oracle.judged(["sleep", "0.5"], "-", b"")
-    said = read(terminal).decode()
-    os.close(terminal)
+    said = shown_at(terminal)
     assert told.verdict == "legal" and said.startswith("\rjudging    0 s ") and said.endswith("\r\x1b[K")
 
 
@@ -242,10 +241,9 @@ def at_terminal(*words, text):
     os.close(end)
     ran.stdin.write(text)
     ran.stdin.close()
-    said = b"".join(iter(lambda: read(terminal), b""))
-    os.close(terminal)
+    said = shown_at(terminal)
     ran.wait(timeout=SECONDS)
-    return said.decode().replace("\r\n", "\n")
+    return said
 
 
 def read(terminal):
@@ -253,6 +251,13 @@ def read(terminal):
         return os.read(terminal, 10_000)
     except OSError:
         return b""
+
+
+def shown_at(terminal):
+    """What a terminal shows until its other end is closed."""
+    said = b"".join(iter(lambda: read(terminal), b""))
+    os.close(terminal)
+    return said.decode().replace("\r\n", "\n")
 
 
 @pytest.mark.parametrize("name", NAMES, ids=ascii)
