@@ -1,9 +1,12 @@
 // The command `node wumsnair.mjs`: judges records of calls, and plays and draws flow scripts, by the proved module in this file.
 import { closeSync, openSync, readFileSync, readSync, statSync, writeSync } from "node:fs";
-import { isMainThread } from "node:worker_threads";
+import { isatty } from "node:tty";
+import { isMainThread, workerData } from "node:worker_threads";
 import { inflateRawSync } from "node:zlib";
 import { FORM, Player, STATUS } from "../web/player.js";
+import { visible, visibleLines, visibleWords } from "../web/verdict_text.js";
 import { FAILED, MOST_BYTES, judged, serve, verdictOf } from "./judging.mjs";
+import { LEAST_MEMORY, MOST_MEMORY, withMemory } from "./memory.mjs";
 import { jsonReport, junitReport, statusOf, summary } from "./reports.mjs";
 
 const HELP = `Judges records of calls, and plays and draws flow scripts.
@@ -18,16 +21,21 @@ Options of judge:
   --order        prints an order of the calls that explains a legal record, too
   --json         prints one report on all records as JSON, and --junit as the XML of JUnit
   --seconds N    stops after N seconds for each record; the verdict is then \`gave up\`
+  --memory N     gives the module at most N megabytes, 16 to 4,096; a record that needs more ends with status 4
   --stream       reads any number of records from standard input, each after a line with its number of bytes, and prints for each
                  a line with the status and the number of bytes of the words, and the words
 
-Without a file each reads standard input. The statuses are those of ./judge, ./play and ./draw (docs/SECURITY.md): 0 for a legal record
-or a script that was played, 1 for an illegal record, 2 if a text or an option is refused, 3 if the search gave up, 4 if it is out
-of memory, and 6 if it fails: a file is not there, say, or a read or a write fails. The status of several records is 1 if one is
-illegal, else the greatest.
+Without a file, or with the file \`-\`, each reads standard input. At a terminal it shows for how long a search has run, after two seconds,
+and writes control characters in names as their numbers.
+
+The statuses are those of ./judge, ./play and ./draw (docs/SECURITY.md): 0 for a legal record or a script that was played, 1 for an
+illegal record, 2 if a text or an option is refused, 3 if the search gave up, 4 if it is out of memory, and 6 if it fails: a file is
+not there, say, or a read or a write fails. The status of several records is 1 if one is illegal, else the greatest.
 `;
 const MOST_OF_A_SCRIPT = 1_048_577;
-const OPTIONS = { judge: ["--order", "--json", "--junit", "--seconds", "--stream"], play: [], draw: ["--text", "--explain"], explain: [] };
+const STANDARD_INPUT = "-";
+const OPTIONS = { judge: ["--order", "--json", "--junit", "--seconds", "--memory", "--stream"], play: [], draw: ["--text", "--explain"], explain: [] };
+const WRONG_MEMORY = `--memory takes a number of megabytes from ${LEAST_MEMORY} to 4,096`;
 const DONE_ELSEWHERE = ["--draw", "--text", "--shrink"];
 
 /** Ends the command: an exception with a status and words for standard error. */
@@ -52,7 +60,10 @@ function put(output, bytes) {
   }
 }
 
-const say = (words) => put(2, `${words}\n`);
+/** Writes lines, to a terminal without control characters. */
+const print = (output, lines) => put(output, isatty(output) ? visibleLines(lines) : lines);
+
+const say = (words) => print(2, `${words}\n`);
 
 /** Returns the first bytes of a file that has more. */
 function frontOf(file, most) {
@@ -65,7 +76,7 @@ function frontOf(file, most) {
 
 /** Reads a file, or standard input, or at least a number of its first bytes. */
 async function read(file, what, most) {
-  if (file !== undefined) {
+  if (file !== undefined && file !== STANDARD_INPUT) {
     try {
       return statSync(file).size > most ? frontOf(file, most) : readFileSync(file);
     } catch (error) {
@@ -110,7 +121,7 @@ function parts(command, words) {
   const files = [];
   for (let at = 0; at < words.length; at++) {
     const word = words[at];
-    if (!word.startsWith("-")) {
+    if (word === STANDARD_INPUT || !word.startsWith("-")) {
       files.push(word);
     } else if (!OPTIONS[command].includes(word)) {
       const isElsewhere = command === "judge" && DONE_ELSEWHERE.includes(word);
@@ -119,6 +130,11 @@ function parts(command, words) {
       asks.seconds = Number(words[++at]);
       if (!(asks.seconds > 0 && asks.seconds < 2_000_000)) {
         throw new Stop(2, "--seconds takes a number of seconds above 0");
+      }
+    } else if (word === "--memory") {
+      asks.memory = /^[0-9]+$/.test(words[++at]) ? Number(words[at]) : 0;
+      if (asks.memory < LEAST_MEMORY || asks.memory > MOST_MEMORY) {
+        throw new Stop(2, WRONG_MEMORY);
       }
     } else {
       asks[word.slice(2)] = true;
@@ -149,19 +165,21 @@ async function showScript(player, command, { asks, files }) {
 async function judgeFile(player, table, file, asks) {
   try {
     const bytes = await read(file, "record", MOST_BYTES + 1);
-    return await judged(player, table, file ?? "-", bytes, asks);
+    return await judged(player, table, file ?? STANDARD_INPUT, bytes, asks);
   } catch (error) {
     if (!(error instanceof Stop)) {
       throw error;
     }
-    return { record: file ?? "-", verdict: "failed", status: error.status, words: "", hints: [error.message], seconds: 0 };
+    return { record: file ?? STANDARD_INPUT, verdict: "failed", status: error.status, words: "", hints: [error.message], seconds: 0 };
   }
 }
 
 /** Prints the verdict on one of several records, or on the only one. */
-function show({ record, words, hints, verdict }, isOnly) {
-  put(1, isOnly ? words : `${record}: ${words || `${verdict}\n`}`);
-  hints.forEach((hint) => say(verdict === "failed" ? hint : isOnly ? `hint: ${hint}` : `${record}: hint: ${hint}`));
+function show({ record, words, hints, calls, verdict }, isOnly) {
+  const lines = isatty(1) ? visibleWords(words, calls ?? []) : words;
+  print(1, isOnly ? lines : `${record}: ${lines || `${verdict}\n`}`);
+  const shown = isatty(2) ? hints.map(visible) : hints;
+  shown.forEach((hint) => say(verdict === "failed" ? hint : isOnly ? `hint: ${hint}` : `${record}: hint: ${hint}`));
 }
 
 /** Judges records. Returns the status. */
@@ -169,14 +187,14 @@ async function judgeAll(player, table, { asks, files }) {
   const verdicts = [];
   const isReport = asks.json || asks.junit;
   for (const file of files.length ? files : [undefined]) {
-    const verdict = await judgeFile(player, table, file, { ...asks, calls: isReport, file: new URL(import.meta.url) });
+    const verdict = await judgeFile(player, table, file, { ...asks, calls: isReport || isatty(1), file: new URL(import.meta.url) });
     verdicts.push(verdict);
     if (!isReport) {
       show(verdict, files.length < 2);
     }
   }
   if (isReport) {
-    put(1, asks.json ? jsonReport(verdicts, asks.order) : junitReport(verdicts));
+    print(1, asks.json ? jsonReport(verdicts, asks.order) : junitReport(verdicts));
   } else if (files.length > 1) {
     put(1, summary(verdicts));
   }
@@ -184,7 +202,7 @@ async function judgeAll(player, table, { asks, files }) {
 }
 
 /** Judges each record of standard input, and prints the status and the words. */
-async function judgeStream(player, order) {
+async function judgeStream(player, asks) {
   let buffer = Buffer.alloc(0);
   for await (const part of process.stdin) {
     buffer = Buffer.concat([buffer, part]);
@@ -193,12 +211,17 @@ async function judgeStream(player, order) {
       if (buffer.length < end) {
         break;
       }
-      const { status, words } = verdictOf(player, buffer.subarray(line + 1, end), order);
+      const { status, words } = verdictOf(player, buffer.subarray(line + 1, end), asks);
       put(1, `${status} ${Buffer.byteLength(words)}\n${words}`);
       buffer = buffer.subarray(end);
     }
   }
   return 0;
+}
+
+/** Returns the player of this file, whose memory has at most so many megabytes. */
+async function loaded(megabytes) {
+  return Player.load(withMemory(inflateRawSync(Buffer.from(MODULE, "base64")), megabytes ?? MOST_MEMORY));
 }
 
 async function run([command, ...words]) {
@@ -214,11 +237,11 @@ async function run([command, ...words]) {
     throw unknown("command", command, Object.keys(OPTIONS));
   }
   const given = parts(command, words);
-  const player = await Player.load(inflateRawSync(Buffer.from(MODULE, "base64")));
+  const player = await loaded(given.asks.memory);
   if (command !== "judge") {
     return showScript(player, command, given);
   }
-  return given.asks.stream ? judgeStream(player, given.asks.order) : judgeAll(player, REMEDIES, given);
+  return given.asks.stream ? judgeStream(player, given.asks) : judgeAll(player, REMEDIES, given);
 }
 
 if (isMainThread) {
@@ -231,9 +254,9 @@ if (isMainThread) {
     }
     process.exitCode = isFull ? STATUS.OUT_OF_MEMORY : error.status;
     if (error.message) {
-      process.stderr.write(`${error.message}\n`);
+      process.stderr.write(`${isatty(2) ? visibleLines(error.message) : error.message}\n`);
     }
   }
 } else {
-  serve(await Player.load(inflateRawSync(Buffer.from(MODULE, "base64"))));
+  serve(await loaded(workerData.memory));
 }

@@ -271,6 +271,17 @@ await test("a long number of a record keeps its digits", async () => {
   assert.equal(await other.evaluate("document.querySelector('#timeline .bar').title"), `1: set ${end}: done, from ${begin} to ${end}`);
   assert.equal(await other.evaluate("document.querySelector('#timeline h3').textContent"), 'a "1"');
 });
+await test("a caller's name that looks like lines of the verdict marks no call", async () => {
+  const call = (by, begin, value) => `{"by": ${JSON.stringify(by)}, "call": "value", "begin": ${begin}, "end": ${begin + 1}, "answer": {"value": ${value}}}`;
+  const calls = [call("z", 1, 0), call("t\n  1  z value: 0", 3, 7)].join(", ");
+  const other = await chrome.open(`${address}#c=${packed(`{"flow": {"kind": "state", "initial": 0}, "calls": [${calls}]}`)}`);
+  assert.equal(await other.evaluate("document.body.dataset.verdict"), "5");
+  assert.deepEqual(await other.evaluate("[...document.querySelectorAll('#timeline .bar')].map((bar) => bar.classList.contains('wrong'))"), [false, true]);
+});
+await test("the foot", async () => {
+  const foot = await page.evaluate("document.querySelector('footer').textContent");
+  assert.match(foot, /^Version \d+\.\d+\.\d+, built from (commit [0-9a-f]{12}(, changed)?|no commit)$/);
+});
 await test("the order of a legal record", async () => {
   await page.evaluate(pickRecord("legal_state_overlap"));
   await page.evaluate("document.getElementById('with-order').click()");

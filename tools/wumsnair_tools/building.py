@@ -14,6 +14,7 @@ import time
 
 from wumsnair_tools.built import sources, top
 from wumsnair_tools.prover import kit
+from wumsnair_tools.terminal import for_stream, is_terminal
 
 # The status if the command itself fails. The programs use 0 to 4, and the C library 5.
 FAILED = 6
@@ -24,7 +25,7 @@ LINKER = """#!/bin/sh
 
 
 def say(words):
-    print(words, file=sys.stderr, flush=True)
+    print(for_stream(words, sys.stderr), file=sys.stderr, flush=True)
 
 
 def stop(words):
@@ -42,17 +43,20 @@ def fresh_program(name):
 
 
 @contextlib.contextmanager
-def seconds_shown():
-    """Shows at a terminal how many seconds have passed, once a second."""
-    if not sys.stderr.isatty():
+def seconds_shown(what="", every=1):
+    """Shows at a terminal how many seconds have passed, once in so many seconds."""
+    if not is_terminal(sys.stderr):
         yield
         return
     begin, is_over = time.monotonic(), threading.Event()
 
     def show():
-        while not is_over.wait(1):
-            print(f"\r{time.monotonic() - begin:4.0f} s ", end="", file=sys.stderr, flush=True)
-        print("\r\x1b[K", end="", file=sys.stderr, flush=True)
+        is_shown = False
+        while not is_over.wait(every):
+            is_shown = True
+            print(f"\r{what}{time.monotonic() - begin:4.0f} s ", end="", file=sys.stderr, flush=True)
+        if is_shown:
+            print("\r\x1b[K", end="", file=sys.stderr, flush=True)
 
     shower = threading.Thread(target=show)
     shower.start()
