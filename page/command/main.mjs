@@ -28,7 +28,7 @@ be read. The status of several records is 1 if one is illegal, else the greatest
 `;
 const MOST_OF_A_SCRIPT = 1_048_577;
 const OPTIONS = { judge: ["--order", "--json", "--junit", "--seconds", "--stream"], play: [], draw: ["--text", "--explain"], explain: [] };
-const DONE_ELSEWHERE = ["--draw", "--text", "--shrink"];
+const DONE_ELSEWHERE = ["--draw", "--text", "--shrink", "--turns"];
 
 /** Ends the command: an exception with a status and words for standard error. */
 class Stop extends Error {

@@ -7,7 +7,9 @@ from dataclasses import dataclass, field
 from wumsnair_tools import launch, ways
 from wumsnair_tools.judging import oracle, reports, shrinking
 
-OPTIONS = ["--order", "--draw", "--text", "--json", "--junit", "--seconds", "--shrink"]
+OPTIONS = ["--order", "--draw", "--text", "--json", "--junit", "--seconds", "--turns", "--shrink"]
+# The most turns that a search can count.
+MOST_TURNS = 2**64 - 1
 # The options that the program takes, in the forms that it takes.
 FORMS = [], ["--order"], ["--draw"], ["--draw", "--text"]
 
@@ -19,6 +21,8 @@ class Asks:
     flags: list = field(default_factory=list)
     files: list = field(default_factory=list)
     seconds: float | None = None
+    # The option --turns with its number, if the words have it.
+    turns: list = field(default_factory=list)
     form: str | None = None
 
     @property
@@ -36,12 +40,20 @@ def seconds_of(word):
     return seconds
 
 
+def turns_of(word):
+    if not (word and word.isascii() and word.isdecimal() and 0 < int(word) <= MOST_TURNS):
+        launch.refuse("--turns takes a whole number above 0 and below 2^64")
+    return ["--turns", word]
+
+
 def asked(words):
     """What the words ask for."""
     asks, rest = Asks(), iter(words)
     for word in rest:
         if word == "--seconds":
             asks.seconds = seconds_of(next(rest, None))
+        elif word == "--turns":
+            asks.turns = turns_of(next(rest, None))
         elif word in ("--json", "--junit", "--shrink"):
             if asks.form not in (None, word):
                 launch.refuse(f"{asks.form} and {word} do not go together")
@@ -52,6 +64,8 @@ def asked(words):
             asks.files.append(word)
     if sorted(asks.flags) not in FORMS or asks.draws and (asks.form or asks.seconds):
         launch.refuse("--text goes with --draw, and --draw with no other option")
+    if asks.turns and (asks.draws or asks.form == "--shrink"):
+        launch.refuse("--turns goes with neither --draw nor --shrink")
     if len(asks.files) > 1 and (asks.form == "--shrink" or asks.draws):
         launch.stop(f"one record at a time: {' '.join(asks.files)}")
     return asks
@@ -97,7 +111,7 @@ def judge_file(words, file, asks):
         return oracle.Verdict(name, "failed", error.args[0], hints=[error.args[1]])
     if ways.is_slow(words) and len(text) > ways.LARGE:
         launch.say(ways.SLOW)
-    return oracle.judged([*words, *asks.flags], name, text, asks.seconds, asks.form is not None)
+    return oracle.judged([*words, *asks.turns, *asks.flags], name, text, asks.seconds, asks.form is not None)
 
 
 def show(told, is_only):
@@ -159,7 +173,7 @@ def main(words, usage):
         return shrink(asks)
     if asks.form is None and len(asks.files) < 2:
         check_source(asks)
-    program = ways.command("flow_judge", may_be_node=not asks.draws)
+    program = ways.command("flow_judge", may_be_node=not (asks.draws or asks.turns))
     if ways.is_node(program):
         sys.stdout.flush()
         return subprocess.run([*program, *words]).returncode
