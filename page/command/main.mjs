@@ -36,7 +36,7 @@ const MOST_OF_A_SCRIPT = 1_048_577;
 const STANDARD_INPUT = "-";
 const OPTIONS = { judge: ["--order", "--json", "--junit", "--seconds", "--memory", "--stream"], play: [], draw: ["--text", "--explain"], explain: [] };
 const WRONG_MEMORY = `--memory takes a number of megabytes from ${LEAST_MEMORY} to 4,096`;
-const DONE_ELSEWHERE = ["--draw", "--text", "--shrink"];
+const DONE_ELSEWHERE = ["--draw", "--text", "--shrink", "--turns"];
 
 /** Ends the command: an exception with a status and words for standard error. */
 class Stop extends Error {

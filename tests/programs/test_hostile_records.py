@@ -13,9 +13,10 @@ from running import SECONDS, case_id, ended, expect, records, run
 # The first line of what is printed.
 VERDICTS = {LEGAL: b"legal", ILLEGAL: b"illegal", REFUSED: b"refused: ", GAVE_UP: b"gave up"}
 OUT_OF_MEMORY = ended(FAILED, "out of memory")
-USAGE = ended(REFUSED, "usage: flow_judge [--order | --draw [--text]]")
+USAGE = ended(REFUSED, "usage: flow_judge [--turns N] [--order | --draw [--text]]")
 FORMS = {"verdict": [], "order": ["--order"], "draw": ["--draw"], "draw_text": ["--draw", "--text"]}
-WRONG_WORDS = (["--Order"], ["--draw", "--order"], ["--text"], ["--draw", "--draw"], [""], ["--draw", "--text", "--text"])
+WRONG_WORDS = (["--Order"], ["--draw", "--order"], ["--text"], ["--draw", "--draw"], [""], ["--draw", "--text", "--text"], ["--turns"],
+               ["--turns", "-1"], ["--turns", "2^9"], ["--turns", "18446744073709551616"], ["--order", "--turns", "9"])  # fmt: skip
 
 
 def is_verdict(came, status):

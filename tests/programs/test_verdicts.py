@@ -77,6 +77,24 @@ def test_options_that_do_not_go_together(words):
     assert judge(*words.split(), LEGAL) == (2, "", "--text goes with --draw, and --draw with no other option\n")
 
 
+@pytest.mark.parametrize("turns", ["0", "1.5", "1e9", "18446744073709551616", ""])
+def test_wrong_turns(turns):
+    assert judge("--turns", turns, LEGAL) == (2, "", "--turns takes a whole number above 0 and below 2^64\n")
+
+
+@pytest.mark.parametrize("words", ["--draw", "--shrink"])
+def test_turns_that_do_not_go_together(words):
+    assert judge("--turns", "9", words, LEGAL) == (2, "", "--turns goes with neither --draw nor --shrink\n")
+
+
+def test_limit_of_turns():
+    """Each of six changes takes a turn."""
+    record = whole(*({**SET, "by": f"u{at}", "value": at} for at in range(6)), {**VALUE, "answer": {"value": 5}})
+    assert judge("--turns", "5", text=record)[:2] == (3, "gave up\n")
+    assert judge("--turns", "1000", text=record) == (0, "legal\n", "")
+    assert report("--turns", "5", text=record)[1]["records"][0]["verdict"] == "gave up"
+
+
 def test_limit_of_time():
     """No process ends within a millionth of a second."""
     assert judge("--seconds", "0.000001", LEGAL) == (3, "gave up\n", "hint: stopped after 1e-06 seconds; --seconds sets the limit\n")

@@ -9,10 +9,12 @@ from wumsnair_tools.judging import oracle, reports, shrinking
 from wumsnair_tools.judging.verdict_text import visible_words
 from wumsnair_tools.terminal import for_stream, is_terminal, visible
 
-OPTIONS = ["--order", "--draw", "--text", "--json", "--junit", "--seconds", "--memory", "--shrink"]
+OPTIONS = ["--order", "--draw", "--text", "--json", "--junit", "--seconds", "--memory", "--turns", "--shrink"]
 # The least and the most megabytes of --memory: the program needs a few to begin, and wumsnair.mjs has addresses of 32 bits.
 LEAST_MEMORY = 16
 MOST_MEMORY = 4096
+# The most turns that a search can count.
+MOST_TURNS = 2**64 - 1
 # The options that the program takes, in the forms that it takes.
 FORMS = [], ["--order"], ["--draw"], ["--draw", "--text"]
 
@@ -25,6 +27,8 @@ class Asks:
     files: list = field(default_factory=list)
     seconds: float | None = None
     memory: int | None = None
+    # The option --turns with its number, if the words have it.
+    turns: list = field(default_factory=list)
     form: str | None = None
 
     @property
@@ -58,6 +62,12 @@ def memory_of(word):
     return megabytes
 
 
+def turns_of(word):
+    if not (word and word.isascii() and word.isdecimal() and 0 < int(word) <= MOST_TURNS):
+        launch.refuse("--turns takes a whole number above 0 and below 2^64")
+    return ["--turns", word]
+
+
 def asked(words):
     """What the words ask for."""
     asks, rest = Asks(), iter(words)
@@ -66,6 +76,8 @@ def asked(words):
             asks.seconds = seconds_of(next(rest, None))
         elif word == "--memory":
             asks.memory = memory_of(next(rest, None))
+        elif word == "--turns":
+            asks.turns = turns_of(next(rest, None))
         elif word in ("--json", "--junit", "--shrink"):
             if asks.form not in (None, word):
                 launch.refuse(f"{asks.form} and {word} do not go together")
@@ -76,6 +88,8 @@ def asked(words):
             asks.files.append(word)
     if sorted(asks.flags) not in FORMS or asks.draws and (asks.form or asks.seconds or asks.memory):
         launch.refuse("--text goes with --draw, and --draw with no other option")
+    if asks.turns and (asks.draws or asks.form == "--shrink"):
+        launch.refuse("--turns goes with neither --draw nor --shrink")
     if len(asks.files) > 1 and (asks.form == "--shrink" or asks.draws):
         launch.stop(f"one record at a time: {' '.join(asks.files)}")
     return asks
@@ -115,7 +129,7 @@ def judge_file(words, file, asks):
         return oracle.Verdict(name, "failed", error.args[0], hints=[error.args[1]])
     if ways.is_slow(words) and len(text) > ways.LARGE:
         launch.say(ways.SLOW)
-    return oracle.judged([*words, *asks.flags], name, text, asks.limits, asks.reads_calls)
+    return oracle.judged([*words, *asks.turns, *asks.flags], name, text, asks.limits, asks.reads_calls)
 
 
 def show(told, is_only):
@@ -194,7 +208,7 @@ def main(words, usage):
         return shrink(asks)
     if asks.form is None and len(asks.files) < 2:
         check_source(asks)
-    program = ways.command("flow_judge", may_be_node=not asks.draws, tells_way=True)
+    program = ways.command("flow_judge", may_be_node=not (asks.draws or asks.turns), tells_way=True)
     if ways.is_node(program):
         sys.stdout.flush()
         return subprocess.run([*program, *words]).returncode
