@@ -209,17 +209,21 @@ def pairs(members):
 
 def renamed(part, names):
     """A part of a script whose names are replaced by numbers in the order in which they occur."""
+
+    def number(name):
+        return names.setdefault(name, len(names)) if isinstance(name, str) and re.fullmatch("[a-z0-9_]{1,32}", name) else name
+
     if isinstance(part, list):
         return [renamed(each, names) for each in part]
     if not isinstance(part, dict):
         return part
-    is_name = re.compile("[a-z0-9_]{1,32}").fullmatch
-    give = lambda value: names.setdefault(value, len(names)) if isinstance(value, str) and is_name(value) else value
-    flows = part.get("flows")
-    part = {key: give(value) if key in ("flow", "name") and isinstance(value, str) else renamed(value, names) for key, value in part.items()}
-    if isinstance(flows, dict):
-        part["flows"] = {str(give(name)): renamed(flow, names) for name, flow in flows.items()}
-    return part
+    found = {}
+    for key, value in sorted(part.items()):
+        if key == "flows" and isinstance(value, dict):
+            found[key] = {str(number(name)): renamed(flow, names) for name, flow in value.items()}
+        else:
+            found[key] = number(value) if key in ("flow", "name") and isinstance(value, str) else renamed(value, names)
+    return found
 
 
 def normal(text):
