@@ -33,6 +33,7 @@ def test_copied_libraries_are_taken(tmp_path):
         pytest.skip("the libraries are not built; `rt ci` builds them")
     copied = subprocess.run([top / "use_in", tmp_path, CRATE], capture_output=True, text=True)
     assert (copied.returncode, "still to be proved" in copied.stdout) == (0, False), copied.stdout + copied.stderr
+    (tmp_path / "HANDLES").write_bytes((top / "HANDLES").read_bytes())
     with open(tmp_path / "crates.txt", "a") as lines:
         lines.write("my_program: flow_law flow_word anyhow\n")
     source = tmp_path / "crates/my_program/src/main.rt"

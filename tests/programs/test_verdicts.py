@@ -149,10 +149,10 @@ def test_junit():
 
 @pytest.mark.parametrize("name", ["<&>", '"', "a\nb", "\0", "\x1b[2J", "\ufffe", "é", "\U0010ffff", "]]>"], ids=ascii)
 def test_names_in_reports(name):
-    """A caller's name with any characters leaves a report well-formed."""
-    record = whole({**SET, "by": name}, {**VALUE, "answer": {"value": 9}})
-    _, told = report(text=record)
-    assert told["records"][0]["record"] == "-" and name in {call["by"] for call in told["records"][0]["calls"]} | {name}
+    """A report has a caller's name with any characters, and stays well-formed."""
+    record = whole(SET, {**VALUE, "by": name, "answer": {"value": 9}})
+    (entry,) = report(text=record)[1]["records"]
+    assert (entry["record"], [call["by"] for call in entry["calls"]]) == ("-", [SET["by"], name])
     xml.etree.ElementTree.fromstring(judge("--junit", text=record)[1])
 
 

@@ -56,7 +56,9 @@ def items(lines, ends=";"):
         if not item:
             continue
         is_over = at_margin and line.startswith(("}", "{}")) or at_margin and line.endswith("}") or not body and line.endswith(ends)
-        body = body or at_margin and line.endswith("{") and not item[0].startswith("pub use")
+        # The first line of an implementation may be broken before `for`.
+        begins = at_margin and not item[0].startswith("pub use") or item[0].startswith("impl") and line.startswith("    for ")
+        body = body or begins and line.endswith("{")
         if is_over:
             first = next((i for i, x in enumerate(item) if i and re.match(r"\s*(where|requires|ensures)\b", x)), len(item))
             clauses = one_line(x for x in item[first:] if x.strip() not in ("{", "}", "{}"))
