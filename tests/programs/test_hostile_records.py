@@ -34,7 +34,8 @@ def test_record(flow_judge, text, status):
 @pytest.mark.parametrize("damage", damaged())
 def test_damaged_record(flow_judge, damage):
     came = {what: (run(flow_judge, text=text), status) for what, (text, status) in damaged()[damage].items()}
-    assert {what: each for what, each in came.items() if not is_verdict(*each)} == {}
+    wrong = [f"{what}: wanted status {status}, came {outcome!r:.200}" for what, (outcome, status) in came.items() if not is_verdict(outcome, status)]
+    assert wrong == []
 
 
 def test_folder_as_input(flow_judge, tmp_path):

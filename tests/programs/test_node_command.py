@@ -9,7 +9,7 @@ import pytest
 
 from wumsnair_tools.built import top
 from hostile_records import SET, whole
-from running import SECONDS, case_id, ended, examples, program, records, run
+from running import SECONDS, case_id, ended, examples, expect, program, records, run
 from test_verdicts import MANY, NAMES, WRONG, at_terminal
 from wumsnair_tools.scripts import all_cases, text_of, versions
 
@@ -52,7 +52,7 @@ def test_script(node, name):
     assert (came.status, came.printed, came.said) == (played.status, played.printed, drawn["draw",].said)
     # test_page_outputs.py compares what the same module draws of the cases.
     for words, wanted in () if name.startswith("case_") else drawn.items():
-        assert node(*words, text=SCRIPTS[name]) == wanted
+        expect(node(*words, text=SCRIPTS[name]), wanted, " ".join(words))
 
 
 def test_records(node):
@@ -68,7 +68,8 @@ def test_records(node):
 def test_record(node, name):
     text = (top / RECORDS[name]).read_bytes()
     for flags in ([], ["--order"]):
-        assert node("judge", *flags, text=text)[:2] == run(program("flow_judge"), *flags, text=text)[:2]
+        native = run(program("flow_judge"), *flags, text=text)
+        expect(node("judge", *flags, text=text)._replace(said=b""), native._replace(said=b""), " ".join(flags))
 
 
 def test_reports(node):
@@ -118,7 +119,7 @@ FORMS = {
 def test_form(node, words):
     status, said = FORMS[words]
     came = node(*words.split())
-    assert (came.status, said in came.said.decode()) == (status, True), came
+    assert (came.status, said in came.said.decode()) == (status, True), f"wanted: status {status} and {said!r}; came: {came}"
 
 
 def test_standard_input(node):

@@ -43,9 +43,10 @@ def check(flow_judge, strategy, times, nodeid):
 def test_random_records(flow_judge, kind, request):
     tried = check(flow_judge, records(kind), RIGHT, request.node.nodeid)
     verdicts, pending, cancelled = zip(*tried)
-    legal = sum(verdicts)
-    assert len(tried) // 5 < legal < len(tried) - len(tried) // 5
-    assert MAY_BE_PENDING[kind] - set().union(*pending) == set()
+    legal, fifth = sum(verdicts), len(tried) // 5
+    assert fifth < legal < len(tried) - fifth, f"wanted: more than {fifth} legal records and more than {fifth} illegal ones; came: {legal} legal of {len(tried)}"
+    never = MAY_BE_PENDING[kind] - set().union(*pending)
+    assert never == set(), f"wanted: each call is pending in some record; came: never {never}"
     assert set().union(*cancelled) == MAY_BE_CANCELLED[kind]
 
 
@@ -59,4 +60,5 @@ def test_worked_record(what):
 @pytest.mark.parametrize("broken", PLANTED, ids=lambda broken: broken.__name__)
 def test_planted_error(flow_judge, broken, request):
     tried = check(flow_judge, records_of_broken(broken, PLANTED[broken]), BROKEN, request.node.nodeid)
-    assert not all(is_legal for is_legal, *_ in tried)
+    illegal = sum(not is_legal for is_legal, *_ in tried)
+    assert illegal, f"wanted: an illegal record of the flow with an error; came: {len(tried)} legal ones"

@@ -142,7 +142,7 @@ def test_random_small_records(kind, request):
         status, words = judge(text)
         if status == 1:
             _, _, small = shrink(judge, text)
-            assert wrong_from(judge(small)[1]) == wrong_from(words), (text.decode(), small.decode())
+            assert wrong_from(judge(small)[1]) == wrong_from(words), f"of\n{text.decode()}\nthis is left:\n{small.decode()}"
 
     check()
 
@@ -171,10 +171,12 @@ def test_random_parts(kind, request):
         legal.append(case)
         for moment in case.quiet_moments():
             rests = [case.after(moment, value) for value in case.values()]
-            assert any(judge(text_of(rest.flow, rest.calls))[0] in (0, 3) for rest in rests), (moment, json.dumps(record.calls))
+            statuses = [judge(text_of(rest.flow, rest.calls))[0] for rest in rests]
+            assert {0, 3} & set(statuses), f"wanted: status 0 or 3 for a rest after {moment}; came: {statuses}\n{json.dumps(record.calls)}"
         for once in smaller(case):
             text = text_of(once.flow, once.calls + once.optional)
-            assert judge(text)[0] in (0, 3), (json.dumps(record.calls), text.decode())
+            status = judge(text)[0]
+            assert status in (0, 3), f"wanted: status 0 or 3 for a part; came: {status}\n{json.dumps(record.calls)}\n{text.decode()}"
 
     check()
-    assert legal
+    assert legal, "wanted: a legal record among the random ones; came: none"

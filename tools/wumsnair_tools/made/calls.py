@@ -21,7 +21,10 @@ type under the crate that a program names. `tools/made --write` makes the page f
 
 - A call that takes `rt` may wait for other threads, or tries again if another caller was faster.
 - Allocators, lifetimes and bounds of type parameters are left out: `Vec<T>` may be `Vec<T, A>`. `alloc` is where memory
-  comes from.
+  comes from. Only that a type must be a [`FlowValue`](#flowvalue) is written: `scan<U: FlowValue>(..)`.
+- The values of flows and chains are `FlowValue`s, those of a `WordState` [`Packed`](#packed), and those of a `WordFlow`
+  [`Words`](#words). [Floats and shared pointers](USE.md#a-state-between-two-threads) are none. `S::Item` is a value of the
+  flow.
 - The last column has the error type and, after the colon, the variants that this call can return. If no clause lists
   them, it has what the source says of refusals. It is empty for a call that returns no error.
 """
@@ -113,6 +116,16 @@ def calls_of(name, of, alias):
     return calls
 
 
+def gives(name, of):
+    """The traits by which a type is polled or iterated over, each with the type that it then gives."""
+    for behind, block in impls:
+        trait, meant = target(block.text)
+        if trait in ("Future", "Stream", "Iterator") and behind == of and name_of(meant) == name:
+            for item in items(block.inner):
+                if item.text.startswith(("type Output = ", "type Item = ")):
+                    yield trait, plain(item.text.rstrip(";"))
+
+
 def parts_of(item, is_enum):
     """A line for each variant of an enum, or for each public field of a struct."""
     for part in items(item.inner, (",", ";")):
@@ -139,6 +152,8 @@ def section(name, of):
     lines = [f"### {name}", ""] + ([comment(item) + (base + "." if base else ""), ""] if item.docs or base else [])
     parts = list(parts_of(item, kind == "enum")) if kind in ("struct", "enum") else []
     lines += parts + [""] if parts else []
+    for trait, what in gives(name, of):
+        lines += [f"As {'an' if trait.startswith('I') else 'a'} `{trait}` it has `{what}`.", ""]
     if kind == "trait":
         by = {meant for _, block in impls for trait, meant in [target(block.text)] if trait.split("<")[0] == name}
         exported = sorted(meant for meant in by if name_of(meant) in shown or meant.islower() or re.match(r"\(|Option<|Arc<", meant))
