@@ -54,14 +54,14 @@ written_shared_answer lists _ = answer.Done
 
 -- what is known of the value that a `first` receives: a pending one leaves only after it has received a value, and a cancelled one
 -- may have received none
-abbrev pub first_known : List ℕ → Option WrittenAnswer → Option SharedAnswer
-first_known lists None = Some answer.SomeValue
-first_known lists (Some written.Cancelled) = None
-first_known lists (Some a) = Some (written_shared_answer lists a)
+abbrev pub known_of_first : List ℕ → Option WrittenAnswer → Option SharedAnswer
+known_of_first lists None = Some answer.SomeValue
+known_of_first lists (Some written.Cancelled) = None
+known_of_first lists (Some a) = Some (written_shared_answer lists a)
 
 -- the answer of a part, if one is known
 abbrev pub shared_known : List ℕ → CallWord → Option WrittenAnswer → Option SharedAnswer
-shared_known lists word.First a = first_known lists a
+shared_known lists word.First a = known_of_first lists a
 shared_known lists w (Some a) = Some (written_shared_answer lists a)
 shared_known lists w None = None
 

@@ -2,7 +2,7 @@
 ghost use Rattle.std.specs.Prelude.{◌≡◌, ◌++◌, [], ◌∷◌, map, IfOk, OnOk};
 ghost use Rattle.record_judging.specs.SharedRows.{plain, plain_operation, plain_answer};
 ghost use Rattle.record_judging.specs.SharedRows.{plain_known, plain_last, written_shared_answer};
-ghost use Rattle.record_judging.specs.SharedRows.{first_known, shared_known, shared_done};
+ghost use Rattle.record_judging.specs.SharedRows.{known_of_first, shared_known, shared_done};
 ghost use Rattle.record_judging.specs.SharedRows.{emit_begins};
 ghost use Rattle.record_judging.specs.SharedRows.{shared_operation, shared_part, first_parts};
 ghost use Rattle.record_judging.specs.SharedRows.{last_operation, last_parts};
@@ -30,8 +30,8 @@ fn shared_answer(answer: WrittenAnswer, lists: &[u64]) -> SharedAnswer<'_>
 
 /// Returns what is known of the value that a `first` receives. A pending one may leave, but only after it has received a
 /// value; a cancelled one may have left without a value.
-fn first_known(answer: Option<WrittenAnswer>, lists: &[u64]) -> Option<SharedAnswer<'_>>
-    ensures { plain_known result ≡ first_known lists.now answer }
+fn known_of_first(answer: Option<WrittenAnswer>, lists: &[u64]) -> Option<SharedAnswer<'_>>
+    ensures { plain_known result ≡ known_of_first lists.now answer }
 {
     match answer {
         None => Some(SharedAnswer::SomeValue),
@@ -45,7 +45,7 @@ fn known_answer(call: WrittenCall, lists: &[u64]) -> Option<SharedAnswer<'_>>
     ensures { plain_known result ≡ shared_known lists.now call.call call.answer }
 {
     match (call.call, call.answer) {
-        (CallWord::First, answer) => first_known(answer, lists),
+        (CallWord::First, answer) => known_of_first(answer, lists),
         (_, Some(answer)) => Some(shared_answer(answer, lists)),
         (_, None) => None,
     }
