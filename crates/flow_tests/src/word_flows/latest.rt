@@ -8,6 +8,7 @@ use flow_word_shared::{WordEmitter, WordFlow, WordFlowReader};
 use std::alloc::Global;
 use std::process::Abort;
 use std::sync::{Barrier, Wait};
+use std::thread;
 use std::thread::join;
 
 /// The greatest number of races. They end earlier once each outcome was seen.
@@ -269,7 +270,10 @@ fn a_value_is_dropped_before_the_slow_reader_leaves_and_taken_after(rt: HostRunt
     panic!(rt; "one call came first in each race");
 }
 
-/// Subscribes, and leaves at once. Returns whether there was a place.
+/// How often a subscriber that stays for a while yields.
+const STAYS: u32 = 100;
+
+/// Subscribes, and leaves, at once or in every second run after a while. Returns whether there was a place.
 fn subscribe_once<R: Wait>(
     rt: &R,
     start: &Barrier,
@@ -279,6 +283,11 @@ fn subscribe_once<R: Wait>(
     begin(rt, start, run);
     match emitter.subscribe(rt) {
         Ok(reader) => {
+            if run % 2 == 1 {
+                for _ in 0..STAYS {
+                    thread::yield_now();
+                }
+            }
             drop(reader);
             Some(true)
         }
