@@ -1,9 +1,12 @@
 // The command `node wumsnair.mjs`: judges records of calls, and plays and draws flow scripts, by the proved module in this file.
 import { closeSync, openSync, readFileSync, readSync, statSync, writeSync } from "node:fs";
-import { isMainThread } from "node:worker_threads";
+import { isatty } from "node:tty";
+import { isMainThread, workerData } from "node:worker_threads";
 import { inflateRawSync } from "node:zlib";
 import { FORM, Player, STATUS } from "../web/player.js";
-import { MOST_BYTES, NOT_BEGUN, judged, serve, verdictOf } from "./judging.mjs";
+import { visible, visibleLines, visibleWords } from "../web/verdict_text.js";
+import { FAILED, MOST_BYTES, judged, serve, verdictOf } from "./judging.mjs";
+import { LEAST_MEMORY, MOST_MEMORY, withMemory } from "./memory.mjs";
 import { jsonReport, junitReport, statusOf, summary } from "./reports.mjs";
 
 const HELP = `Judges records of calls, and plays and draws flow scripts.
@@ -18,17 +21,22 @@ Options of judge:
   --order        prints an order of the calls that explains a legal record, too
   --json         prints one report on all records as JSON, and --junit as the XML of JUnit
   --seconds N    stops after N seconds for each record; the verdict is then \`gave up\`
+  --memory N     gives the module at most N megabytes, 16 to 4,096; a record that needs more ends with status 4
   --stream       reads any number of records from standard input, each after a line with its number of bytes, and prints for each
                  a line with the status and the number of bytes of the words, and the words
 
-Without a file each reads standard input. The statuses are those of ./judge, ./play and ./draw (docs/SECURITY.md): 0 for a legal record
-or a script that was played, 1 for an illegal record, 2 if a text or an option is refused, 3 if the search gave up, or a read or a
-write of play or draw failed, 4 if it is out of memory, or a read or a write of judge failed, and 6 if a file is not there or cannot
-be read. The status of several records is 1 if one is illegal, else the greatest.
+Without a file, or with the file \`-\`, each reads standard input. At a terminal it shows for how long a search has run, after two seconds,
+and writes control characters in names as their numbers.
+
+The statuses are those of ./judge, ./play and ./draw (docs/SECURITY.md): 0 for a legal record or a script that was played, 1 for an
+illegal record, 2 if a text or an option is refused, 3 if the search gave up, 4 if it is out of memory, and 6 if it fails: a file is
+not there, say, or a read or a write fails. The status of several records is 1 if one is illegal, else the greatest.
 `;
 const MOST_OF_A_SCRIPT = 1_048_577;
-const OPTIONS = { judge: ["--order", "--json", "--junit", "--seconds", "--stream"], play: [], draw: ["--text", "--explain"], explain: [] };
-const DONE_ELSEWHERE = ["--draw", "--text", "--shrink"];
+const STANDARD_INPUT = "-";
+const OPTIONS = { judge: ["--order", "--json", "--junit", "--seconds", "--memory", "--stream"], play: [], draw: ["--text", "--explain"], explain: [] };
+const WRONG_MEMORY = `--memory takes a number of megabytes from ${LEAST_MEMORY} to 4,096`;
+const DONE_ELSEWHERE = ["--draw", "--text", "--shrink", "--turns"];
 
 /** Ends the command: an exception with a status and words for standard error. */
 class Stop extends Error {
@@ -39,20 +47,23 @@ class Stop extends Error {
 }
 
 /** Writes all bytes, also to a pipe that is full for a while. */
-function put(output, bytes, failed) {
+function put(output, bytes) {
   let rest = Buffer.from(bytes);
   while (rest.length > 0) {
     try {
       rest = rest.subarray(writeSync(output, rest));
     } catch (error) {
       if (error.code !== "EAGAIN") {
-        throw new Stop(failed, error.code === "EPIPE" ? "" : `cannot write: ${error.message}`);
+        throw new Stop(FAILED, error.code === "EPIPE" ? "" : `cannot write: ${error.message}`);
       }
     }
   }
 }
 
-const say = (words) => put(2, `${words}\n`, NOT_BEGUN);
+/** Writes lines, to a terminal without control characters. */
+const print = (output, lines) => put(output, isatty(output) ? visibleLines(lines) : lines);
+
+const say = (words) => print(2, `${words}\n`);
 
 /** Returns the first bytes of a file that has more. */
 function frontOf(file, most) {
@@ -65,11 +76,11 @@ function frontOf(file, most) {
 
 /** Reads a file, or standard input, or at least a number of its first bytes. */
 async function read(file, what, most) {
-  if (file !== undefined) {
+  if (file !== undefined && file !== STANDARD_INPUT) {
     try {
       return statSync(file).size > most ? frontOf(file, most) : readFileSync(file);
     } catch (error) {
-      throw new Stop(NOT_BEGUN, error.code === "ENOENT" ? `no such file: ${file}` : `cannot read ${file}: ${error.message}`);
+      throw new Stop(FAILED, error.code === "ENOENT" ? `no such file: ${file}` : `cannot read ${file}: ${error.message}`);
     }
   }
   if (process.stdin.isTTY) {
@@ -110,7 +121,7 @@ function parts(command, words) {
   const files = [];
   for (let at = 0; at < words.length; at++) {
     const word = words[at];
-    if (!word.startsWith("-")) {
+    if (word === STANDARD_INPUT || !word.startsWith("-")) {
       files.push(word);
     } else if (!OPTIONS[command].includes(word)) {
       const isElsewhere = command === "judge" && DONE_ELSEWHERE.includes(word);
@@ -119,6 +130,11 @@ function parts(command, words) {
       asks.seconds = Number(words[++at]);
       if (!(asks.seconds > 0 && asks.seconds < 2_000_000)) {
         throw new Stop(2, "--seconds takes a number of seconds above 0");
+      }
+    } else if (word === "--memory") {
+      asks.memory = /^[0-9]+$/.test(words[++at]) ? Number(words[at]) : 0;
+      if (asks.memory < LEAST_MEMORY || asks.memory > MOST_MEMORY) {
+        throw new Stop(2, WRONG_MEMORY);
       }
     } else {
       asks[word.slice(2)] = true;
@@ -133,14 +149,14 @@ function parts(command, words) {
 /** Plays or draws a script. Returns the status. */
 async function showScript(player, command, { asks, files }) {
   if (files.length > 1) {
-    throw new Stop(NOT_BEGUN, `one script at a time: ${files.join(" ")}`);
+    throw new Stop(FAILED, `one script at a time: ${files.join(" ")}`);
   }
   const script = (await read(files[0], "script", MOST_OF_A_SCRIPT)).subarray(0, MOST_OF_A_SCRIPT);
   const form = command === "explain" || asks.explain ? FORM.EXPLAINED : asks.text ? FORM.TEXT : FORM.SVG;
   const { status, bytes } = command === "play" ? player.play(script) : player.draw(form, script);
-  put(1, bytes, 3);
+  put(1, bytes);
   if (status === STATUS.REFUSED) {
-    put(2, player.explain(script).bytes, 3);
+    put(2, player.explain(script).bytes);
   }
   return status;
 }
@@ -149,19 +165,21 @@ async function showScript(player, command, { asks, files }) {
 async function judgeFile(player, table, file, asks) {
   try {
     const bytes = await read(file, "record", MOST_BYTES + 1);
-    return await judged(player, table, file ?? "-", bytes, asks);
+    return await judged(player, table, file ?? STANDARD_INPUT, bytes, asks);
   } catch (error) {
     if (!(error instanceof Stop)) {
       throw error;
     }
-    return { record: file ?? "-", verdict: "failed", status: error.status, words: "", hints: [error.message], seconds: 0 };
+    return { record: file ?? STANDARD_INPUT, verdict: "failed", status: error.status, words: "", hints: [error.message], seconds: 0 };
   }
 }
 
 /** Prints the verdict on one of several records, or on the only one. */
-function show({ record, words, hints, verdict }, isOnly) {
-  put(1, isOnly ? words : `${record}: ${words || `${verdict}\n`}`, 4);
-  hints.forEach((hint) => say(verdict === "failed" ? hint : isOnly ? `hint: ${hint}` : `${record}: hint: ${hint}`));
+function show({ record, words, hints, calls, verdict }, isOnly) {
+  const lines = isatty(1) ? visibleWords(words, calls ?? []) : words;
+  print(1, isOnly ? lines : `${record}: ${lines || `${verdict}\n`}`);
+  const shown = isatty(2) ? hints.map(visible) : hints;
+  shown.forEach((hint) => say(verdict === "failed" ? hint : isOnly ? `hint: ${hint}` : `${record}: hint: ${hint}`));
 }
 
 /** Judges records. Returns the status. */
@@ -169,22 +187,22 @@ async function judgeAll(player, table, { asks, files }) {
   const verdicts = [];
   const isReport = asks.json || asks.junit;
   for (const file of files.length ? files : [undefined]) {
-    const verdict = await judgeFile(player, table, file, { ...asks, calls: isReport, file: new URL(import.meta.url) });
+    const verdict = await judgeFile(player, table, file, { ...asks, calls: isReport || isatty(1), file: new URL(import.meta.url) });
     verdicts.push(verdict);
     if (!isReport) {
       show(verdict, files.length < 2);
     }
   }
   if (isReport) {
-    put(1, asks.json ? jsonReport(verdicts, asks.order) : junitReport(verdicts), 4);
+    print(1, asks.json ? jsonReport(verdicts, asks.order) : junitReport(verdicts));
   } else if (files.length > 1) {
-    put(1, summary(verdicts), 4);
+    put(1, summary(verdicts));
   }
   return statusOf(verdicts);
 }
 
 /** Judges each record of standard input, and prints the status and the words. */
-async function judgeStream(player, order) {
+async function judgeStream(player, asks) {
   let buffer = Buffer.alloc(0);
   for await (const part of process.stdin) {
     buffer = Buffer.concat([buffer, part]);
@@ -193,32 +211,37 @@ async function judgeStream(player, order) {
       if (buffer.length < end) {
         break;
       }
-      const { status, words } = verdictOf(player, buffer.subarray(line + 1, end), order);
-      put(1, `${status} ${Buffer.byteLength(words)}\n${words}`, 4);
+      const { status, words } = verdictOf(player, buffer.subarray(line + 1, end), asks);
+      put(1, `${status} ${Buffer.byteLength(words)}\n${words}`);
       buffer = buffer.subarray(end);
     }
   }
   return 0;
 }
 
+/** Returns the player of this file, whose memory has at most so many megabytes. */
+async function loaded(megabytes) {
+  return Player.load(withMemory(inflateRawSync(Buffer.from(MODULE, "base64")), megabytes ?? MOST_MEMORY));
+}
+
 async function run([command, ...words]) {
   if (command === undefined || [command, ...words].some((word) => word === "--help" || word === "-h")) {
-    put(1, HELP, NOT_BEGUN);
+    put(1, HELP);
     return command === undefined ? 2 : 0;
   }
   if ([command, ...words].includes("--version")) {
-    put(1, `wumsnair ${VERSION}, built from ${COMMIT}\n`, NOT_BEGUN);
+    put(1, `wumsnair ${VERSION}, built from ${COMMIT}\n`);
     return 0;
   }
   if (!Object.hasOwn(OPTIONS, command)) {
     throw unknown("command", command, Object.keys(OPTIONS));
   }
   const given = parts(command, words);
-  const player = await Player.load(inflateRawSync(Buffer.from(MODULE, "base64")));
+  const player = await loaded(given.asks.memory);
   if (command !== "judge") {
     return showScript(player, command, given);
   }
-  return given.asks.stream ? judgeStream(player, given.asks.order) : judgeAll(player, REMEDIES, given);
+  return given.asks.stream ? judgeStream(player, given.asks) : judgeAll(player, REMEDIES, given);
 }
 
 if (isMainThread) {
@@ -231,9 +254,9 @@ if (isMainThread) {
     }
     process.exitCode = isFull ? STATUS.OUT_OF_MEMORY : error.status;
     if (error.message) {
-      process.stderr.write(`${error.message}\n`);
+      process.stderr.write(`${isatty(2) ? visibleLines(error.message) : error.message}\n`);
     }
   }
 } else {
-  serve(await Player.load(inflateRawSync(Buffer.from(MODULE, "base64"))));
+  serve(await loaded(workerData.memory));
 }

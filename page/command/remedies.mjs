@@ -5,7 +5,7 @@ import { callsOf, recordOf } from "../web/record_text.js";
 /** The least number of calls of a caller of whose moments anything is said. */
 const FEW_CALLS = 2;
 
-/** The least number of open calls of which anything is said, and the number of them that are named. */
+/** The least number of open calls that are many, and the number of them that are named. */
 const MANY_OPEN = 3;
 const NAMED = 8;
 
@@ -174,11 +174,13 @@ function openCalls(calls) {
   return { moment, numbers: calls.flatMap((call, index) => (isOpen(call, index) ? [index + 1] : [])) };
 }
 
-/** Returns what to do if the search gave up. */
-function giveUpRemedies(table, calls) {
+/** Returns what to do if the search gave up, by itself or since the time was up. Where it stopped, it does not say. */
+function giveUpRemedies(table, calls, isStopped) {
   const { moment, numbers } = openCalls(calls);
   const named = numbers.slice(0, NAMED).map((number) => `call ${number}`).join(", ");
-  return numbers.length < MANY_OPEN ? [] : [filled(table.of_calls.many_open, { moment, count: numbers.length, calls: named })];
+  const areFew = numbers.length < MANY_OPEN;
+  const sentence = areFew ? table.of_calls.few_open : table.of_calls.many_open;
+  return areFew && (isStopped || numbers.length === 0) ? [] : [filled(sentence, { moment, count: numbers.length, calls: named })];
 }
 
 /** Returns the calls of a record; nothing if it is none, which a search that was stopped does not say. */
@@ -197,14 +199,14 @@ export function warningsOf(table, { flow, calls }) {
   return [...subscriptionFaults(table, calls), ...ofValues, ...clockWarnings(table, calls)];
 }
 
-/** Returns the remedies for a record, and its calls if it was read. */
-export function lookAt(table, bytes, verdict, words) {
+/** Returns the remedies for a record, and its calls if it was read. `isStopped` says that the time of a search was up. */
+export function lookAt(table, bytes, verdict, words, isStopped) {
   if (verdict === "refused") {
     return { calls: undefined, remedies: remediesOfRefusal(table, words, bytes) };
   }
   if (verdict === "gave up") {
     const calls = callsIfRead(bytes);
-    return { calls, remedies: giveUpRemedies(table, calls ?? []) };
+    return { calls, remedies: giveUpRemedies(table, calls ?? [], isStopped) };
   }
   const read = recordOf(bytes.toString("utf8"));
   return { calls: read.calls, remedies: warningsOf(table, read) };

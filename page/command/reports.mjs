@@ -1,4 +1,6 @@
 // Reports verdicts: in lines, as JSON, and as the XML of JUnit. tools/wumsnair_tools/judging/reports.py writes the same for ./judge.
+import { linesOf, visible, visibleWords } from "../web/verdict_text.js";
+
 const VERDICTS = ["legal", "illegal", "refused", "gave up", "failed"];
 
 /** Returns the status of a command that judged records: 1 if one is illegal, else the greatest. */
@@ -36,8 +38,14 @@ export function jsonOf(value, indent = "\n") {
 
 /** Returns the numbers of the calls that the lines of a verdict name, each with the part of the call. */
 function listed(words, calls) {
-  const lines = words.split("\n").map((line) => /^ +(\d+) {2}([^]*)$/.exec(line)).filter((found) => found && calls[found[1] - 1]);
-  return lines.map(([, number, rest]) => ({ number: Number(number), part: /\((it [a-z ]+)\)$/.exec(rest)?.[1] ?? null }));
+  const named = linesOf(words, calls).filter(({ number }) => number > 0);
+  return named.map(({ number, rest }) => ({ number, part: /\((it [a-z ]+)\)$/.exec(rest)?.[1] ?? null }));
+}
+
+/** Returns the moment by which no order explains the calls of an illegal record, and the one from which on its calls are listed. */
+function momentsOf(words) {
+  const [, moment, since] = /^illegal\nby moment (\d+) .*; from (\d+) on /.exec(words) ?? [];
+  return moment === undefined ? { moment: null, since: null } : { moment: BigInt(moment), since: BigInt(since) };
 }
 
 /** Returns what a refusal says, in parts. */
@@ -47,11 +55,6 @@ function refusalOf(words) {
   const [place, column, call] = found.slice(1, 4).map((digits) => (digits === undefined ? null : Number(digits)));
   return { line: place, column, call, message: found[4], expected: part(/^ {2}expected: (.*)$/m), nearest: part(/^ {2}nearest: "(.*)"$/m) };
 }
-
-const momentIn = (words, pattern) => {
-  const digits = pattern.exec(words)?.[1];
-  return digits === undefined ? null : BigInt(digits);
-};
 
 function countsOf(calls) {
   const pending = calls.filter(({ end }) => end === undefined).length;
@@ -69,8 +72,7 @@ function entry({ record, verdict, status, words, hints, calls, seconds }, withOr
     status,
     seconds,
     counts: calls ? countsOf(calls) : null,
-    moment: isIllegal ? momentIn(words, /^by moment (\d+) /m) : null,
-    since: isIllegal ? momentIn(words, /; from (\d+) on/m) : null,
+    ...momentsOf(words),
     calls: numbered,
     order: withOrder && verdict === "legal" ? listed(words, calls).map(order) : null,
     refusal: verdict === "refused" ? refusalOf(words) : null,
@@ -95,13 +97,13 @@ function escaped(text) {
 const inTag = (text) => escaped(text).replace(/\n/g, "&#10;");
 
 /** Returns a test of JUnit for a verdict. */
-function testOf({ record, verdict, words, hints, seconds }) {
+function testOf({ record, verdict, words, hints, calls, seconds }) {
   const open = `  <testcase classname="wumsnair.judge" name="${inTag(record)}" time="${seconds.toFixed(3)}"`;
   if (verdict === "legal") {
     return `${open}/>\n`;
   }
   const kind = verdict === "illegal" ? "failure" : "error";
-  const text = escaped([words.trimEnd(), ...hints].filter((part) => part).join("\n"));
+  const text = escaped([visibleWords(words, calls ?? []).trimEnd(), ...hints.map(visible)].filter((part) => part).join("\n"));
   const message = inTag(words.split("\n").slice(0, 2).map((line) => line.trim()).join(" ").trim() || verdict);
   return `${open}>\n   <${kind} type="${verdict}" message="${message}">${text}</${kind}>\n  </testcase>\n`;
 }

@@ -1,6 +1,8 @@
 #!/usr/bin/env python3
 """Puts the page, its code, both modules of the player and the examples into one file, which a browser can open from a disk:
-bundle.py EXAMPLES WIDE.wasm LOWERED.wasm OUT.html"""
+bundle.py EXAMPLES WIDE.wasm LOWERED.wasm OUT.html
+
+The foot of the page names the version, and the commit that it was built from."""
 import base64
 import json
 import pathlib
@@ -8,7 +10,14 @@ import re
 import sys
 import zlib
 
-web = pathlib.Path(__file__).resolve().parent.parent / "web"
+make = pathlib.Path(__file__).resolve().parent
+page, top = make.parent, make.parent.parent
+web = page / "web"
+sys.path[:0] = [str(make), str(top / "tools")]
+from origin import commit, version
+from wumsnair_tools.built import sources
+
+FOOT = "<footer>Version VERSION, built from COMMIT</footer>"
 STYLE = '<link rel="stylesheet" href="page.css">\n'
 CODE = '<script type="module" src="page.js"></script>\n'
 IMPORT = re.compile(r'^import (?:\{[^}]*\} from )?"\./(\w+\.js)";\n', re.M)
@@ -34,9 +43,9 @@ def element(kind, name, text):
     return f'<script type="{kind}" id="{name}">{text}</script>\n'
 
 
-def replaced(page, part, by):
-    assert page.count(part) == 1, part
-    return page.replace(part, by)
+def replaced(text, part, by):
+    assert text.count(part) == 1, part
+    return text.replace(part, by)
 
 
 def texts(folder):
@@ -45,15 +54,22 @@ def texts(folder):
     return json.dumps({path.stem: path.read_text() for path in found}).replace("<", "\\u003c")
 
 
+def made_from(examples):
+    """The files that the page is made from."""
+    texts_of = [file for folder in (examples, examples / "records") for file in folder.glob("*.json*")]
+    return [*sources("flow_calls"), *web.iterdir(), *make.iterdir(), page / "build", *texts_of]
+
+
 def bundle(examples, wide, lowered, target):
     inside = element("text/plain", "wide-module", compressed(wide)) + element("text/plain", "module", compressed(lowered))
     inside += element("application/json", "example-scripts", texts(examples))
     inside += element("application/json", "example-records", texts(examples / "records"))
     code = "\n".join(in_order("page.js", {}).values())
     assert "</script" not in code
-    page = (web / "index.html").read_text()
-    page = replaced(page, STYLE, f'<style>\n{(web / "page.css").read_text()}</style>\n')
-    target.write_text(replaced(page, CODE, f'{inside}<script type="module">\n{code}</script>\n'))
+    text = (web / "index.html").read_text()
+    text = replaced(text, STYLE, f'<style>\n{(web / "page.css").read_text()}</style>\n')
+    text = replaced(text, FOOT, f"<footer>Version {version()}, built from {commit(made_from(examples))}</footer>")
+    target.write_text(replaced(text, CODE, f'{inside}<script type="module">\n{code}</script>\n'))
 
 
 if __name__ == "__main__":

@@ -6,13 +6,13 @@ import hashlib
 import json
 import pathlib
 import re
-import subprocess
 import sys
 
 make = pathlib.Path(__file__).resolve().parent
 page, top = make.parent, make.parent.parent
 sys.path[:0] = [str(make), str(top / "tools")]
 from bundle import compressed
+from origin import commit, version
 from wumsnair_tools.built import sources
 
 OWN = re.compile(r'^import \{[^}]*\} from "(\.[\w./]+)";\n', re.M)
@@ -46,7 +46,7 @@ def imports(texts):
 
 def made_from():
     """The files that the command is made from."""
-    own = [page / "build", *(make / name for name in ("bundle_command.py", "heap.c", "lower.py", "retarget.py"))]
+    own = [page / "build", *(make / name for name in ("bundle_command.py", "heap.c", "lower.py", "origin.py", "retarget.py"))]
     return sorted({*sources("flow_calls"), *own, *parts(), page / "command" / "remedies.json"})
 
 
@@ -58,16 +58,6 @@ def sum_of_sources():
     return taken.hexdigest()
 
 
-def commit():
-    """The commit that is checked out; with `, changed` if a file that the command is made from differs from it."""
-    def git(*words):
-        return subprocess.run(["git", *words], cwd=top, capture_output=True, text=True).stdout.strip()
-
-    head = git("rev-parse", "HEAD")
-    changed = git("status", "--porcelain", "--", *map(str, made_from()))
-    return f"commit {head[:12]}" + (", changed" if changed else "") if head else "no commit"
-
-
 def bundle_command(lowered, target):
     texts = list(parts().values())
     code = "\n".join(OF_NODE.sub("", text) for text in texts)
@@ -75,9 +65,9 @@ def bundle_command(lowered, target):
     head = f"""#!/usr/bin/env node
 // Wumsnair judges records of calls, and plays and draws flow scripts: node wumsnair.mjs --help. Node 18 or later. Apache License 2.0.
 // page/build made this file; change page/command and build it again.
-const COMMIT = "{commit()}";
+const COMMIT = "{commit(made_from())}";
 const SOURCES = "{sum_of_sources()}";
-const VERSION = "{(top / "VERSION").read_text().strip()}";
+const VERSION = "{version()}";
 const REMEDIES = {json.dumps(remedies)};
 const MODULE = "{compressed(lowered)}";
 """

@@ -5,6 +5,7 @@ import { VERDICT, textOf } from "./player.js";
 import { callsOf } from "./record_text.js";
 import { placeOf } from "./script_text.js";
 import { showTimeline } from "./timeline.js";
+import { linesOf } from "./verdict_text.js";
 
 const WORDS = {
   [VERDICT.LEGAL]: ["legal", "Some order of the calls has these answers, so the documented flow may have answered so."],
@@ -12,7 +13,7 @@ const WORDS = {
   [VERDICT.GAVE_UP]: ["gave up", "The search took too long, so it is not known whether some order has these answers."],
   [VERDICT.REFUSED]: ["refused", "The text is not a record. The reason is below the text."],
   [VERDICT.OUT_OF_MEMORY]: ["out of memory", "The record was not judged."],
-  stopped: ["stopped", "The checker stopped, so the record was not judged. The reason is below the text."],
+  stopped: ["stopped", "The judge stopped, so the record was not judged. The reason is below the text."],
 };
 
 const recordRefusal = byId("record-refusal");
@@ -22,7 +23,7 @@ let refusedPlace;
 let isDrawn = false;
 
 /** Returns the numbers of the calls that the lines of a verdict name. */
-const numbersIn = (lines) => new Set(lines.map((line) => Number(/^ +(\d+) {2}/.exec(line)?.[1] ?? 0)));
+const numbersIn = (told, calls) => new Set(linesOf(told, calls).map(({ number }) => number));
 
 /** Shows the verdict, and the further lines that the checker printed. */
 function showVerdict(status, lines) {
@@ -53,7 +54,8 @@ export function judge(player) {
     recordRefusal.replaceChildren();
     recordEditor.showMarks(undefined, "step", undefined);
     showVerdict(status, lines);
-    showTimeline(callsOf(recordEditor.text), status === VERDICT.ILLEGAL ? numbersIn(lines) : new Set());
+    const calls = callsOf(recordEditor.text);
+    showTimeline(calls, status === VERDICT.ILLEGAL ? numbersIn(told, calls) : new Set());
     isDrawn = true;
   }
   recordEditor.showRefusal(isRefused, refusedPlace);

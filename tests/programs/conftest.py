@@ -25,7 +25,6 @@ hypothesis.settings.load_profile("gate")
 
 
 def pytest_addoption(parser):
-    parser.addoption("--write", action="store_true", help="draw the picture of docs/RECORDS.md again")
     parser.addoption("--page", help="the folder in which page/build put the page; without it page/out")
 
 

@@ -61,6 +61,9 @@ class State(Flow):
     def unsubscribe(self, by):
         return None if self.received.pop(by, None) is None else "done"
 
+    def stay_away(self, by):
+        return None if by in self.received else "done"
+
 
 class Shared(Flow):
     """A shared flow. The name of a caller stands for its emission, since a caller makes one emission at a time."""
@@ -162,6 +165,10 @@ class Shared(Flow):
         self.settle()
         return "done"
 
+    def stay_away(self, by):
+        """A `first` that was cancelled before it subscribed. Its caller has no subscription."""
+        return None if by in self.position else "done"
+
     def replay_cache(self, by):
         return [value for _, value in self.emitted[self.cache_start() :]]
 
@@ -191,10 +198,12 @@ def is_given(answer, given):
 def parts_of(call):
     """The parts of a call in order, each with its arguments and the answer that it must have; with None, any answer.
 
-    A `first` leaves after it has received a value, so only a value may be the answer of its middle part, also if it is pending."""
+    A `first` leaves after it has received a value, so only a value may be the answer of its middle part, also if it is pending. Of a
+    cancelled one the value is not known."""
     word, answer, by = call["call"], call.get("answer"), call["by"]
     if word == "first":
-        return [("subscribe", [by], "done"), ("next", [by], answer or SOME_VALUE), ("unsubscribe", [by], "done")]
+        received = answer if isinstance(answer, dict) else SOME_VALUE
+        return [("subscribe", [by], "done"), ("next", [by], received), ("unsubscribe", [by], "done")]
     if word == "update":
         return [("compare_and_set", [by, answer["old"], answer["value"]], True)]
     arguments = [by] + [call[key] for key in ("expect", "value", "first") if key in call]
@@ -205,8 +214,15 @@ def parts_of(call):
 
 
 def choices_of(call):
-    """The ways in which a call that has ended may have happened: a cancelled emit may not have begun."""
-    return [parts_of(call), []] if call.get("answer") == "cancelled" else [parts_of(call)]
+    """The ways in which a call that has ended may have happened: a cancelled one may not have begun, and a cancelled `first` may have
+    left without a value."""
+    parts = parts_of(call)
+    if call.get("answer") != "cancelled":
+        return [parts]
+    if call["call"] == "emit":
+        return [parts, []]
+    subscribed, _, left = parts
+    return [parts, [subscribed, left], [("stay_away", [call["by"]], "done")]]
 
 
 def goes_on(flow, rows, begun):

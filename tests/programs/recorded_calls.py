@@ -17,6 +17,7 @@ OF_SHARED = ("try_emit", "try_emit", "emit", "emit", "emit", "subscribe", "subsc
 CALLS = {"state": OF_STATE, "shared": OF_SHARED}
 # An `update` that never ended is no call of a record.
 MAY_BE_PENDING = {kind: set(words) - {"update"} for kind, words in CALLS.items()}
+MAY_BE_CANCELLED = {"state": {"first"}, "shared": {"first", "emit"}}
 VALUES = range(3)
 ONE_IN_FIVE = (False, False, False, False, True)
 # The callers whose last calls are left pending.
@@ -31,7 +32,7 @@ class Turn:
     call: str
     value: int
     expect: int
-    # Whether a subscriber has first values of its own, and whether an emission is cancelled.
+    # Whether a subscriber has first values of its own, and whether an `emit` or a `first` is cancelled.
     has_first: bool
     is_cancelled: bool
     # How long before the turn the call begins, and how long after it the call ends.
@@ -75,14 +76,14 @@ class Recorder:
         self.finish(self.begin(turn, moment), turn, moment, {"old": old, "value": value})
 
     def first(self, turn, moment):
-        """Begins the call `first()`. It is pending until it has received a value."""
+        """Begins the call `first()`. It is pending until it has received a value or is cancelled."""
         if self.flow.subscribe(turn.by) is not None:
             self.firsts[turn.by] = self.begin(turn, moment)
             self.end_first(turn, moment)
 
     def end_first(self, turn, moment):
-        answer = self.flow.next(turn.by)
-        if isinstance(answer, dict):
+        answer = "cancelled" if turn.is_cancelled else self.flow.next(turn.by)
+        if answer != "empty":
             self.flow.unsubscribe(turn.by)
             self.finish(self.firsts.pop(turn.by), turn, moment, answer)
 

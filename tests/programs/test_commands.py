@@ -163,7 +163,7 @@ def test_built_program_is_not_built_again():
         command("./play", REPLAY)
         after = resource.getrusage(resource.RUSAGE_CHILDREN)
         took.append(after.ru_utime + after.ru_stime - before.ru_utime - before.ru_stime)
-    assert min(took) < 0.5
+    assert min(took) < 0.5, f"wanted: one of five runs takes less than 0.5 s of processor time; came: {took}"
 
 
 def heed_interrupts():

@@ -13,9 +13,10 @@ from running import SECONDS, case_id, ended, expect, records, run
 # The first line of what is printed.
 VERDICTS = {LEGAL: b"legal", ILLEGAL: b"illegal", REFUSED: b"refused: ", GAVE_UP: b"gave up"}
 OUT_OF_MEMORY = ended(FAILED, "out of memory")
-USAGE = ended(REFUSED, "usage: flow_judge [--order | --draw [--text]]")
+USAGE = ended(REFUSED, "usage: flow_judge [--turns N] [--order | --draw [--text]]")
 FORMS = {"verdict": [], "order": ["--order"], "draw": ["--draw"], "draw_text": ["--draw", "--text"]}
-WRONG_WORDS = (["--Order"], ["--draw", "--order"], ["--text"], ["--draw", "--draw"], [""], ["--draw", "--text", "--text"])
+WRONG_WORDS = (["--Order"], ["--draw", "--order"], ["--text"], ["--draw", "--draw"], [""], ["--draw", "--text", "--text"], ["--turns"],
+               ["--turns", "-1"], ["--turns", "2^9"], ["--turns", "18446744073709551616"], ["--order", "--turns", "9"])  # fmt: skip
 
 
 def is_verdict(came, status):
@@ -33,7 +34,8 @@ def test_record(flow_judge, text, status):
 @pytest.mark.parametrize("damage", damaged())
 def test_damaged_record(flow_judge, damage):
     came = {what: (run(flow_judge, text=text), status) for what, (text, status) in damaged()[damage].items()}
-    assert {what: each for what, each in came.items() if not is_verdict(*each)} == {}
+    wrong = [f"{what}: wanted status {status}, came {outcome!r:.200}" for what, (outcome, status) in came.items() if not is_verdict(outcome, status)]
+    assert wrong == []
 
 
 def test_folder_as_input(flow_judge, tmp_path):

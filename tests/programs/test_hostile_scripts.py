@@ -51,7 +51,8 @@ def test_script(flow_play, text, wanted):
 def test_damaged_script(flow_play, name, damage):
     texts = damaged(PLAYED[name][0])[damage]
     came = {what: run(flow_play, text=text) for what, text in texts.items()}
-    assert {what: each for what, each in came.items() if each != NOT_JSON} == {}
+    wrong = {what: each for what, each in came.items() if each != NOT_JSON}
+    assert wrong == {}, f"wanted: {NOT_JSON} for each"
 
 
 def run_between(source, sink, *words):
@@ -179,4 +180,5 @@ def test_refused_in_little_time(flow_play, text):
     before = os.times()
     run(flow_play, text=text)
     after = os.times()
-    assert after.children_user + after.children_system - before.children_user - before.children_system < 0.25
+    took = after.children_user + after.children_system - before.children_user - before.children_system
+    assert took < 0.25, f"wanted: less than 0.25 s of processor time; came: {took:.2f} s"

@@ -8,7 +8,9 @@ import subprocess
 import pytest
 
 from wumsnair_tools.built import top
-from running import SECONDS, case_id, examples, program, records, run
+from hostile_records import SET, whole
+from running import SECONDS, case_id, ended, examples, expect, program, records, run
+from test_verdicts import MANY, NAMES, WRONG, at_terminal
 from wumsnair_tools.scripts import all_cases, text_of, versions
 
 DRAWN = {("draw",): [], ("draw", "--text"): ["--text"], ("explain",): ["--explain"]}
@@ -50,7 +52,7 @@ def test_script(node, name):
     assert (came.status, came.printed, came.said) == (played.status, played.printed, drawn["draw",].said)
     # test_page_outputs.py compares what the same module draws of the cases.
     for words, wanted in () if name.startswith("case_") else drawn.items():
-        assert node(*words, text=SCRIPTS[name]) == wanted
+        expect(node(*words, text=SCRIPTS[name]), wanted, " ".join(words))
 
 
 def test_records(node):
@@ -66,7 +68,8 @@ def test_records(node):
 def test_record(node, name):
     text = (top / RECORDS[name]).read_bytes()
     for flags in ([], ["--order"]):
-        assert node("judge", *flags, text=text)[:2] == run(program("flow_judge"), *flags, text=text)[:2]
+        native = run(program("flow_judge"), *flags, text=text)
+        expect(node("judge", *flags, text=text)._replace(said=b""), native._replace(said=b""), " ".join(flags))
 
 
 def test_reports(node):
@@ -105,6 +108,9 @@ FORMS = {
     "jugde": (2, "no command jugde: did you mean judge?"),
     f"judge --draw {STALE}": (2, "no option --draw here: ./judge has it"),
     f"judge --seconds 0 {STALE}": (2, "--seconds takes a number of seconds above 0"),
+    f"judge --memory 15 {STALE}": (2, "--memory takes a number of megabytes from 16 to 4,096"),
+    f"judge --memory 4097 {STALE}": (2, "--memory takes a number of megabytes from 16 to 4,096"),
+    f"judge --memory {STALE}": (2, "--memory takes a number of megabytes from 16 to 4,096"),
     f"judge --seconds 0.001 {STALE}": (3, "hint: stopped after 0.001 seconds; --seconds sets the limit"),
 }
 
@@ -113,7 +119,39 @@ FORMS = {
 def test_form(node, words):
     status, said = FORMS[words]
     came = node(*words.split())
-    assert (came.status, said in came.said.decode()) == (status, True), came
+    assert (came.status, said in came.said.decode()) == (status, True), f"wanted: status {status} and {said!r}; came: {came}"
+
+
+def test_standard_input(node):
+    """The file - is standard input, for each command, and among other files."""
+    stale, replay = (top / STALE).read_bytes(), (top / REPLAY).read_bytes()
+    assert node("judge", "-", text=stale) == node("judge", STALE)
+    for words in (["play"], ["draw", "--text"], ["explain"]):
+        assert node(*words, "-", text=replay) == node(*words, REPLAY)
+    came = node("judge", STALE, "-", text=(top / RECORDS["legal_state_overlap"]).read_bytes())
+    assert came.printed.decode().endswith("-: legal\n2 records: 1 legal, 1 illegal\n")
+
+
+@pytest.mark.parametrize("seconds", [[], ["--seconds", "50"]], ids=case_id)
+def test_limit_of_memory(node, seconds):
+    """It holds in the main thread, and in the thread that a time stops. The words are those of ./judge."""
+    assert node("judge", "--memory", "16", *seconds, STALE).status == 1
+    assert node("judge", "--memory", "16", *seconds, text=MANY) == ended(4, "out of memory", said="16 megabytes are not enough; --memory sets the limit\n")
+    assert node("judge", "--memory", "4096", *seconds, text=MANY) == ended(0, "legal")
+
+
+@pytest.mark.parametrize("name", NAMES, ids=ascii)
+def test_names_at_a_terminal(page, name):
+    record = whole({**SET, "by": name})
+    assert at_terminal("node", page / "wumsnair.mjs", "judge", "--order", text=record) == f"legal\n  1  {NAMES[name]} set 3: done\n"
+
+
+def test_time_at_a_terminal(page):
+    """A terminal shows for how long a search has run, every two seconds, and nothing of that in the end."""
+    text, _, _ = WRONG["callers that all overlap"]
+    said = at_terminal("node", page / "wumsnair.mjs", "judge", text=text)
+    shown, _, told = said.rpartition("\r\x1b[K")
+    assert re.fullmatch(r"(\rjudging +\d+ s )+", shown) and told.startswith("gave up\nhint: ")
 
 
 def test_time_is_enough(node):
@@ -128,8 +166,8 @@ def test_help_and_version(node, page):
 
 
 def test_full_device(node, page):
-    """A write that fails has the status of the program."""
-    for words, status in ((["play", REPLAY], 3), (["judge", STALE], 4)):
+    """A write that fails has the same status as in ./play, ./draw and ./judge."""
+    for words in (["play", REPLAY], ["draw", REPLAY], ["judge", STALE]):
         with open("/dev/full", "wb") as full:
             ran = subprocess.run(["node", page / "wumsnair.mjs", *words], cwd=top, stdout=full, stderr=subprocess.PIPE, timeout=SECONDS)
-        assert ran.returncode == status and b"cannot write" in ran.stderr
+        assert ran.returncode == 6 and b"cannot write" in ran.stderr

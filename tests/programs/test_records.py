@@ -2,9 +2,8 @@
 threads to this library's flows.
 
 The verdict is the first word of the record's name. For an illegal or refused record the file .told beside it has what must be printed,
-typed by hand. A picture must mark the calls that the verdict lists. docs/pictures has one picture, which `tools/programs --write -k
-picture_of_the_page` draws again. What flow_stress records of threads must be legal: no proof says that calls which do not overlap keep
-their order."""
+typed by hand. A picture must mark the calls that the verdict lists. docs/pictures has one picture, which `tools/made --write pictures`
+draws. What flow_stress records of threads must be legal: no proof says that calls which do not overlap keep their order."""
 import pytest
 
 from wumsnair_tools.built import top
@@ -116,11 +115,8 @@ def test_picture_typed_by_hand(flow_judge, name):
     expect(run(flow_judge, "--draw", "--text", text=RECORDS[name].read_bytes()), wanted)
 
 
-def test_picture_of_the_page(flow_judge, request):
-    drawn = run(flow_judge, "--draw", text=TORN.read_bytes()).printed.decode()
-    if request.config.getoption("--write"):
-        PICTURE.write_text(drawn)
-    assert drawn == PICTURE.read_text()
+def test_picture_of_the_page(flow_judge):
+    assert run(flow_judge, "--draw", text=TORN.read_bytes()).printed == PICTURE.read_bytes()
 
 
 @pytest.mark.parametrize("kind", KINDS)

@@ -3,12 +3,17 @@
 The reports of `./judge --json` have the members that docs/RECORDS.md lists, and those of `--junit` are XML. The sentences of the
 remedies are those of page/command/remedies.json."""
 import json
+import os
+import pty
+import resource
 import subprocess
+import sys
 import xml.etree.ElementTree
 
 import pytest
 
 from wumsnair_tools.built import top
+from wumsnair_tools.judging import oracle
 from hostile_records import SET, SHARED, STATE, VALUE, lines, whole
 from running import SECONDS, case_id, records
 
@@ -18,6 +23,8 @@ OVERLAPPING, UNKNOWN = RECORDS["refused_calls_of_one_caller_overlap"], RECORDS["
 NO_FILE = "no_such_file.json"
 STATUSES = {"legal": 0, "illegal": 1, "refused": 2}
 MEMBERS = "record verdict status seconds counts moment since calls order refusal hints".split()
+# A record of many calls.
+MANY = lines(*({**SET, "begin": 2 * at, "end": 2 * at + 1} for at in range(100_000)))
 # More bytes than a record may have.
 TOO_MANY = 268_435_457
 TOO_LARGE = "refused: the record has more than 268435456 bytes\n  expected: at most 268435456 bytes\n"
@@ -70,10 +77,81 @@ def test_options_that_do_not_go_together(words):
     assert judge(*words.split(), LEGAL) == (2, "", "--text goes with --draw, and --draw with no other option\n")
 
 
+@pytest.mark.parametrize("turns", ["0", "1.5", "1e9", "18446744073709551616", ""])
+def test_wrong_turns(turns):
+    assert judge("--turns", turns, LEGAL) == (2, "", "--turns takes a whole number above 0 and below 2^64\n")
+
+
+@pytest.mark.parametrize("words", ["--draw", "--shrink"])
+def test_turns_that_do_not_go_together(words):
+    assert judge("--turns", "9", words, LEGAL) == (2, "", "--turns goes with neither --draw nor --shrink\n")
+
+
+def test_limit_of_turns():
+    """Each of six changes takes a turn."""
+    record = whole(*({**SET, "by": f"u{at}", "value": at} for at in range(6)), {**VALUE, "answer": {"value": 5}})
+    assert judge("--turns", "5", text=record)[:2] == (3, "gave up\n")
+    assert judge("--turns", "1000", text=record) == (0, "legal\n", "")
+    assert report("--turns", "5", text=record)[1]["records"][0]["verdict"] == "gave up"
+
+
 def test_limit_of_time():
     """No process ends within a millionth of a second."""
     assert judge("--seconds", "0.000001", LEGAL) == (3, "gave up\n", "hint: stopped after 1e-06 seconds; --seconds sets the limit\n")
     assert judge("--seconds", "50", LEGAL) == (0, "legal\n", "")
+
+
+@pytest.mark.parametrize("megabytes", ["0", "15", "4097", "much", "1.5", ""])
+def test_wrong_memory(megabytes):
+    assert judge("--memory", megabytes, LEGAL) == (2, "", "--memory takes a number of megabytes from 16 to 4,096\n")
+
+
+def test_limit_of_memory():
+    """A record of 100,000 calls needs more than 16 megabytes, and a small one does not."""
+    assert judge("--memory", "16", LEGAL) == (0, "legal\n", "")
+    status, printed, said = judge("--memory", "16", text=MANY)
+    assert (status, printed, said) == (4, "out of memory\n", "16 megabytes are not enough; --memory sets the limit\n")
+    assert report("--memory", "16", text=MANY)[1]["records"][0]["verdict"] == "failed"
+    assert judge("--memory", "1024", text=MANY)[:2] == (0, "legal\n")
+
+
+def test_time_at_a_terminal(monkeypatch):
+    """A terminal shows for how long a search has run."""
+    monkeypatch.setattr(oracle, "SHOWN_EVERY", 0.05)
+    terminal, end = pty.openpty()
+    with os.fdopen(end, "w") as shown:
+        monkeypatch.setattr(sys, "stderr", shown)
+        told = oracle.judged(["sleep", "0.5"], "-", b"")
+    said = shown_at(terminal)
+    assert told.verdict == "legal" and said.startswith("\rjudging    0 s ") and said.endswith("\r\x1b[K")
+
+
+def turns_of(calls):
+    """The fewest turns of a search that gives up on so many calls, as docs/RECORDS.md has them."""
+    return max(1_000 * calls, 4_000_000)
+
+
+def test_time_of_a_turn():
+    """Two searches that give up take about a microsecond of processor time for each turn."""
+    text, _, _ = WRONG["callers that all overlap"]
+    before = resource.getrusage(resource.RUSAGE_CHILDREN)
+    assert judge(text=text)[0] == 3
+    after = resource.getrusage(resource.RUSAGE_CHILDREN)
+    seconds = after.ru_utime + after.ru_stime - before.ru_utime - before.ru_stime
+    assert 0.1 < seconds / (2 * turns_of(21)) * 1_000_000 < 10
+
+
+def drawn(text):
+    """The lines of a drawing, without that of the verdict."""
+    return judge("--draw", "--text", text=text)[1].splitlines()[1:]
+
+
+def test_end_of_a_drawing():
+    """The drawing of a legal record ends when 30 calls are over, and has at most 1,000."""
+    apart = [{**VALUE, "begin": 2 * at, "end": 2 * at + 1, "answer": {"value": 0}} for at in range(40)]
+    assert [line.split("t2 ")[0].split()[-1] for line in drawn(whole(*apart))] == [str(number) for number in range(1, 31)]
+    at_once = [{**VALUE, "by": f"u{at}", "begin": 1, "end": 2, "answer": {"value": 0}} for at in range(1_100)]
+    assert len(drawn(whole(*at_once))) == 1_000
 
 
 def test_limit_of_size(tmp_path):
@@ -127,7 +205,8 @@ def test_json_of_all_records():
     assert status == 1 and told["counts"]["records"] == len(RECORDS)
     wanted = {path: name.partition("_")[0] for name, path in RECORDS.items()}
     assert {entry["record"]: entry["verdict"] for entry in told["records"]} == wanted
-    assert all(entry["status"] == STATUSES[entry["verdict"]] and list(entry) == MEMBERS for entry in told["records"])
+    assert {entry["record"]: entry["status"] for entry in told["records"]} == {path: STATUSES[verdict] for path, verdict in wanted.items()}
+    assert [entry for entry in told["records"] if list(entry) != MEMBERS] == [], f"wanted: the members {MEMBERS}"
 
 
 def test_junit():
@@ -146,13 +225,68 @@ def test_junit():
     assert suite[1][0].text == (top / STALE).with_suffix(".told").read_text().rstrip()
 
 
-@pytest.mark.parametrize("name", ["<&>", '"', "a\nb", "\0", "\x1b[2J", "\ufffe", "é", "\U0010ffff", "]]>"], ids=ascii)
+# Callers' names, each with what a terminal shows of it.
+NAMES = {
+    "<&>": "<&>",
+    '"': '"',
+    "a\nb": "a\\u000ab",
+    "t1\n  2  t2 set 5: done": "t1\\u000a  2  t2 set 5: done",
+    "\0": "\\u0000",
+    "\x1b[2J": "\\u001b[2J",
+    "\x9b2J": "\\u009b2J",
+    "\u202ea": "\\u202ea",
+    "\ufffe": "\ufffe",
+    "é": "é",
+    "\U0010ffff": "\U0010ffff",
+    "]]>": "]]>",
+}
+
+
+@pytest.mark.parametrize("name", NAMES, ids=ascii)
 def test_names_in_reports(name):
-    """A caller's name with any characters leaves a report well-formed."""
-    record = whole({**SET, "by": name}, {**VALUE, "answer": {"value": 9}})
-    _, told = report(text=record)
-    assert told["records"][0]["record"] == "-" and name in {call["by"] for call in told["records"][0]["calls"]} | {name}
+    """A report is well-formed and has the calls of the verdict, whatever the callers' names are."""
+    record = whole({**SET, "by": name}, {**VALUE, "by": name, "answer": {"value": 0}})
+    (entry,) = report(text=record)[1]["records"]
+    assert [(call["number"], call["by"]) for call in entry["calls"]] == [(1, name), (2, name)]
+    (turn,) = report("--order", text=whole({**SET, "by": name}))[1]["records"][0]["order"]
+    assert turn == {"number": 1, "by": name, "call": "set", "part": None}
     xml.etree.ElementTree.fromstring(judge("--junit", text=record)[1])
+
+
+def at_terminal(*words, text):
+    """What a command prints at a terminal on standard output and on standard error."""
+    terminal, end = pty.openpty()
+    ran = subprocess.Popen(words, cwd=top, stdin=subprocess.PIPE, stdout=end, stderr=end)
+    os.close(end)
+    ran.stdin.write(text)
+    ran.stdin.close()
+    said = shown_at(terminal)
+    ran.wait(timeout=SECONDS)
+    return said
+
+
+def read(terminal):
+    try:
+        return os.read(terminal, 10_000)
+    except OSError:
+        return b""
+
+
+def shown_at(terminal):
+    """What a terminal shows until its other end is closed."""
+    said = b"".join(iter(lambda: read(terminal), b""))
+    os.close(terminal)
+    return said.decode().replace("\r\n", "\n")
+
+
+@pytest.mark.parametrize("name", NAMES, ids=ascii)
+def test_names_at_a_terminal(name):
+    """A terminal gets no control characters, and each call in one line. tools/tests/test_verdict_text.py compares wumsnair.mjs."""
+    shown, record = NAMES[name], whole({**SET, "by": name})
+    told = f"legal\n  1  {shown} set 3: done\n"
+    assert at_terminal("./judge", "--order", text=record) == told
+    drawn = at_terminal("./judge", "--draw", "--text", text=record)
+    assert drawn.startswith("legal\n|-| ") and drawn.endswith(f"   1  {shown} set 3: done  [10, 20]\n")
 
 
 SUBSCRIBE = {"by": "b", "call": "subscribe", "begin": 1, "end": 2, "answer": "done"}
@@ -173,7 +307,7 @@ WRONG = {
     "callers that all overlap": (
         whole(*({**SET, "by": f"u{at}", "value": at} for at in range(20)), {**VALUE, "answer": {"value": 99}}),
         3,
-        "20 calls were open at moment 10, among them call 1, call 2,",
+        "the most were open at moment 10, 20 calls, among them call 1, call 2,",
     ),
     "no subscription": (whole(NEXT), 1, "call 1: b calls next without a subscription: record its subscribe, too"),
     "a first within a subscription": (whole(SUBSCRIBE, FIRST, flow=STATE), 1, "call 2: b calls first while it has a subscription"),

@@ -55,6 +55,14 @@ def test_command_of_other_code(machine):
     assert ways.command("flow_judge") == node and said == [ways.OTHER_CODE]
 
 
+def test_what_is_present(machine):
+    """A way that needs no build."""
+    node, _ = machine(None, True, True, ("node", "rt"))
+    assert ways.present("flow_judge") == node
+    machine(None, True, False, ("node", "rt"))
+    assert ways.present("flow_judge") is None
+
+
 def test_what_node_cannot_do(machine):
     machine(UNPROVED, True, True, ("node", "rt"))
     assert ways.command("flow_judge", may_be_node=False) == [UNPROVED]

@@ -94,7 +94,37 @@ def equal_sets():
     yield "one caller sets 1 and 2 in the same moments, and another one sets 1", whole(*both, other, *read, flow=STATE), None
 
 
+def cancelled_firsts():
+    """A cancelled `first` may have subscribed and received a value, and has left by its end. No other call subscribes."""
+
+    def came(begin, end, *others, flow=shared()):
+        return whole(made("b", "first", begin, end, "cancelled"), *others, flow=flow)
+
+    def tried(begin, end, answer):
+        return made("t1", "try_emit", begin, end, answer, value=3)
+
+    def counted(begin, end, count):
+        return made("t2", "subscription_count", begin, end, count)
+
+    yield "a cancelled first subscribes, so a value is refused, and leaves", came(0, 4, tried(1, 2, False), tried(8, 9, True)), None
+    yield "a value is refused after a cancelled first", came(0, 4, tried(5, 6, False)), 6
+    yield "a cancelled first is counted, and leaves", came(0, 4, counted(1, 2, 1), counted(8, 9, 0)), None
+    yield "a cancelled first is counted, and leaves before its end", came(0, 9, counted(1, 2, 1), counted(3, 4, 0)), None
+    yield "a cancelled first is counted after its end", came(0, 4, counted(5, 6, 1)), 6
+    yield "a cancelled first is counted before its begin", came(2, 4, counted(0, 1, 1)), 1
+    yield "a cancelled first subscribes twice", came(0, 9, counted(1, 2, 1), counted(3, 4, 0), counted(5, 6, 1)), 6
+    yield "a cancelled first is not counted", came(0, 9, counted(1, 2, 0), tried(3, 4, True), counted(5, 6, 0)), None
+    emitted = made("t1", "emit", 3, 4, value=3)
+    yield "a cancelled first receives a value, and leaves later", came(0, 9, counted(1, 2, 1), emitted, counted(5, 6, 1)), None
+    both = made("t1", "emit", 3, 4, value=3), made("t1", "emit", 5, 6, value=4)
+    yield "a cancelled first receives two values", came(0, 9, counted(1, 2, 1), *both, counted(7, 8, 1)), 8
+    yield "a cancelled first of a state is counted, and leaves", came(0, 4, counted(1, 2, 1), counted(8, 9, 0), flow=STATE), None
+    yield "a cancelled first of a state is counted after its end", came(0, 4, counted(8, 9, 1), flow=STATE), 9
+    own = made("b", "subscribe", 0, 1)
+    yield "a subscriber calls first, which is cancelled", whole(own, made("b", "first", 2, 3, "cancelled"), flow=shared()), 3
+
+
 def worked_records():
     """All records, by what they are."""
-    kinds = (reads, late_reads, equal_sets, rendezvous, full_buffers, late_values)
+    kinds = (reads, late_reads, equal_sets, rendezvous, full_buffers, late_values, cancelled_firsts)
     return {what: (record, moment) for kind in kinds for what, record, moment in kind()}

@@ -37,3 +37,24 @@ def test_command_that_ends_otherwise(commands, monkeypatch):
     wrong = list(commands.check_block(commands.Block("page.md", ["cd docs", "false", "echo a"], "b\n")))
     assert [line.split(": ")[1] for line in wrong] == ["false", "echo a"]
     assert list(commands.check_block(commands.Block("page.md", ["cd docs", "echo a"], "a\n"))) == []
+
+
+@pytest.fixture
+def words():
+    return module_of("words")
+
+
+@pytest.mark.parametrize("known, said", [({}, "polled_by is defined in a, b"), ({"polled_by": 1}, "polled_by is defined in a, b"), ({"polled_by": 2}, None)])
+def test_word_with_several_definitions(words, monkeypatch, known, said):
+    monkeypatch.setattr(words, "KNOWN", known)
+    monkeypatch.setattr(words, "cited", lambda: {"polled_by", "cache"})
+    monkeypatch.setattr(words, "definitions", lambda: {"polled_by": ["a", "b"], "cache": ["crates/c/specs/C.antt"]})
+    assert words.check()[1] == ([said] if said else [])
+
+
+def test_known_word_with_one_definition(words, monkeypatch):
+    """A word that was renamed leaves the list."""
+    monkeypatch.setattr(words, "KNOWN", {"cache": 2})
+    monkeypatch.setattr(words, "cited", lambda: {"cache"})
+    monkeypatch.setattr(words, "definitions", lambda: {"cache": ["crates/c/specs/C.antt"]})
+    assert words.check()[1] == ["KNOWN of tools/words has cache, which no longer has several definitions"]

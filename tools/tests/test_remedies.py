@@ -7,7 +7,7 @@ import subprocess
 import pytest
 
 from conftest import TOP
-from wumsnair_tools.judging import remedies
+from wumsnair_tools.judging import oracle, remedies
 
 STATE = {"kind": "state", "initial": 0}
 SHARED = {"kind": "shared", "replay": 0, "extra": 1, "overflow": "suspend"}
@@ -92,6 +92,20 @@ ILLEGAL = {
         ],
     ),
 }
+GAVE_UP = {
+    "many callers": (
+        lines(STATE, *({**PENDING, "by": f"u{at}", "begin": at} for at in range(9))),
+        ["a search takes long where many calls overlap: the most were open at moment 8, 9 calls, among them call 1, call 2, call 3, call 4, call 5, "
+         "call 6, call 7, call 8. It need not have stopped there. Record fewer callers at once, leave out calls that changed nothing, or judge the "
+         "calls that began before this moment"],
+    ),
+    "two callers": (
+        lines(STATE, PENDING, {**PENDING, "by": "b", "begin": 3}),
+        ["no more than 2 calls overlap, at moment 3, so the record is long: judge the calls that began in the first half of its moments"],
+    ),
+    "no calls": (lines(STATE), []),
+    "no record": ("{", []),
+}  # fmt: skip
 
 
 @pytest.fixture(scope="module")
@@ -99,8 +113,9 @@ def in_node():
     """What wumsnair.mjs says about each record."""
     given = [{"text": text, "verdict": "refused", "words": words} for text, words, _ in REFUSED.values()]
     given += [{"text": text, "verdict": "illegal", "words": ""} for text, _ in ILLEGAL.values()]
+    given += [{"text": text, "verdict": "gave up", "words": "gave up\n"} for text, _ in GAVE_UP.values()]
     ran = subprocess.run(["node", "--input-type=module", "-e", IN_NODE], cwd=TOP, input=json.dumps(given), capture_output=True, text=True, check=True)
-    return dict(zip([*REFUSED, *ILLEGAL], json.loads(ran.stdout)))
+    return dict(zip([*REFUSED, *ILLEGAL, *GAVE_UP], json.loads(ran.stdout)))
 
 
 @pytest.mark.parametrize("what", REFUSED)
@@ -114,3 +129,11 @@ def test_refusal(what, in_node):
 def test_warnings(what, in_node):
     text, wanted = ILLEGAL[what]
     assert remedies.of_calls(*remedies.record_of(text.encode())) == wanted == in_node[what]
+
+
+@pytest.mark.parametrize("what", GAVE_UP)
+def test_giving_up(what, in_node):
+    text, wanted = GAVE_UP[what]
+    calls = oracle.calls_if_read(text.encode()) or []
+    assert remedies.of_giving_up(calls) == wanted == in_node[what]
+    assert remedies.of_giving_up(calls, True) == (wanted if what == "many callers" else [])

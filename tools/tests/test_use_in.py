@@ -1,6 +1,8 @@
 """./use_in copies crates with all that they need, and says in one sentence why it does not."""
 import os
+import signal
 import subprocess
+import time
 
 import pytest
 
@@ -78,6 +80,19 @@ def test_changed_copy_is_not_overwritten(tmp_path):
     assert changed.read_text() == "// mine\n"
 
 
+def test_interrupt(tmp_path):
+    """The folder is as it was, and no traceback is printed."""
+    heed = lambda: signal.signal(signal.SIGINT, signal.default_int_handler)
+    copying = subprocess.Popen([top / "use_in", tmp_path, *NAMES], stdout=subprocess.PIPE, stderr=subprocess.PIPE, text=True, preexec_fn=heed)
+    end = time.monotonic() + 60
+    while not list(tmp_path.glob("crates/.wumsnair-*/*")) and time.monotonic() < end:
+        time.sleep(0.001)
+    copying.send_signal(signal.SIGINT)
+    printed, said = copying.communicate(timeout=60)
+    assert (copying.returncode, printed, said) == (130, "", "interrupted, so nothing is copied\n")
+    assert list(tmp_path.iterdir()) == []
+
+
 REFUSALS = (
     ([top / "no_such_folder", "flow_law"], 6, f"no such folder: {top}/no_such_folder\n"),
     ([top, "flow_law"], 6, f"{top} is this repository\n"),
@@ -110,3 +125,9 @@ def test_folder_that_may_not_be_written(tmp_path):
 def test_help_lists_the_crates():
     ran = use_in("--help")
     assert (ran.returncode, ran.stderr) == (0, "") and all(name in ran.stdout for name in NAMES)
+
+
+def test_full_device():
+    with open("/dev/full", "wb") as full:
+        ran = subprocess.run([top / "use_in", "--help"], stdout=full, stderr=subprocess.PIPE, text=True)
+    assert (ran.returncode, ran.stderr) == (6, "cannot write: No space left on device\n")

@@ -1,9 +1,11 @@
-"""Finds the program that a command runs, or builds it without a proof."""
+"""Finds the program that a command runs, or builds it without a proof.
+
+The toolchain has no command that writes a program without a proof: `rt try` builds one, runs it and removes it. So `rt try` is run from
+a copy of the toolchain, of links, whose linker also copies the program to another place."""
 import contextlib
 import os
 import pathlib
 import shutil
-import signal
 import subprocess
 import sys
 import tempfile
@@ -11,15 +13,19 @@ import threading
 import time
 
 from wumsnair_tools.built import sources, top
+from wumsnair_tools.prover import kit
+from wumsnair_tools.terminal import for_stream, is_terminal
 
-# How many runs `rt try` makes of the program that it builds.
-RUNS = 40
 # The status if the command itself fails. The programs use 0 to 4, and the C library 5.
 FAILED = 6
+# A linker that copies the program that it makes.
+LINKER = """#!/bin/sh
+"{linker}" "$@" && cp program "{kept}"
+"""
 
 
 def say(words):
-    print(words, file=sys.stderr, flush=True)
+    print(for_stream(words, sys.stderr), file=sys.stderr, flush=True)
 
 
 def stop(words):
@@ -37,17 +43,20 @@ def fresh_program(name):
 
 
 @contextlib.contextmanager
-def seconds_shown():
-    """Shows at a terminal how many seconds have passed, once a second."""
-    if not sys.stderr.isatty():
+def seconds_shown(what="", every=1):
+    """Shows at a terminal how many seconds have passed, once in so many seconds."""
+    if not is_terminal(sys.stderr):
         yield
         return
     begin, is_over = time.monotonic(), threading.Event()
 
     def show():
-        while not is_over.wait(1):
-            print(f"\r{time.monotonic() - begin:4.0f} s ", end="", file=sys.stderr, flush=True)
-        print("\r\x1b[K", end="", file=sys.stderr, flush=True)
+        is_shown = False
+        while not is_over.wait(every):
+            is_shown = True
+            print(f"\r{what}{time.monotonic() - begin:4.0f} s ", end="", file=sys.stderr, flush=True)
+        if is_shown:
+            print("\r\x1b[K", end="", file=sys.stderr, flush=True)
 
     shower = threading.Thread(target=show)
     shower.start()
@@ -58,52 +67,46 @@ def seconds_shown():
         shower.join()
 
 
-def keep(room, kept, has_ended):
-    """Links the program of a run of `rt try` to another name, before `rt try` removes it."""
-    while not has_ended.wait(0.002):
-        for program in pathlib.Path(room).glob("*/*/program"):
-            with contextlib.suppress(OSError):
-                os.link(program, kept)
-        if kept.exists():
-            return
+def link_all(source, target, but):
+    """Makes a folder of links to all that another folder has, except for these names."""
+    target.mkdir()
+    for entry in source.iterdir():
+        if entry.name not in but:
+            (target / entry.name).symlink_to(entry)
 
 
-def take_program(trying, room, kept):
-    """Links the program that `rt try` builds to another name, and returns what `rt try` printed.
-
-    It keeps no program, but puts one into a folder of its own for each run, and prints a line when a run has ended. So the
-    line of the first run says that the program is built, and it is there again for each of the others."""
-    said, keeper, has_ended = b"", None, threading.Event()
-    try:
-        for line in trying.stderr:
-            said += line
-            if keeper is None and line.startswith(b"case="):
-                keeper = threading.Thread(target=keep, args=(room, kept, has_ended))
-                keeper.start()
-    finally:
-        has_ended.set()
-        if keeper:
-            keeper.join()
-    return said
+def toolchain_that_keeps(folder, kept):
+    """Makes a copy of the toolchain whose linker copies the program that it makes. Returns the `rt` of the copy."""
+    link_all(kit(), folder, but=("bin", "toolchain"))
+    link_all(kit() / "bin", folder / "bin", but=("rt", "rtlib.py"))
+    link_all(kit() / "toolchain", folder / "toolchain", but=("bin",))
+    link_all(kit() / "toolchain/bin", folder / "toolchain/bin", but=("ld.lld",))
+    # `rt` takes the toolchain of the folder that it is in, and not that of a link to it.
+    for name in ("rt", "rtlib.py"):
+        shutil.copy(kit() / "bin" / name, folder / "bin")
+    linker = folder / "toolchain/bin/ld.lld"
+    linker.write_text(LINKER.format(linker=kit() / "toolchain/bin/ld.lld", kept=kept))
+    linker.chmod(0o755)
+    return folder / "bin/rt"
 
 
-def try_cases(crate, room, kept):
+def try_program(crate, room, kept):
     """Builds the program of a crate by `rt try`, and puts it in its place. Returns what `rt try` printed if that fails."""
-    cases, new = pathlib.Path(room, "cases"), pathlib.Path(room, "new")
+    cases, new = room / "cases", room / "new"
     cases.mkdir()
-    for number in range(RUNS):
-        (cases / f"{number}.json").touch()
+    # Of a run by --cases the status does not matter: the program refuses an empty script.
+    (cases / "empty").touch()
+    words = [toolchain_that_keeps(room / "kit", new), "try", "--cases", cases]
     how = {"stdin": subprocess.DEVNULL, "stdout": subprocess.DEVNULL, "stderr": subprocess.PIPE, "start_new_session": True}
-    trying = subprocess.Popen(["rt", "try", "--cases", cases], cwd=crate, env={**os.environ, "TMPDIR": room}, **how)
+    trying = subprocess.Popen(words, cwd=crate, env={**os.environ, "TMPDIR": str(room)}, **how)
     try:
-        said = take_program(trying, room, new)
+        _, said = trying.communicate()
     except BaseException:
-        # Then `rt try` removes its folder.
-        trying.send_signal(signal.SIGTERM)
-        raise
-    finally:
+        # Then `rt try` ends what it runs, and removes its folder.
+        trying.terminate()
         trying.wait()
-    if new.exists() and trying.returncode == 0:
+        raise
+    if trying.returncode == 0 and new.exists():
         new.replace(kept)
         return None
     return said.decode(errors="replace").strip() or f"`rt try` ended with status {trying.returncode}"
@@ -117,7 +120,7 @@ def build(name):
     try:
         kept.parent.mkdir(exist_ok=True)
         with tempfile.TemporaryDirectory(prefix="flows-", dir=kept.parent) as room, seconds_shown():
-            failure = try_cases(crate, room, kept)
+            failure = try_program(crate, pathlib.Path(room), kept)
     except OSError as error:
         stop(f"cannot build {name} in {kept.parent}: {error.strerror}")
     if failure:

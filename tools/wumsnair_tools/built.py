@@ -7,17 +7,26 @@ import sys
 top = pathlib.Path(__file__).resolve().parents[2]
 
 
-def sources(name):
-    """The code that a program is built of."""
+def needs():
+    """The crates of crates.txt, each with those that its line names, also of the toolchain."""
     lines = [line.partition(":") for line in (top / "crates.txt").read_text().splitlines()]
-    below = {name.split()[0]: names.split() for name, colon, names in lines if colon and not name.startswith("#")}
-    left, taken = [name], set()
+    return {head.split()[0]: names.split() for head, colon, names in lines if colon and not head.startswith("#")}
+
+
+def below(name):
+    """A crate of the repository, and those that it needs."""
+    left, taken, known = [name], [], needs()
     while left:
         name = left.pop()
-        if name in below and name not in taken:
-            taken.add(name)
-            left += below[name]
-    files = [file for name in taken for file in (top / "crates" / name / "src").rglob("*.rt")]
+        if name in known and name not in taken:
+            taken.append(name)
+            left += known[name]
+    return taken
+
+
+def sources(name):
+    """The code that a program is built of."""
+    files = [file for each in below(name) for file in (top / "crates" / each / "src").rglob("*.rt")]
     return [file for file in files if "tests" not in file.parts and file.stem != "tests"]
 
 

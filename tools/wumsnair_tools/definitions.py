@@ -56,8 +56,10 @@ def specs(crate, module):
 
 @functools.cache
 def source(crate, module):
-    """The types and traits that a source file declares, and the imports of its clauses."""
+    """The types and traits that a source file declares, and the imports of its clauses. None of a module inside of one."""
     file = house.top / "crates" / crate / "src" / (module.replace(".", "/") + ".rt")
+    if not file.exists():
+        return Scope({}, {}, {})
     text = without_comments(file.read_text())
     own = {}
     for item in re.finditer(r"^pub (?:struct|enum|trait) (\w+)(?:[^\n]*;|[^;]*?^\})$", text, re.M | re.S):
@@ -91,9 +93,9 @@ def defined(module, name):
     return resolve(scope, name) if scope else None
 
 
-def rests_on(text, scope):
-    """All definitions that a text cites in a scope, and those that these cite in turn."""
-    found, left = {}, [(text, scope)]
+def rests_on(*cited):
+    """All definitions that texts cite, each in its scope, and those that these cite in turn."""
+    found, left = {}, list(cited)
     while left:
         text, scope = left.pop()
         for word in NAME.findall(text):

@@ -15,6 +15,8 @@ __all__ = ["FAILED", "fresh_program", "program", "say", "stop"]
 
 VERSION = (top / "VERSION").read_text().strip()
 REFUSED = 2
+# The status of the programs of scripts if a read or a write fails. A command then has FAILED.
+TRANSFER_FAILED = 3
 # The most bytes that a program reads of a script: one more than a script may have.
 MOST_READ = 1_048_577
 # The name of standard input, which is read if no file is named, too.
@@ -23,17 +25,60 @@ STANDARD_INPUT = "-"
 GONE = -1
 
 
-def run_command(main):
-    """Runs a command to its end. An interrupt, or a file that cannot be used, ends it without a traceback."""
+def put(words):
+    """Prints words. Returns whether that went well, and says why if not."""
+    if sys.stdout is None:
+        if words:
+            say("standard output is closed")
+        return not words
+    try:
+        sys.stdout.buffer.write(words if isinstance(words, bytes) else words.encode(errors="surrogateescape"))
+        sys.stdout.flush()
+    except OSError as error:
+        say(f"cannot write: {error.strerror}")
+        # Python would try to write the rest as it ends.
+        os.dup2(os.open(os.devnull, os.O_WRONLY), 1)
+        return False
+    return True
+
+
+def show(words):
+    """Prints words, and exits if that fails."""
+    if not put(words):
+        sys.exit(FAILED)
+
+
+def ended(main):
+    """The status of a command, also of one that exits by itself."""
+    try:
+        return main()
+    except SystemExit as exited:
+        return exited.code
+
+
+def run_command(main, interrupted=None):
+    """Runs a command to its end. An interrupt, a file that cannot be used, or a write that fails ends it without a traceback. After an
+    interrupt it prints these words, if there are any."""
     # With this `./play FILE | head` ends as other commands do.
     signal.signal(signal.SIGPIPE, signal.SIG_DFL)
     signal.signal(signal.SIGTERM, lambda number, _: sys.exit(128 + number))
     try:
-        sys.exit(main())
+        status = ended(main)
+        sys.exit(status if put("") else FAILED)
     except OSError as error:
         stop(f"{error.filename}: {error.strerror}" if error.filename else error.strerror)
     except KeyboardInterrupt:
+        if interrupted:
+            say(interrupted)
         sys.exit(128 + signal.SIGINT)
+
+
+def status_of(ran):
+    """The status of a command, by that of the program that it ran on a script."""
+    if ran.returncode != TRANSFER_FAILED:
+        return ran.returncode
+    say("a read or a write failed")
+    return FAILED
 
 
 def is_file(word):
@@ -142,10 +187,10 @@ def refuse_word(kind, word, known):
 def first_options(words, usage, options):
     """Handles --help and --version, and refuses an option that is not among these."""
     if "--help" in words or "-h" in words:
-        print(usage)
+        show(f"{usage}\n")
         sys.exit(0)
     if "--version" in words:
-        print(f"wumsnair {VERSION}")
+        show(f"wumsnair {VERSION}\n")
         sys.exit(0)
     for word in words:
         if not is_file(word) and word not in options:

@@ -1,13 +1,10 @@
-"""The toolchain, and the way in which its `rt` calls the prover."""
+"""The toolchain, and the arguments with which its prover reads a crate."""
 import functools
-import importlib.machinery
-import importlib.util
-import os
 import pathlib
 import subprocess
 import sys
 
-top = pathlib.Path(__file__).resolve().parents[2]
+from wumsnair_tools.built import below, needs, top
 
 
 @functools.cache
@@ -17,20 +14,22 @@ def kit():
     return pathlib.Path(said.strip()).parent
 
 
-@functools.cache
-def rtlib():
-    """The module of `rt` that its commands share."""
-    loader = importlib.machinery.SourceFileLoader("rtlib", str(kit() / "bin/rtlib.py"))
-    module = importlib.util.module_from_spec(importlib.util.spec_from_loader("rtlib", loader))
-    loader.exec_module(module)
-    return module
+def library(name):
+    """What `rt ci` made of a crate of this repository, or what the toolchain has of one of its own."""
+    return top / "crates" / name / "out/rlib" / f"{name}.rlib" if name in needs() else kit() / "rlibs" / f"{name}.rlib"
 
 
-@functools.cache
 def words_for(name):
-    """The arguments with which the prover reads a crate, with the libraries that `rt ci` proved last."""
-    crate = next(crate for crate in rtlib().crates_below(str(top)) if crate.name == name)
-    missing = [below.name for below in crate.below() if not os.path.isdir(below.rlib)]
+    """The arguments with which the prover reads a crate, with the libraries that `rt ci` proved last. `rattle help check` explains them."""
+    own = [each for each in below(name) if each != name]
+    missing = next((each for each in own if not library(each).is_dir()), None)
     if missing:
-        sys.exit(f"crates/{missing[0]} is not proved yet: run `rt ci` first")
-    return crate.words(["--jobs", "1"], keeps=False)
+        sys.exit(f"crates/{missing} is not proved yet: run `rt ci` first")
+    is_program = (top / "crates" / name / "src/main.rt").exists()
+    externs = [f"{each}={library(each)}" for each in ("std", *needs()[name])]
+    folders = dict.fromkeys([kit() / "rlibs", *(library(each).parent for each in own)])
+    words = ["--crate-name", name, "src/main.rt" if is_program else "src/lib.rt"]
+    words += [word for extern in externs for word in ("--extern", extern)]
+    words += [word for folder in folders for word in ("-L", f"dependency={folder}")]
+    words += ["--antt-project", kit() / "rattle/logic/antt-project.json", "--logic-built", kit() / "logic_built"]
+    return [*words, "--links", f"{name}=", "--jobs", "1"]

@@ -1,4 +1,4 @@
-"""The public items of the crates, read from their `.rt` sources as `rt fmt` lays them out: for tools/calls and tools/believe."""
+"""The public items of the crates, read from their `.rt` sources as `rt fmt` lays them out: for tools/made and tools/believe."""
 import collections
 import functools
 import pathlib
@@ -56,7 +56,9 @@ def items(lines, ends=";"):
         if not item:
             continue
         is_over = at_margin and line.startswith(("}", "{}")) or at_margin and line.endswith("}") or not body and line.endswith(ends)
-        body = body or at_margin and line.endswith("{") and not item[0].startswith("pub use")
+        # The first line of an implementation may be broken before `for`.
+        begins = at_margin and not item[0].startswith("pub use") or item[0].startswith("impl") and line.startswith("    for ")
+        body = body or begins and line.endswith("{")
         if is_over:
             first = next((i for i, x in enumerate(item) if i and re.match(r"\s*(where|requires|ensures)\b", x)), len(item))
             clauses = one_line(x for x in item[first:] if x.strip() not in ("{", "}", "{}"))
@@ -104,8 +106,13 @@ def name_of(text):
     return re.match(r"\W*(\w*)", text).group(1)
 
 
+# The traits of values. A caller has to know which of its types need one.
+OF_VALUES = re.compile(r"\b(FlowValue|Packed|OneWord|Words)\b")
+
+
 def signature(item):
-    """The call as it is written, with the types of closures in place of their type parameters; and its return type."""
+    """The call as it is written, with the types of closures in place of their type parameters, and of the others those that must be
+    values; and its return type."""
     text = re.sub(r"^(pub |final |const )*fn |;$", "", item.text)
     bounds = re.match(r"where (.*?)(?= (?:requires|ensures)\b|$)", item.clauses)
     parameters = split(bounds.group(1)) if bounds else []
@@ -119,7 +126,9 @@ def signature(item):
         if bound.startswith("Fn"):
             text = re.sub(rf": {short}\b", lambda _: f": impl {bound}", text)
     text = re.sub(r"(?<=[( ])mut (?=\w+: )", "", text)
-    return plain(text), plain(text[closing(text, len(name)) + 1 :].replace(" -> ", "", 1))
+    values = [parameter for parameter in parameters if OF_VALUES.search(parameter) and re.search(rf"\b{name_of(parameter)}\b", text)]
+    shown = name + (f"<{', '.join(values)}>" if values else "") + text[len(name) :]
+    return plain(shown), plain(text[closing(text, len(name)) + 1 :].replace(" -> ", "", 1))
 
 
 def sentences(docs):

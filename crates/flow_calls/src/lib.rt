@@ -159,7 +159,7 @@ pub extern "C" fn wumsnair_check(
     ensures { JudgesInto with_order out.old out.new needed.new result }
 {
     let mut words = Vec::new(alloc);
-    match judge_record(alloc, &mut words, record, with_order != 0) {
+    match judge_record(alloc, &mut words, record, with_order != 0, None) {
         Ok(judged) => give(words.as_slice(), status_of(judged), out, needed),
         Err(_) => give_memory(out, needed),
     }

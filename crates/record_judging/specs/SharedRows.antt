@@ -52,10 +52,17 @@ written_shared_answer lists (written.Number n) = answer.Number n
 written_shared_answer lists (written.Values range) = answer.Values (unplaced (values_in lists range))
 written_shared_answer lists _ = answer.Done
 
--- the answer of a part, if one is known; a `first` that leaves has received a value
+-- what is known of the value that a `first` receives: a pending one leaves only after it has received a value, and a cancelled one
+-- may have received none
+abbrev pub known_of_first : List ℕ → Option WrittenAnswer → Option SharedAnswer
+known_of_first lists None = Some answer.SomeValue
+known_of_first lists (Some written.Cancelled) = None
+known_of_first lists (Some a) = Some (written_shared_answer lists a)
+
+-- the answer of a part, if one is known
 abbrev pub shared_known : List ℕ → CallWord → Option WrittenAnswer → Option SharedAnswer
+shared_known lists word.First a = known_of_first lists a
 shared_known lists w (Some a) = Some (written_shared_answer lists a)
-shared_known lists word.First None = Some answer.SomeValue
 shared_known lists w None = None
 
 -- the answer of a part that has only one, if the call has an answer

@@ -40,9 +40,10 @@ written_state_answer lists (written.Number n) = answer.Number n
 written_state_answer lists (written.Values range) = only_value (values_in lists range)
 written_state_answer lists (written.Exchange a b) = answer.Truth true
 
--- the answer of a part, if the call has one
+-- the answer of a part, if one is known; that of a cancelled `first` is not
 abbrev pub state_known : List ℕ → Option WrittenAnswer → Option StateAnswer
 state_known lists None = None
+state_known lists (Some written.Cancelled) = None
 state_known lists (Some a) = Some (written_state_answer lists a)
 
 -- the answer of a part that has only one, if the call has an answer
@@ -75,7 +76,7 @@ state_operation word.ResetReplayCache c = operation.Value
 abbrev pub state_part : WrittenCall → StateOperation → Option StateAnswer → Timed StateEntry
 state_part c o a = record { call = record { operation = o; answer = a }; begin = c.begin; end = c.end }
 
--- a `first` subscribes, receives a value and leaves
+-- a `first` subscribes, receives a value and leaves; a cancelled one does so too, but what it received is not known
 abbrev pub state_parts_by : CallWord → List ℕ → WrittenCall → List (Timed StateEntry)
 state_parts_by word.First lists c =
     state_part c operation.Subscribe (state_done c.answer)

@@ -75,12 +75,16 @@ pub struct Conflict {
 }
 
 impl Conflict {
-    /// Finds the conflict of an illegal record. Returns None if a search gave up.
-    pub fn find(alloc: Global, sheet: &Sheet) -> Result<Option<Conflict>, AllocError>
+    /// Finds the conflict of an illegal record. Returns None if a search gave up, which has at most `most_turns`.
+    pub fn find(
+        alloc: Global,
+        sheet: &Sheet,
+        most_turns: Option<u64>,
+    ) -> Result<Option<Conflict>, AllocError>
         ensures { IfOk result (λ found. IfSome found (λ conflict. GoesWrongAt
             sheet.now.flow sheet.now.lists.items sheet.now.rows.items conflict.moment)) }
     {
-        let Some(moment) = wrong_moment(alloc, sheet)? else {
+        let Some(moment) = wrong_moment(alloc, sheet, most_turns)? else {
             return Ok(None);
         };
         let conflict = Conflict::at(alloc, sheet, moment)?;

@@ -34,8 +34,12 @@ pub enum Outcome {
     Faulty(Fault, usize),
 }
 
-fn turns(calls: usize) -> u64 {
-    (calls as u64).saturating_mul(TURNS_A_CALL).max(LEAST_TURNS)
+/// Returns the most turns of a search: as many as were asked for, or else by the number of calls.
+fn turns(most_turns: Option<u64>, calls: usize) -> u64 {
+    match most_turns {
+        Some(turns) => turns,
+        None => (calls as u64).saturating_mul(TURNS_A_CALL).max(LEAST_TURNS),
+    }
 }
 
 fn few_turns(calls: usize) -> u64 {
@@ -110,11 +114,16 @@ fn judge_shared(
     }
 }
 
-/// Judges these calls of the callers of a record.
-pub fn judge(alloc: Global, sheet: &Sheet, rows: &[Vec<WrittenCall>]) -> Result<Outcome, AllocError>
+/// Judges these calls of the callers of a record, by a search of at most `most_turns`.
+pub fn judge(
+    alloc: Global,
+    sheet: &Sheet,
+    rows: &[Vec<WrittenCall>],
+    most_turns: Option<u64>,
+) -> Result<Outcome, AllocError>
     ensures { IfOk result (JudgesRows sheet.now.flow sheet.now.lists.items rows.now) }
 {
-    let budget = turns(sheet.count);
+    let budget = turns(most_turns, sheet.count);
     match sheet.flow {
         WrittenFlow::State { initial } => judge_state(alloc, sheet, rows, initial, budget),
         WrittenFlow::Shared(config) => judge_shared(alloc, sheet, rows, config, budget),
@@ -159,41 +168,57 @@ pub fn seems_illegal(
     }
 }
 
-fn wrong_state(alloc: Global, sheet: &Sheet, initial: u64) -> Result<Option<u64>, AllocError>
+fn wrong_state(
+    alloc: Global,
+    sheet: &Sheet,
+    initial: u64,
+    budget: u64,
+) -> Result<Option<u64>, AllocError>
     ensures { IfOk result (λ found. IfSome found
         (GoesWrongAt (State initial) sheet.now.lists.items sheet.now.rows.items)) }
 {
     let callers = state_callers(alloc, sheet.rows.as_slice(), sheet.lists.as_slice())?;
     match Record::new(callers) {
         Ok(record) => {
-            let moment = state_goes_wrong(alloc, initial, &record, turns(sheet.count))?;
+            let moment = state_goes_wrong(alloc, initial, &record, budget)?;
             Ok(moment)
         }
         Err(_) => Ok(None),
     }
 }
 
-fn wrong_shared(alloc: Global, sheet: &Sheet, config: Config) -> Result<Option<u64>, AllocError>
+fn wrong_shared(
+    alloc: Global,
+    sheet: &Sheet,
+    config: Config,
+    budget: u64,
+) -> Result<Option<u64>, AllocError>
     ensures { IfOk result (λ found. IfSome found
         (GoesWrongAt (Shared config) sheet.now.lists.items sheet.now.rows.items)) }
 {
     let callers = shared_callers(alloc, sheet.rows.as_slice(), sheet.lists.as_slice())?;
     match Record::new(callers) {
         Ok(record) => {
-            let moment = shared_goes_wrong(alloc, config, &record, turns(sheet.count))?;
+            let moment = shared_goes_wrong(alloc, config, &record, budget)?;
             Ok(moment)
         }
         Err(_) => Ok(None),
     }
 }
 
-/// Returns the first moment by which no order explains the calls of an illegal record, or None if a search gave up.
-pub fn wrong_moment(alloc: Global, sheet: &Sheet) -> Result<Option<u64>, AllocError>
+/// Returns the first moment by which no order explains the calls of an illegal record, or None if a search gave up: each
+/// has at most `most_turns`.
+pub fn wrong_moment(
+    alloc: Global,
+    sheet: &Sheet,
+    most_turns: Option<u64>,
+) -> Result<Option<u64>, AllocError>
     ensures { IfOk result (λ found. IfSome found
         (GoesWrongAt sheet.now.flow sheet.now.lists.items sheet.now.rows.items)) }
 {
+    let budget = turns(most_turns, sheet.count);
     match sheet.flow {
-        WrittenFlow::State { initial } => wrong_state(alloc, sheet, initial),
-        WrittenFlow::Shared(config) => wrong_shared(alloc, sheet, config),
+        WrittenFlow::State { initial } => wrong_state(alloc, sheet, initial, budget),
+        WrittenFlow::Shared(config) => wrong_shared(alloc, sheet, config, budget),
     }
 }

@@ -123,6 +123,7 @@ pub fn write_line(
 fn part_words(call: WrittenCall, part: usize) -> &'static str {
     match (call.call, call.answer, part) {
         (CallWord::First, _, 0) => " (it subscribes)",
+        (CallWord::First, Some(WrittenAnswer::Cancelled), 1) => " (it may receive)",
         (CallWord::First, _, 1) => " (it receives)",
         (CallWord::First, _, _) => " (it leaves)",
         (CallWord::Emit, Some(_), 0) => " (it begins)",

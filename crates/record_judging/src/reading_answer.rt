@@ -47,7 +47,7 @@ pub fn list_of(
 fn worded(word: &str, form: AnswerForm) -> Option<WrittenAnswer> {
     match (word, form) {
         ("done", AnswerForm::Done | AnswerForm::Ended) => Some(WrittenAnswer::Done),
-        ("cancelled", AnswerForm::Ended) => Some(WrittenAnswer::Cancelled),
+        ("cancelled", AnswerForm::Ended | AnswerForm::First) => Some(WrittenAnswer::Cancelled),
         ("empty", AnswerForm::Next) => Some(WrittenAnswer::Empty),
         _ => None,
     }
@@ -64,7 +64,7 @@ fn answer_in(answer: &Value, form: AnswerForm) -> Option<WrittenAnswer> {
         return worded(word, form);
     }
     match form {
-        AnswerForm::Value | AnswerForm::Next => {
+        AnswerForm::Value | AnswerForm::Next | AnswerForm::First => {
             value_in(answer, "value").map(WrittenAnswer::Value)
         }
         AnswerForm::Truth => answer.as_bool().map(WrittenAnswer::Truth),

@@ -2,7 +2,8 @@
 ghost use Rattle.std.specs.Prelude.{◌≡◌, ◌++◌, [], ◌∷◌, map, IfOk, OnOk};
 ghost use Rattle.record_judging.specs.SharedRows.{plain, plain_operation, plain_answer};
 ghost use Rattle.record_judging.specs.SharedRows.{plain_known, plain_last, written_shared_answer};
-ghost use Rattle.record_judging.specs.SharedRows.{shared_known, shared_done, emit_begins};
+ghost use Rattle.record_judging.specs.SharedRows.{known_of_first, shared_known, shared_done};
+ghost use Rattle.record_judging.specs.SharedRows.{emit_begins};
 ghost use Rattle.record_judging.specs.SharedRows.{shared_operation, shared_part, first_parts};
 ghost use Rattle.record_judging.specs.SharedRows.{last_operation, last_parts};
 ghost use Rattle.record_judging.specs.SharedRows.{shared_entries, shared_row, AreSharedCalls};
@@ -27,13 +28,25 @@ fn shared_answer(answer: WrittenAnswer, lists: &[u64]) -> SharedAnswer<'_>
     }
 }
 
-/// Returns what is known of a call's answer. A pending `first` may leave, but only after it has received a value.
+/// Returns what is known of the value that a `first` receives. A pending one may leave, but only after it has received a
+/// value; a cancelled one may have left without a value.
+fn known_of_first(answer: Option<WrittenAnswer>, lists: &[u64]) -> Option<SharedAnswer<'_>>
+    ensures { plain_known result ≡ known_of_first lists.now answer }
+{
+    match answer {
+        None => Some(SharedAnswer::SomeValue),
+        Some(WrittenAnswer::Cancelled) => None,
+        Some(answer) => Some(shared_answer(answer, lists)),
+    }
+}
+
+/// Returns what is known of a call's answer.
 fn known_answer(call: WrittenCall, lists: &[u64]) -> Option<SharedAnswer<'_>>
     ensures { plain_known result ≡ shared_known lists.now call.call call.answer }
 {
     match (call.call, call.answer) {
+        (CallWord::First, answer) => known_of_first(answer, lists),
         (_, Some(answer)) => Some(shared_answer(answer, lists)),
-        (CallWord::First, None) => Some(SharedAnswer::SomeValue),
         (_, None) => None,
     }
 }

@@ -85,14 +85,14 @@ fn done_of(call: WrittenCall) -> Option<StateAnswer>
     }
 }
 
-/// Returns what is known of a call's answer. Nothing has to be known of that of a pending `first`: a new subscriber of a
-/// state flow always receives a value.
+/// Returns what is known of a call's answer. Nothing has to be known of that of a pending or cancelled `first`: a new
+/// subscriber of a state flow always receives a value.
 fn known_answer(call: WrittenCall, lists: &[u64]) -> Option<StateAnswer>
     ensures { result ≡ state_known lists.now call.answer }
 {
     match call.answer {
+        None | Some(WrittenAnswer::Cancelled) => None,
         Some(answer) => Some(state_answer(answer, lists)),
-        None => None,
     }
 }
 

@@ -106,10 +106,14 @@ fn legal_lines(
 }
 
 /// Returns the lines on an illegal record: the moment and the calls that show it, or none if a search gave up.
-fn illegal_lines(alloc: Global, sheet: &Sheet) -> Result<String, AllocError>
+fn illegal_lines(
+    alloc: Global,
+    sheet: &Sheet,
+    most_turns: Option<u64>,
+) -> Result<String, AllocError>
     ensures { IfOk result (λ lines. TellsConflict (read_of sheet.now) (string_bytes lines)) }
 {
-    match Conflict::find(alloc, sheet)? {
+    match Conflict::find(alloc, sheet, most_turns)? {
         Some(conflict) => {
             let lines = conflict.lines(alloc, sheet)?;
             Ok(lines)
@@ -125,6 +129,7 @@ fn tell_verdict(
     sheet: &Sheet,
     verdict: &Verdict,
     with_order: bool,
+    most_turns: Option<u64>,
 ) -> Result<Told, AllocError>
     ensures { IfOk result (λ told. (told.status ≡ status_of verdict.now)
         × TellsOf with_order (read_of sheet.now) verdict.now (string_bytes told.words)) }
@@ -136,7 +141,7 @@ fn tell_verdict(
             Ok(told)
         }
         Verdict::Illegal => {
-            let lines = illegal_lines(alloc, sheet)?;
+            let lines = illegal_lines(alloc, sheet, most_turns)?;
             let told = Told::new(alloc, "illegal\n", lines.as_str(), ILLEGAL)?;
             Ok(told)
         }
@@ -148,11 +153,15 @@ fn tell_verdict(
 }
 
 /// Reads the record of these bytes, and judges it.
-fn judge_bytes(alloc: Global, bytes: &[u8]) -> Result<(Sheet, Verdict), Unread>
+fn judge_bytes(
+    alloc: Global,
+    bytes: &[u8],
+    most_turns: Option<u64>,
+) -> Result<(Sheet, Verdict), Unread>
     ensures { IfOk result (λ judged. JudgesRead (read_of judged.0) judged.1) }
 {
     let sheet = read_sheet(alloc, bytes)?;
-    let outcome = judge(alloc, &sheet, sheet.rows.as_slice())?;
+    let outcome = judge(alloc, &sheet, sheet.rows.as_slice(), most_turns)?;
     match outcome {
         Outcome::Judged(verdict) => Ok((sheet, verdict)),
         Outcome::Faulty(fault, number) => Err(faulty(fault, number)),
@@ -161,12 +170,17 @@ fn judge_bytes(alloc: Global, bytes: &[u8]) -> Result<(Sheet, Verdict), Unread>
 
 /// Judges the record of these bytes, and returns the words on it.
 #[tactic(auto, using(crate::proofs::Telling::tells_read, crate::proofs::Telling::tells_refused))]
-fn tell_record(alloc: Global, bytes: &[u8], with_order: bool) -> Result<Told, AllocError>
+fn tell_record(
+    alloc: Global,
+    bytes: &[u8],
+    with_order: bool,
+    most_turns: Option<u64>,
+) -> Result<Told, AllocError>
     ensures { IfOk result (λ told. TellsRecord with_order told.status (string_bytes told.words)) }
 {
-    match judge_bytes(alloc, bytes) {
+    match judge_bytes(alloc, bytes, most_turns) {
         Ok((sheet, verdict)) => {
-            let told = tell_verdict(alloc, &sheet, &verdict, with_order)?;
+            let told = tell_verdict(alloc, &sheet, &verdict, with_order, most_turns)?;
             Ok(told)
         }
         Err(unread) => {
@@ -191,11 +205,12 @@ fn draw_verdict(
     sheet: &Sheet,
     verdict: &Verdict,
     form: Form,
+    most_turns: Option<u64>,
 ) -> Result<Told, AllocError>
     ensures { IfOk result (λ told. told.status ≡ status_of verdict.now) }
 {
     let conflict = match verdict {
-        Verdict::Illegal => Conflict::find(alloc, sheet)?,
+        Verdict::Illegal => Conflict::find(alloc, sheet, most_turns)?,
         _ => None,
     };
     let picture = Picture::new(alloc, sheet, conflict)?;
@@ -206,12 +221,17 @@ fn draw_verdict(
 }
 
 /// Judges the record of these bytes, and draws its calls, or returns the words on why it is refused.
-fn draw_bytes(alloc: Global, bytes: &[u8], form: Form) -> Result<Told, AllocError>
+fn draw_bytes(
+    alloc: Global,
+    bytes: &[u8],
+    form: Form,
+    most_turns: Option<u64>,
+) -> Result<Told, AllocError>
     ensures { IfOk result (λ told. IsStatus told.status) }
 {
-    match judge_bytes(alloc, bytes) {
+    match judge_bytes(alloc, bytes, most_turns) {
         Ok((sheet, verdict)) => {
-            let told = draw_verdict(alloc, &sheet, &verdict, form)?;
+            let told = draw_verdict(alloc, &sheet, &verdict, form, most_turns)?;
             Ok(told)
         }
         Err(unread) => {
@@ -222,7 +242,8 @@ fn draw_bytes(alloc: Global, bytes: &[u8], form: Form) -> Result<Told, AllocErro
 }
 
 /// Judges the record of these bytes, writes the verdict, and returns its status. For a legal record it also writes an
-/// order of the calls, if `with_order`.
+/// order of the calls, if `with_order`. A search gives up after `most_turns`, by default after 1,000 for each call, or 4
+/// million if that is more.
 ///
 /// # Errors
 /// Fails if memory is refused, and then writes nothing, or if a write fails, and then a first part may be written.
@@ -232,13 +253,14 @@ pub fn judge_record<W: Write>(
     out: &mut W,
     bytes: &[u8],
     with_order: bool,
+    most_turns: Option<u64>,
 ) -> io::Result<u8>
     ensures tells { IfOk result (λ status. (words : List ℕ) × TellsVerdict with_order status words
         × Appends (W.contents out.old) (W.contents out.new) words) }
     ensures judged { IfOk result (λ status. (words : List ℕ) × TellsRecord with_order status words
         × Appends (W.contents out.old) (W.contents out.new) words) }
 {
-    let told = tell_record(alloc, bytes, with_order)?;
+    let told = tell_record(alloc, bytes, with_order, most_turns)?;
     out.write_all(told.words.as_bytes())?;
     Ok(told.status)
 }
@@ -248,10 +270,16 @@ pub fn judge_record<W: Write>(
 ///
 /// # Errors
 /// As `judge_record`.
-pub fn draw_record<W: Write>(alloc: Global, out: &mut W, bytes: &[u8], form: Form) -> io::Result<u8>
+pub fn draw_record<W: Write>(
+    alloc: Global,
+    out: &mut W,
+    bytes: &[u8],
+    form: Form,
+    most_turns: Option<u64>,
+) -> io::Result<u8>
     ensures judged { IfOk result IsStatus }
 {
-    let told = draw_bytes(alloc, bytes, form)?;
+    let told = draw_bytes(alloc, bytes, form, most_turns)?;
     out.write_all(told.words.as_bytes())?;
     Ok(told.status)
 }

@@ -28,6 +28,8 @@ pub enum AnswerForm {
     Truth,
     /// Of `next`.
     Next,
+    /// Of `first`, which may be cancelled.
+    First,
     Number,
     Values,
     /// Of `update`: the old value and the new one.
@@ -43,6 +45,7 @@ impl AnswerForm {
             AnswerForm::Value => "{\"value\": V}, with a value",
             AnswerForm::Truth => "true or false",
             AnswerForm::Next => "{\"value\": V}, with a value, or \"empty\"",
+            AnswerForm::First => "{\"value\": V}, with a value, or \"cancelled\"",
             AnswerForm::Number => "a whole number from 0 on",
             AnswerForm::Values => "a list of values",
             AnswerForm::Exchange => "{\"old\": V, \"value\": V}, with two values",
@@ -55,6 +58,7 @@ impl AnswerForm {
             AnswerForm::Done => &["done"],
             AnswerForm::Ended => &["done", "cancelled"],
             AnswerForm::Next => &["empty"],
+            AnswerForm::First => &["cancelled"],
             _ => &[],
         }
     }
@@ -120,7 +124,7 @@ const CALLS: &[CallRow] = &[
     row!("subscribe", Subscribe, WITH_FIRST, Done, Shared),
     row!("next", Next, PLAIN, Next, Both),
     row!("unsubscribe", Unsubscribe, PLAIN, Done, Both),
-    row!("first", First, PLAIN, Value, Both),
+    row!("first", First, PLAIN, First, Both),
     row!("subscription_count", SubscriptionCount, PLAIN, Number, Both),
     row!("replay_cache", ReplayCache, PLAIN, Values, Both),
     row!("emit", Emit, WITH_VALUE, Ended, Shared),

@@ -12,7 +12,8 @@ use message::Message;
 use std::alloc::{AllocGlobal, Global};
 use std::random::RandomSource;
 use std::sync::Wait;
-use std::thread::{Threads, join};
+use std::thread;
+use std::thread::Threads;
 
 /// The client whose message ends the server.
 const STOP: u32 = 0;
@@ -111,13 +112,14 @@ pub fn run<R: Wait + Threads + RandomSource + AllocGlobal + Sync>(
     let (reply_flow, seat) = SharedFlow::new(alloc, Config::new().extra(16))?;
     let mut replies = reply_flow.into_emitter(alloc, seat)?;
     let mut outgoing = replies.another(rt);
-    let (served, answers) = join(
-        rt,
-        || serve(rt, &mut incoming, &mut outgoing),
-        || ask_and_stop(rt, &mut requests, &mut replies),
-    );
-    served?;
-    let answers = answers?;
+    let (incoming, outgoing) = (&mut incoming, &mut outgoing);
+    let answers = thread::scope(thread::scope_env(), rt, |scope| -> Result<Answered> {
+        // Without a thread for the server no client would be answered.
+        let server = scope.spawn(move || serve(rt, incoming, outgoing))?;
+        let answers = ask_and_stop(rt, &mut requests, &mut replies);
+        server.join(rt)?;
+        answers
+    })?;
     let left = replies.subscription_count(rt);
     Ok(Answers { answers, left })
 }

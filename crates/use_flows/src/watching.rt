@@ -72,7 +72,8 @@ pub fn run<R: Wait + Threads + Clock + Print + Sync>(rt: &R, alloc: Global) -> R
         || wait_for_port(rt, &mut b, 443, 5000),
         || wait_and_change(rt, alloc, &mut c, &mut setter),
     );
+    let (comes, never) = (comes?, never?);
     show(rt, "a", &there)?;
-    show(rt, "b", &comes?)?;
-    show(rt, "c", &never?)
+    show(rt, "b", &comes)?;
+    show(rt, "c", &never)
 }

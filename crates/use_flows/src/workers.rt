@@ -33,7 +33,8 @@ fn add_all<R: Wait>(
 
 /// Returns the sum of what all workers received.
 pub fn add_up<R: Wait + Threads + Sync>(rt: &R, alloc: Global, workers: u32) -> Result<u64> {
-    let (flow, seat) = SharedFlow::new(alloc, Config::new().extra(2))?;
+    // With room for all values no `send` waits, and so none can be refused memory.
+    let (flow, seat) = SharedFlow::new(alloc, Config::new().extra(11))?;
     let mut emitter = flow.into_emitter(alloc, seat)?;
     let mut readers = Vec::new(alloc);
     for _ in 0..workers {
@@ -44,11 +45,12 @@ pub fn add_up<R: Wait + Threads + Sync>(rt: &R, alloc: Global, workers: u32) -> 
         let mut started = Ok(());
         for reader in readers {
             if let Err(refused) = scope.spawn(move || add_all(rt, reader, total)) {
-                started = Err(refused);
+                // This drops the closure, and with it the reader, for which the flow would wait.
+                started = Err(refused.into());
             }
         }
         send_all(rt, &mut emitter)?;
-        Ok(started?)
+        started
     })?;
     Ok(total.load(Ordering::SeqCst))
 }

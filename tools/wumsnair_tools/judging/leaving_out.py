@@ -3,7 +3,7 @@
 Leaving out a call can make the record of a correct flow illegal: without a `set`, a `value` that reads it has no explanation. So a record
 is made smaller only in ways that explain no less than before:
 
-- the calls after a moment are left out, and those that are not over by then become pending;
+- the calls after a moment are left out, and those that are not over by then become pending, except for an `emit` that is cancelled;
 - a call that changed nothing is left out;
 - a change becomes one that may have happened or not: it is `optional`, and judged with the rest, but not printed. A change that gives a
   value which another call found is kept, since without it the record would be illegal for another reason;
@@ -31,7 +31,9 @@ def is_of_subscriber(call):
 
 
 def pending(call):
-    """A call as it is before its end."""
+    """A call as it is before its end. A cancelled `emit` stays as it is: one that is pending could not withdraw its value."""
+    if call.get("answer") == "cancelled":
+        return call
     begun = {key: value for key, value in call.items() if key not in ("end", "answer")}
     if call["call"] == "update":
         begun |= {"call": "compare_and_set", "expect": call["answer"]["old"], "value": call["answer"]["value"]}

@@ -9,7 +9,7 @@ from wumsnair_tools.built import top
 TABLE = json.loads((top / "page" / "command" / "remedies.json").read_text())
 # The least number of calls of a caller of whose moments anything is said.
 FEW_CALLS = 2
-# The least number of open calls of which anything is said, and the number of them that are named.
+# The least number of open calls that are many, and the number of them that are named.
 MANY_OPEN, NAMED = 3, 8
 TEXT_ENDS = re.compile(r"refused: line (\d+), column \d+: the text ends here")
 # The refusal of a call that begins before its caller's call before has ended.
@@ -167,11 +167,13 @@ def open_calls(calls):
     return moment, [number for number, call in enumerate(calls, 1) if call["begin"] <= moment <= ends[number - 1]]
 
 
-def of_giving_up(calls):
-    """What to do if the search gave up."""
+def of_giving_up(calls, is_stopped=False):
+    """What to do if the search gave up, by itself or since the time was up. Where it stopped, it does not say."""
     moment, numbers = open_calls(calls)
-    if len(numbers) < MANY_OPEN:
+    if len(numbers) < MANY_OPEN and (is_stopped or not numbers):
         return []
+    if len(numbers) < MANY_OPEN:
+        return [TABLE["of_calls"]["few_open"].format(moment=moment, count=len(numbers))]
     named = ", ".join(f"call {number}" for number in numbers[:NAMED])
     return [TABLE["of_calls"]["many_open"].format(moment=moment, count=len(numbers), calls=named)]
 

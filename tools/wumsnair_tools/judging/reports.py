@@ -3,8 +3,11 @@ import json
 import re
 from xml.sax.saxutils import escape
 
+from wumsnair_tools.judging.verdict_text import lines_of, visible_words
+from wumsnair_tools.terminal import visible
+
 VERDICTS = "legal", "illegal", "refused", "gave up", "failed"
-LISTED = re.compile(r" +(\d+) {2}(.*)")
+MOMENTS = re.compile(r"illegal\nby moment (\d+) .*; from (\d+) on ")
 PART = re.compile(r"\((it [a-z ]+)\)$")
 REFUSED = re.compile(r"refused: (?:line (\d+), column (\d+): )?(?:call (\d+): )?(.*)")
 NO_XML = re.compile("[^\n\u0020-\ud7ff\ue000-\ufffd\U00010000-\U0010ffff]")
@@ -29,9 +32,14 @@ def summary(verdicts):
 
 def listed(words, calls):
     """The numbers of the calls that the lines of a verdict name, each with the part of the call."""
-    lines = [LISTED.fullmatch(line) for line in words.split("\n")]
-    found = [(int(line[1]), PART.search(line[2])) for line in lines if line and 0 < int(line[1]) <= len(calls)]
+    found = [(line.number, PART.search(line.rest)) for line in lines_of(words, calls) if line.number]
     return [(number, part and part[1]) for number, part in found]
+
+
+def moments_of(words):
+    """The moment by which no order explains the calls of an illegal record, and the one from which on its calls are listed."""
+    found = MOMENTS.match(words)
+    return (int(found[1]), int(found[2])) if found else (None, None)
 
 
 def refusal_of(words):
@@ -40,11 +48,6 @@ def refusal_of(words):
     parts = {"expected": re.search(r"^  expected: (.*)$", words, re.M), "nearest": re.search(r'^  nearest: "(.*)"$', words, re.M)}
     place = {"line": line and int(line), "column": column and int(column), "call": call and int(call)}
     return {**place, "message": message, **{name: part and part[1] for name, part in parts.items()}}
-
-
-def moment_in(words, pattern):
-    found = re.search(pattern, words, re.M)
-    return found and int(found[1])
 
 
 def entry(told, with_order):
@@ -63,8 +66,8 @@ def entry(told, with_order):
         "status": told.status,
         "seconds": told.seconds,
         "counts": counts,
-        "moment": moment_in(told.words, r"^by moment (\d+) ") if is_illegal else None,
-        "since": moment_in(told.words, r"; from (\d+) on") if is_illegal else None,
+        "moment": moments_of(told.words)[0],
+        "since": moments_of(told.words)[1],
         "calls": [{"number": number, **calls[number - 1]} for number, _ in listed(told.words, calls)] if is_illegal else [],
         "order": order,
         "refusal": refusal_of(told.words) if told.verdict == "refused" else None,
@@ -95,7 +98,8 @@ def test_of(told):
     if told.verdict == "legal":
         return f"{opened}/>\n"
     kind = "failure" if told.verdict == "illegal" else "error"
-    text = escaped("\n".join(part for part in (told.words.rstrip(), *told.hints) if part))
+    words = visible_words(told.words, told.calls or []).rstrip()
+    text = escaped("\n".join(part for part in (words, *map(visible, told.hints)) if part))
     message = in_tag(" ".join(line.strip() for line in told.words.split("\n")[:2]).strip() or told.verdict)
     return f'{opened}>\n   <{kind} type="{told.verdict}" message="{message}">{text}</{kind}>\n  </testcase>\n'
 

@@ -1,13 +1,14 @@
 """Finds a small illegal record in an illegal one: ./judge --shrink.
 
 It leaves out parts for as long as the judge finds the rest illegal, and illegal from the same moment on as the whole record: larger parts
-before smaller ones. leaving_out.py says which parts may be left out. The record is judged again before it is printed."""
+before smaller ones. leaving_out.py says which parts may be left out. The record is judged again before it is printed, and printed only if
+it is illegal from that moment on."""
 import json
 import time
 
 from wumsnair_tools.judging import remedies
 from wumsnair_tools.judging.leaving_out import Case, values_of
-from wumsnair_tools.judging.reports import moment_in
+from wumsnair_tools.judging.reports import moments_of
 
 LEGAL, ILLEGAL = 0, 1
 # The most values of a record of which each may be that of the state at a moment.
@@ -23,14 +24,15 @@ def text_of(flow, calls):
 
 def wrong_from(words):
     """The moment from which on no order explains a record, if the verdict names it."""
-    return moment_in(words, r"^by moment (\d+) ")
+    return moments_of(words)[0]
 
 
 class Search:
-    """The search for a smaller record, which ends by a time."""
+    """The search for a smaller record, which ends by a time. `words` are those on the whole record."""
 
-    def __init__(self, judge, end):
-        self.judge, self.end, self.moment = judge, end, None
+    def __init__(self, judge, end, words):
+        self.judge, self.end, self.named = judge, end, wrong_from(words)
+        self.moment = self.named
 
     def is_over(self):
         return time.monotonic() > self.end
@@ -39,15 +41,18 @@ class Search:
         return self.judge(text_of(flow, calls), max(0.1, self.end - time.monotonic()))
 
     def is_illegal(self, case):
-        """Whether a case is illegal, and without its optional calls from no other moment on than the whole record."""
-        if case is None or self.is_over() or self.verdict(case.flow, case.calls + case.optional)[0] != ILLEGAL:
-            return False
-        return not case.optional or self.goes_wrong(case)
+        """Whether a case is illegal with its optional calls."""
+        return case is not None and not self.is_over() and self.verdict(case.flow, case.calls + case.optional)[0] == ILLEGAL
 
-    def goes_wrong(self, case):
-        """Whether a case, without its optional calls, is illegal from the same moment on as the whole record."""
-        status, words = self.verdict(case.flow, case.calls)
-        return status == ILLEGAL and wrong_from(words) in (None, self.moment)
+    def is_wrong(self, status, words):
+        """Whether a record with this verdict is illegal from the same moment on as the whole record."""
+        return status == ILLEGAL and wrong_from(words) in (self.named, self.moment)
+
+    def stays_wrong(self, case):
+        """Whether a case is illegal with its optional calls, and without them from the same moment on as the whole record."""
+        if case is None or self.is_over() or case.optional and not self.is_illegal(case):
+            return False
+        return self.is_wrong(*self.verdict(case.flow, case.calls))
 
     def first_moment(self, case):
         """The first moment by which a case is illegal."""
@@ -62,9 +67,10 @@ class Search:
                 low = middle + 1
         return moments[low]
 
-    def cut(self, case, moment):
-        """The case up to the first moment by which it is illegal, which may be known."""
-        self.moment = self.first_moment(case) if moment is None else moment
+    def cut(self, case):
+        """The case up to the first moment by which it is illegal."""
+        if self.moment is None:
+            self.moment = self.first_moment(case)
         return case.cut(self.moment)
 
     def is_illegal_with_any(self, case, moment):
@@ -90,14 +96,14 @@ class Search:
                 high = middle
         values = case.values() if low else []
         rests = [case.after(moments[low - 1], value) for value in values if self.may_have(case, moments[low - 1], value)]
-        return next((rest for rest in rests if self.goes_wrong(rest)), case)
+        return next((rest for rest in rests if self.stays_wrong(rest)), case)
 
     def without_values(self, case, values):
         """The case without the values that it stays illegal without, of these; first it tries to leave out all at once."""
         smaller = case
         for value in values:
             smaller = smaller and smaller.without_value(value)
-        if self.is_illegal(smaller):
+        if self.stays_wrong(smaller):
             return smaller
         half = len(values) // 2
         if half == 0 or self.is_over():
@@ -109,7 +115,7 @@ class Search:
         at = 0
         while at < len(units := case.units()) and not self.is_over():
             smaller = case.without(set().union(*units[at : at + count]))
-            if self.is_illegal(smaller):
+            if self.stays_wrong(smaller):
                 case = smaller
             else:
                 at += count
@@ -131,14 +137,17 @@ class Search:
 
 def shrink(judge, text, seconds=None):
     """The status of a record, words on it, and the small record; None for that if the record is not illegal."""
-    status, words = judge(text)
+    begin, most = time.monotonic(), seconds or SECONDS
+    status, words = judge(text, most)
+    took = time.monotonic() - begin
     if status != ILLEGAL:
         return status, words, None
     flow, calls = remedies.record_of(text)
-    search = Search(judge, time.monotonic() + (seconds or SECONDS))
-    case = search.without_front(search.cut(Case(flow, tuple(calls)), wrong_from(words)))
+    search = Search(judge, begin + most, words)
+    case = search.without_front(search.cut(Case(flow, tuple(calls))))
     small = search.smallest(case)
-    kept = next((each for each in (small, case) if judge(text_of(each.flow, each.calls))[0] == ILLEGAL), None)
+    # A smaller record takes about as long as the whole one, at most.
+    kept = next((each for each in (small, case) if search.is_wrong(*judge(text_of(each.flow, each.calls), took + 1))), None)
     if kept is None:
         return status, "no smaller record was found", text
     late = ": the time was up, and --seconds sets more" if search.is_over() else ""

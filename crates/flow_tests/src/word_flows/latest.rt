@@ -10,6 +10,7 @@ use flow_word_shared::{WordEmitter, WordFlow, WordFlowReader};
 use std::alloc::Global;
 use std::process::Abort;
 use std::sync::{Barrier, Wait};
+use std::thread;
 use std::thread::join;
 
 /// How many values an emitter emits in one race.
@@ -156,7 +157,10 @@ fn a_value_is_dropped_before_the_slow_reader_leaves_and_taken_after(rt: HostRunt
     race_until(&rt, EACH, |run| race_leave(&rt, rt.alloc(), run));
 }
 
-/// Subscribes, and leaves at once. Returns whether there was a place.
+/// How often a subscriber that stays for a while yields.
+const STAYS: u32 = 100;
+
+/// Subscribes, and leaves, at once or in every second run after a while. Returns whether there was a place.
 fn subscribe_once<R: Host>(
     rt: &R,
     start: &Barrier,
@@ -164,14 +168,21 @@ fn subscribe_once<R: Host>(
     emitter: &mut WordEmitter<i64>,
 ) -> bool {
     begin(rt, start, run);
-    let refused = emitter.subscribe(rt).err();
-    compare_any(
-        rt,
-        "refused",
-        refused,
-        &[None, Some(NumberError::OutOfMemory)],
-    );
-    refused == None
+    match emitter.subscribe(rt) {
+        Ok(reader) => {
+            if run % 2 == 1 {
+                for _ in 0..STAYS {
+                    thread::yield_now();
+                }
+            }
+            drop(reader);
+            true
+        }
+        Err(refused) => {
+            compare(rt, "refused", refused, NumberError::OutOfMemory);
+            false
+        }
+    }
 }
 
 /// Two subscribers race for one place. Returns whether both found one.

@@ -39,7 +39,23 @@ async fn receive(caller: &mut Caller, receiver: &mut Receiver<u64>, stale: Optio
     }
 }
 
-/// Receives values for ever. Sleeps after each tenth, and subscribes anew after each twentieth.
+/// Receives one value by a subscription of its own.
+async fn first(caller: &mut Caller, sender: &Sender<u64>) {
+    caller.begin("first", &[]);
+    let mut receiver = sender.subscribe();
+    let value = loop {
+        match receiver.recv().await {
+            Ok(value) => break value,
+            Err(RecvError::Lagged(_)) => {}
+            Err(RecvError::Closed) => unreachable!("the reader holds a sender"),
+        }
+    };
+    drop(receiver);
+    caller.end(Answer::Value(value));
+}
+
+/// Receives values for ever. Sleeps after each tenth. After each twentieth it takes one value by a
+/// subscription of its own, and subscribes anew.
 async fn read(mut caller: Caller, sender: &Sender<u64>, start: &Barrier, fault: bool) {
     let mut stale = None;
     for round in 0.. {
@@ -55,6 +71,7 @@ async fn read(mut caller: Caller, sender: &Sender<u64>, start: &Barrier, fault: 
             }
         }
         caller.record("unsubscribe", &[], || drop(receiver), |_| Answer::Done);
+        first(&mut caller, sender).await;
     }
 }
 

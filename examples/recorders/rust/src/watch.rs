@@ -32,13 +32,20 @@ fn write(mut caller: Caller, sender: Arc<Sender<u64>>, first: u64, fault: bool) 
         caller.record("value", &[], look, |value| Answer::Value(*value));
         let count = || sender.receiver_count();
         caller.record("subscription_count", &[], count, |it| Answer::Count(*it));
+        if number % 5 == 0 {
+            let replay = || vec![*sender.borrow()];
+            caller.record("replay_cache", &[], replay, |it| Answer::Values(it.clone()));
+        }
         thread::yield_now();
     }
 }
 
-/// Receives values until the senders are gone. Subscribes anew after each fiftieth.
+/// Receives values until the senders are gone. Subscribes anew after each fiftieth, and before that
+/// takes one value by a subscription of its own.
 async fn read(mut caller: Caller, senders: Weak<Sender<u64>>) {
     while let Some(sender) = senders.upgrade() {
+        let first = || *sender.subscribe().borrow();
+        caller.record("first", &[], first, |it| Answer::Value(*it));
         let mut receiver = caller.record("subscribe", &[], || sender.subscribe(), |_| Answer::Done);
         drop(sender);
         // A subscriber of a state flow receives the value that is there. `changed` skips it.

@@ -1,15 +1,10 @@
-#!/usr/bin/env python3
-"""Writes docs/CALLS.md, each public call of the crates that programs name, from their sources: tools/calls --write
+"""docs/CALLS.md: each public call of the crates that programs name, from their sources.
 
-Without --write it fails if the page differs from the sources. A name is public if `lib.rt` exports it. It is listed under the
-first crate of CRATES that exports it, wherever it is defined. The later crates that export it only refer to that crate, and
-crates that only define it need no section."""
+A name is public if `lib.rt` exports it. It is listed under the first crate of CRATES that exports it, wherever it is defined. The later
+crates that export it only refer to that crate, and crates that only define it need no section."""
 import collections
-import difflib
 import re
-import sys
 
-sys.dont_write_bytecode = True
 from wumsnair_tools.public_items import Item, comment, crates, exports, impls, items, name_of, plain, sentences, signature
 from wumsnair_tools.public_items import split, target, top, types
 
@@ -22,11 +17,14 @@ HEAD = """# Every public call
 
 This page lists every public call with its arguments, what it does, and the errors that it returns. [USE.md](USE.md) shows how
 calls are used, and [THREADS.md](THREADS.md) explains their clauses. A call is listed under its type, constructors first, and a
-type under the crate that a program names. `tools/calls --write` makes the page from the sources.
+type under the crate that a program names. `tools/made --write` makes the page from the sources.
 
 - A call that takes `rt` may wait for other threads, or tries again if another caller was faster.
 - Allocators, lifetimes and bounds of type parameters are left out: `Vec<T>` may be `Vec<T, A>`. `alloc` is where memory
-  comes from.
+  comes from. Only that a type must be a [`FlowValue`](#flowvalue) is written: `scan<U: FlowValue>(..)`.
+- The values of flows and chains are `FlowValue`s, those of a `WordState` [`Packed`](#packed), and those of a `WordFlow`
+  [`Words`](#words). [Floats and shared pointers](USE.md#a-state-between-two-threads) are none. `S::Item` is a value of the
+  flow.
 - The last column has the error type and, after the colon, the variants that this call can return. If no clause lists
   them, it has what the source says of refusals. It is empty for a call that returns no error.
 """
@@ -118,6 +116,16 @@ def calls_of(name, of, alias):
     return calls
 
 
+def gives(name, of):
+    """The traits by which a type is polled or iterated over, each with the type that it then gives."""
+    for behind, block in impls:
+        trait, meant = target(block.text)
+        if trait in ("Future", "Stream", "Iterator") and behind == of and name_of(meant) == name:
+            for item in items(block.inner):
+                if item.text.startswith(("type Output = ", "type Item = ")):
+                    yield trait, plain(item.text.rstrip(";"))
+
+
 def parts_of(item, is_enum):
     """A line for each variant of an enum, or for each public field of a struct."""
     for part in items(item.inner, (",", ";")):
@@ -144,6 +152,8 @@ def section(name, of):
     lines = [f"### {name}", ""] + ([comment(item) + (base + "." if base else ""), ""] if item.docs or base else [])
     parts = list(parts_of(item, kind == "enum")) if kind in ("struct", "enum") else []
     lines += parts + [""] if parts else []
+    for trait, what in gives(name, of):
+        lines += [f"As {'an' if trait.startswith('I') else 'a'} `{trait}` it has `{what}`.", ""]
     if kind == "trait":
         by = {meant for _, block in impls for trait, meant in [target(block.text)] if trait.split("<")[0] == name}
         exported = sorted(meant for meant in by if name_of(meant) in shown or meant.islower() or re.match(r"\(|Option<|Arc<", meant))
@@ -196,15 +206,7 @@ for crate in CRATES:
         home.setdefault((of, name), crate)
 shown = {name for _, name in home}
 aliases = {plain(item.text.rpartition(" = ")[2].rstrip(";")) for kind, item, _ in types.values() if kind == "type"}
-text = page()
-if sys.argv[1:] == ["--write"]:
-    PAGE.write_text(text)
-elif sys.argv[1:]:
-    sys.exit(__doc__)
-elif not PAGE.exists() or PAGE.read_text() != text:
-    there = PAGE.read_text().splitlines() if PAGE.exists() else []
-    changed = [line for line in difflib.unified_diff(there, text.splitlines(), n=0, lineterm="") if re.match(r"[-+](?![-+]{2} )", line)]
-    print(*changed[:6], *["..."][: len(changed) - 6 > 0], sep="\n", file=sys.stderr)
-    sys.exit("docs/CALLS.md (-) is not what the sources say (+). Write it anew by tools/calls --write, and look at what changed")
-else:
-    print(f"docs/CALLS.md has the {text.count(chr(10) + '| `')} calls of the sources")
+
+
+def files():
+    return {PAGE: page().encode()}

@@ -1,13 +1,9 @@
-#!/usr/bin/env python3
-"""Checks that each page of docs/ begins with its way back and, if it is long, with its table of contents: tools/toc
-
-tools/toc --write writes them. docs/CALLS.md is left out: tools/calls makes it."""
-import pathlib
+"""The beginnings of the pages of docs/: the way back and, on a long page, the table of contents. docs/CALLS.md is made by calls.py."""
 import re
-import sys
 import textwrap
 
-top = pathlib.Path(__file__).resolve().parent.parent
+from wumsnair_tools.built import top
+
 BACK = "[README](../README.md) · [Glossary](GLOSSARY.md)"
 # A page of more lines has a table of contents.
 LONG = 90
@@ -42,18 +38,5 @@ def written(page):
     return f"{title}\n\n{contents(page, rest)}\n{rest}"
 
 
-def main():
-    wrong = 0
-    pages = [page for page in sorted((top / "docs").glob("*.md")) if page.name != "CALLS.md"]
-    for page in pages:
-        text = written(page)
-        if sys.argv[1:] == ["--write"]:
-            page.write_text(text)
-        elif text != page.read_text():
-            print(f"toc: docs/{page.name} lacks its contents: tools/toc --write", file=sys.stderr)
-            wrong = 1
-    print(f"{len(pages)} pages have their contents")
-    return wrong
-
-
-sys.exit(main())
+def files():
+    return {page: written(page).encode() for page in sorted((top / "docs").glob("*.md")) if page.name != "CALLS.md"}

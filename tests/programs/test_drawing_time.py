@@ -1,0 +1,44 @@
+"""A script of 10,000 steps is drawn as SVG and as text, each in at most four times the processor time that it takes to play it."""
+import json
+import resource
+
+import pytest
+
+from running import run
+
+SLOWER_AT_MOST = 4
+SHARED = {"kind": "shared", "replay": 2, "extra": 62, "overflow": "suspend"}
+
+
+def long_script():
+    """A script of 10,000 steps: emissions, subscribers that subscribe, read and unsubscribe, and lists that are read."""
+    steps = [{"do": "subscribe", "name": "a"}]
+    for at in range(1, 2000):
+        name = f"b{at}"
+        steps += [
+            {"do": "try_emit", "value": at},
+            {"do": "next", "name": "a"},
+            {"do": "subscribe", "name": name},
+            {"do": "next", "name": name},
+            {"do": "unsubscribe", "name": name},
+        ]
+    steps += [{"do": "cache"}] * (10_000 - len(steps))
+    return json.dumps({"version": 1, "flow": SHARED, "steps": steps}).encode()
+
+
+def processor_seconds(*words, text):
+    """The least processor time of ten runs. Other work on the machine hardly changes it."""
+    times = []
+    for _ in range(10):
+        before = resource.getrusage(resource.RUSAGE_CHILDREN)
+        assert run(*words, text=text).status == 0
+        after = resource.getrusage(resource.RUSAGE_CHILDREN)
+        times.append(after.ru_utime + after.ru_stime - before.ru_utime - before.ru_stime)
+    return min(times)
+
+
+@pytest.mark.parametrize("form", ([], ["--text"]), ids=["svg", "text"])
+def test_long_script(flow_play, flow_draw, form):
+    script = long_script()
+    playing, drawing = processor_seconds(flow_play, text=script), processor_seconds(flow_draw, *form, text=script)
+    assert drawing <= SLOWER_AT_MOST * playing
