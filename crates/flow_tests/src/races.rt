@@ -6,28 +6,28 @@ const MOST_RACES: u32 = 10_000;
 
 /// How many races ended in `true`, how many in `false`, and how many in all.
 #[derive(Clone, Copy, Debug)]
-pub struct Ends {
+pub struct WantedEnds {
     pub yes: u32,
     pub no: u32,
     pub all: u32,
 }
 
 /// One race ends in `true`.
-pub const ONCE: Ends = Ends {
+pub const ONCE: WantedEnds = WantedEnds {
     yes: 1,
     no: 0,
     all: 1,
 };
 
 /// One race ends in `true` and one in `false`.
-pub const EACH: Ends = Ends {
+pub const EACH: WantedEnds = WantedEnds {
     yes: 1,
     no: 1,
     all: 2,
 };
 
 /// Runs races until at least as many ended as are wanted. Each race gets its number, from 0 on.
-pub fn race_until<R: Abort, F: FnMut(u32) -> bool>(rt: &R, wanted: Ends, mut race: F)
+pub fn race_until<R: Abort, F: FnMut(u32) -> bool>(rt: &R, wanted: WantedEnds, mut race: F)
     requires { F.IsAlwaysCallable race }
 {
     let mut yes = 0u32;

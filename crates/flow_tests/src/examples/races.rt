@@ -3,7 +3,7 @@ use crate::compare::{compare, compare_any};
 use crate::flows::{new_emitter, new_reader};
 use crate::handle_calls::{begin, cancel, emission_of, next, try_emit};
 use crate::host::Host;
-use crate::races::{EACH, Ends, race_until};
+use crate::races::{EACH, WantedEnds, race_until};
 use flow_law::Config;
 use flow_shared::{BoundEmission, Emitter, Reader};
 use std::alloc::Global;
@@ -11,7 +11,7 @@ use std::sync::{Barrier, Wait};
 use std::thread::join;
 
 /// Each of the two calls is first in some race.
-const WANTED: Ends = Ends { all: 100, ..EACH };
+const WANTED: WantedEnds = WantedEnds { all: 100, ..EACH };
 
 /// Reads once. Returns the value that the reader receives, if any.
 fn read<R: Host>(rt: &R, start: &Barrier, run: u32, reader: &mut Reader<i64>) -> Option<i64> {

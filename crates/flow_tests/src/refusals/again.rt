@@ -11,7 +11,7 @@ const MANY: u64 = 200;
 
 /// The calls of an example that take memory.
 #[derive(Drop)]
-pub struct Calls {
+pub struct RefusedCalls {
     /// How many were made in this run.
     made: u64,
     /// The numbers of those that were refused in some run. The first call of a run has the number 1.
@@ -20,7 +20,7 @@ pub struct Calls {
     count: u64,
 }
 
-impl Calls {
+impl RefusedCalls {
     /// Makes a call that takes memory, and makes it again if it is refused.
     pub fn again<T, E: Drop, F: FnMut() -> Result<T, E>>(
         &mut self,
@@ -64,11 +64,11 @@ impl Calls {
 
 /// Plays an example with each allocation refused in turn, until a run asks for fewer. At most one call is refused in a
 /// run, and none in the last one; each call that takes memory is refused in some run.
-pub fn refuse_each<R: Host, F: FnMut(&Refusing<Global>, &mut Calls)>(rt: &R, mut play: F)
+pub fn refuse_each<R: Host, F: FnMut(&Refusing<Global>, &mut RefusedCalls)>(rt: &R, mut play: F)
     requires { F.IsAlwaysCallable play }
 {
     let memory = Refusing::new(rt.alloc());
-    let mut calls = Calls {
+    let mut calls = RefusedCalls {
         made: 0,
         refused: Vec::new(rt.alloc()),
         count: 0,

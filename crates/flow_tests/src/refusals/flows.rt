@@ -2,7 +2,7 @@
 //! some run, and no other call is.
 use crate::compare::compare;
 use crate::host::{Host, Memory};
-use crate::refusals::again::{Calls, refuse_each};
+use crate::refusals::again::{RefusedCalls, refuse_each};
 use crate::values::{are, boxed, boxes, number_in};
 use flow_core::{FlowCore, SubscriberCalls};
 use flow_law::{Boxed, Config, FlowFault, NumberError, Overflow};
@@ -70,7 +70,7 @@ fn subscribe_with<R: Host, A: Memory>(
 /// Receives this value, whose copy takes memory.
 fn receives<R: Host, S: FlowCore<Item = Boxed<i64, A>> + SubscriberCalls + Drop, A: Memory>(
     rt: &R,
-    calls: &mut Calls,
+    calls: &mut RefusedCalls,
     name: &str,
     reader: &mut FlowReader<S, A>,
     number: i64,
@@ -82,7 +82,7 @@ fn receives<R: Host, S: FlowCore<Item = Boxed<i64, A>> + SubscriberCalls + Drop,
 /// Compares the replay cache, whose copies take memory.
 fn caches<R: Host, A: Memory>(
     rt: &R,
-    calls: &mut Calls,
+    calls: &mut RefusedCalls,
     emitter: &mut BoxEmitter<A>,
     numbers: &[i64],
 ) {
@@ -91,7 +91,7 @@ fn caches<R: Host, A: Memory>(
 }
 
 /// 3 waits for room, until the subscriber has received 1.
-fn slow_subscriber<R: Host, A: Memory>(rt: &R, memory: A, calls: &mut Calls) {
+fn slow_subscriber<R: Host, A: Memory>(rt: &R, memory: A, calls: &mut RefusedCalls) {
     let mut emitter = calls.again(rt, "new", || first_emitter(memory, small()));
     let mut reader = calls.again(rt, "subscribe_with", || {
         subscribe_with(rt, memory, &mut emitter, &[])
@@ -118,7 +118,7 @@ fn an_emission_that_waits_is_refused(rt: HostRuntime) {
 }
 
 /// Own first values come before the replay cache, are moved, and are never dropped.
-fn own_first_values<R: Host, A: Memory>(rt: &R, memory: A, calls: &mut Calls) {
+fn own_first_values<R: Host, A: Memory>(rt: &R, memory: A, calls: &mut RefusedCalls) {
     let config = small().overflow(Overflow::DropOldest);
     let mut emitter = calls.again(rt, "new", || first_emitter(memory, config));
     emits(rt, memory, &mut emitter, 1);
@@ -147,7 +147,7 @@ fn a_subscription_with_first_values_is_refused(rt: HostRuntime) {
 }
 
 /// A new subscriber receives the replay cache.
-fn replay_cache<R: Host, A: Memory>(rt: &R, memory: A, calls: &mut Calls) {
+fn replay_cache<R: Host, A: Memory>(rt: &R, memory: A, calls: &mut RefusedCalls) {
     let mut emitter = calls.again(rt, "new", || first_emitter(memory, Config::new().replay(2)));
     let cache = emitter.replay_cache(rt).expect(rt, "no copy is made");
     are(rt, "the first replay_cache", cache.as_slice(), &[]);
@@ -169,7 +169,7 @@ fn a_replay_cache_is_refused(rt: HostRuntime) {
 }
 
 /// There is one subscriber.
-fn subscription<R: Host, A: Memory>(rt: &R, memory: A, calls: &mut Calls) {
+fn subscription<R: Host, A: Memory>(rt: &R, memory: A, calls: &mut RefusedCalls) {
     let mut emitter = calls.again(rt, "new", || first_emitter(memory, small()));
     compare(rt, "subscribers", emitter.subscription_count(rt), 0);
     let _reader = calls.again(rt, "subscribe", || emitter.subscribe(rt));
@@ -191,7 +191,7 @@ fn first_setter<A: Memory>(
 }
 
 /// A subscriber of a state flow skips 1.
-fn state_flow<R: Host, A: Memory>(rt: &R, memory: A, calls: &mut Calls) {
+fn state_flow<R: Host, A: Memory>(rt: &R, memory: A, calls: &mut RefusedCalls) {
     let mut setter = calls.again(rt, "new", || first_setter(rt, memory));
     let mut reader = calls.again(rt, "subscribe", || setter.subscribe(rt));
     receives(rt, calls, "next 0", &mut reader, 0);
