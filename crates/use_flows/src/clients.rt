@@ -34,8 +34,8 @@ pub struct Answers {
 /// Answers each number with its square, until a client stops the server.
 fn serve<R: Wait>(
     rt: &R,
-    requests: &mut Reader<Message>,
-    replies: &mut Emitter<Message>,
+    mut requests: Reader<Message>,
+    mut replies: Emitter<Message>,
 ) -> Result<(), FlowFault> {
     for request in requests.values(rt) {
         let Message { client, number } = request?;
@@ -108,11 +108,10 @@ pub fn run<R: Wait + Threads + RandomSource + AllocGlobal + Sync>(
 ) -> Result<Answers> {
     let (request_flow, seat) = SharedFlow::new(alloc, Config::new().extra(16))?;
     let mut requests = request_flow.into_emitter(alloc, seat)?;
-    let mut incoming = requests.subscribe(rt)?;
+    let incoming = requests.subscribe(rt)?;
     let (reply_flow, seat) = SharedFlow::new(alloc, Config::new().extra(16))?;
     let mut replies = reply_flow.into_emitter(alloc, seat)?;
-    let mut outgoing = replies.another(rt);
-    let (incoming, outgoing) = (&mut incoming, &mut outgoing);
+    let outgoing = replies.another(rt);
     let answers = thread::scope(thread::scope_env(), rt, |scope| -> Result<Answered> {
         // Without a thread for the server no client would be answered.
         let server = scope.spawn(move || serve(rt, incoming, outgoing))?;

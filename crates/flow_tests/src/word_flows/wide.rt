@@ -174,10 +174,18 @@ fn a_flow_of_wide_values_drops_the_latest(rt: HostRuntime) {
     drop_latest::<(u64, u64, u64, u64), HostRuntime>(&rt, rt.alloc());
 }
 
+/// Returns both values of a list that has two.
+fn pair_of<T: Numbered>(values: &[T]) -> Option<(T, T)> {
+    match (values.len(), values.first(), values.get(1)) {
+        (2, Some(first), Some(second)) => Some((*first, *second)),
+        _ => None,
+    }
+}
+
 /// Compares two values with those of two numbers.
 fn are<T: Numbered>(rt: &impl Abort, row: &str, values: &[T], first: u64, second: u64) {
-    let wanted = [T::of_number(first), T::of_number(second)];
-    compare(rt, row, values, wanted.as_slice());
+    let wanted = (T::of_number(first), T::of_number(second));
+    compare(rt, row, pair_of(values), Some(wanted));
 }
 
 /// Calls of one thread: a buffer of three values, of which two are replayed, and numbers for two readers and six
