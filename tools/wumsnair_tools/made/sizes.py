@@ -48,5 +48,5 @@ def lines_of(call):
 
 
 def files():
-    text = re.sub(r"`([\w:]+)` (\d+)$", lambda end: f"`{end.group(1)}` {lines_of(end.group(1))}", PAGE.read_text(), flags=re.M)
+    text = re.sub(r"`([\w:]+)` (\d+)(?=,?$|, `)", lambda end: f"`{end.group(1)}` {lines_of(end.group(1))}", PAGE.read_text(), flags=re.M)
     return {PAGE: text.encode()}
