@@ -8,7 +8,7 @@ import tempfile
 from wumsnair_tools.built import top
 from wumsnair_tools.cargo import REGISTRY, call, cargo_build
 
-# The files of flow_bench have names that end in .in, and are built in a repository of their own, since the gate proves
+# The files of flow_bench have names that end in .in, and are built in a repository of their own, since the CI run proves
 # each crate of this repository. The other repository is kept for the next run.
 work = pathlib.Path(tempfile.gettempdir()) / f"wumsnair-bench-{hashlib.sha256(str(top).encode()).hexdigest()[:8]}"
 sources = top / "bench" / "flow_bench"

@@ -15,7 +15,7 @@ from running import program
 
 # The ends of the names of the programs that `rt ci` builds by each of its two compilers.
 COMPILERS = {"by_llvm": "", "by_rattle": ".by-rattle"}
-# The gate tries the same examples each time; `--hypothesis-profile=search` tries ten times as many, and others each time. Tests take
+# The CI run tries the same examples each time; `--hypothesis-profile=search` tries ten times as many, and others each time. Tests take
 # a multiple of `max_examples`.
 STEADY = {"deadline": None, "database": None, "print_blob": False, "report_multiple_bugs": False}
 UNEXPLAINED = tuple(phase for phase in hypothesis.Phase if phase is not hypothesis.Phase.explain)

@@ -61,7 +61,7 @@ def expect(came, wanted, about=""):
 
 
 def tries(times, nodeid):
-    """Decorates a function with `given`, so that it tries a multiple of the profile's examples: in the gate the same ones each time,
+    """Decorates a function with `given`, so that it tries a multiple of the profile's examples: in the CI run the same ones each time,
     others for each test."""
     count = settings(max_examples=times * settings().max_examples)
     return lambda function: seed(nodeid)(count(function)) if count.derandomize else count(function)

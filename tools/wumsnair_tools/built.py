@@ -31,7 +31,7 @@ def sources(name):
 
 
 def run(crate):
-    """Proves and builds a program, and runs it as the gate does."""
+    """Proves and builds a program, and runs it as the CI run does."""
     given, args = crate / "stdin", crate / "args"
     script = given.read_bytes() if given.exists() else b""
     words = args.read_text().splitlines() if args.exists() else []

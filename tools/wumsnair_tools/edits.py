@@ -10,7 +10,7 @@ name    what the wrong body does. With underscores in place of spaces it is the 
 file    the file of the crate that is changed
 old     texts of a line each, which are in the file exactly once. Each text is looked for after the changes before it
 new     what replaces them, in the same order
-gate    true if the gate tries the edit; then it has a key only
+gate    true if the CI run tries the edit; then it has a key only
 only    the function, by its path, that must be left with an open goal
 goal    the name of the goal that must stay open; without it any goal will do
 clause  what refuses the wrong body, in the words of docs/WRONG-BODIES.md, if the page names the edit

@@ -1,4 +1,4 @@
-"""Installs from Debian what the parts of the gate need, or says what to install."""
+"""Installs from Debian what the parts of the CI run need, or says what to install."""
 import os
 import shutil
 import subprocess

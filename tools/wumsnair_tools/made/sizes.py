@@ -1,4 +1,4 @@
-"""The numbers of docs/PROVED.md: a row has a call in its last cell, and the lines of the definitions on which its contract rests.
+"""The numbers of docs/PROVED.md: a claim ends with a call, and the lines of the definitions on which its contract rests.
 
 They are the definitions that its clauses cite, and those that these cite in turn. The lines of a type are those of its declaration.
 Comments and empty lines do not count. Definitions of the toolchain's own libraries are not followed."""
@@ -48,5 +48,5 @@ def lines_of(call):
 
 
 def files():
-    text = re.sub(r"\| `([\w:]+)` (\d+) \|$", lambda row: f"| `{row.group(1)}` {lines_of(row.group(1))} |", PAGE.read_text(), flags=re.M)
+    text = re.sub(r"`([\w:]+)` (\d+)(?=,?$|, `)", lambda end: f"`{end.group(1)}` {lines_of(end.group(1))}", PAGE.read_text(), flags=re.M)
     return {PAGE: text.encode()}
