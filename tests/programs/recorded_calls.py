@@ -82,8 +82,9 @@ class Recorder:
             self.end_first(turn, moment)
 
     def end_first(self, turn, moment):
+        # A flow with an error may have lost the subscriber: then the call waits for ever.
         answer = "cancelled" if turn.is_cancelled else self.flow.next(turn.by)
-        if answer != "empty":
+        if answer not in ("empty", None):
             self.flow.unsubscribe(turn.by)
             self.finish(self.firsts.pop(turn.by), turn, moment, answer)
 

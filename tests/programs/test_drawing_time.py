@@ -4,7 +4,8 @@ import resource
 
 import pytest
 
-from running import run
+from conftest import COMPILERS
+from running import program, run
 
 SLOWER_AT_MOST = 4
 SHARED = {"kind": "shared", "replay": 2, "extra": 62, "overflow": "suspend"}
@@ -38,7 +39,10 @@ def processor_seconds(*words, text):
 
 
 @pytest.mark.parametrize("form", ([], ["--text"]), ids=["svg", "text"])
-def test_long_script(flow_play, flow_draw, form):
+@pytest.mark.parametrize("compiler", COMPILERS)
+def test_long_script(compiler, form):
+    """Both programs are those of one compiler."""
     script = long_script()
-    playing, drawing = processor_seconds(flow_play, text=script), processor_seconds(flow_draw, *form, text=script)
+    player, drawer = (program(name + COMPILERS[compiler]) for name in ("flow_play", "flow_draw"))
+    playing, drawing = processor_seconds(player, text=script), processor_seconds(drawer, *form, text=script)
     assert drawing <= SLOWER_AT_MOST * playing
