@@ -52,6 +52,7 @@ def original(tmp_path):
     folder.mkdir()
     for name in ("use_in", "LICENSE", "VERSION"):
         shutil.copy(top / name, folder)
+    shutil.copytree(top / "tools" / "wumsnair_tools", folder / "tools" / "wumsnair_tools")
     (folder / "crates.txt").write_text(LINES)
     for name, (kind, text) in CRATES.items():
         write_crate(folder, name, kind, text)
