@@ -55,7 +55,8 @@ def original(tmp_path):
     shutil.copytree(top / "tools" / "wumsnair_tools", folder / "tools" / "wumsnair_tools")
     (folder / "crates.txt").write_text(LINES)
     for name, (kind, text) in CRATES.items():
-        write_crate(folder, name, kind, text)
+        # Without a text of its own `rt` takes what an earlier run of this test proved, which is older than these files.
+        write_crate(folder, name, kind, f"{text}// {folder} {folder.stat().st_ctime_ns}\n")
     rt(folder, "above", "lib")
     return folder
 
